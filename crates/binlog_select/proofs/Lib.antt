@@ -1,0 +1,11 @@
+pub mod DecimalLemmas
+pub mod IntervalLemmas
+pub mod JoiningLemmas
+pub mod NamesLemmas
+pub mod PartsLemmas
+pub mod ReadingLemmas
+pub mod SetFormLemmas
+pub mod SetTextLemmas
+pub mod SourceLemmas
+pub mod TokenLemmas
+pub mod UniqueLemmas

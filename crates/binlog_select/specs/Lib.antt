@@ -1,0 +1,12 @@
+pub mod Appending
+pub mod Decimal
+pub mod Filter
+pub mod Gtid
+pub mod Intervals
+pub mod Joining
+pub mod Names
+pub mod Parts
+pub mod SetForm
+pub mod SetText
+pub mod Text
+pub mod Token

@@ -1,0 +1,52 @@
+ghost use Rattle.std.specs.Prelude.{◌≡◌, ◌↔◌, List, IsTrue, Contains};
+
+use std::marker::Model;
+
+/// What a row change does: MySQL's `WRITE_ROWS`, `UPDATE_ROWS` and `DELETE_ROWS` events.
+#[derive(Clone, Copy, Debug, PartialEq, Eq)]
+pub enum ChangeKind {
+    Insert,
+    Update,
+    Delete,
+}
+
+/// A list of kinds of change, in its own order.
+#[derive(Drop)]
+pub struct Kinds {
+    kinds: Vec<ChangeKind>,
+}
+
+impl Model for Kinds {
+    ghost use Rattle.std.specs.Prelude.{List};
+    ghost use Rattle.binlog_select.specs.declared.kind.ChangeKind.{ChangeKind};
+
+    ghost Value = { List ChangeKind };
+
+    ghost view = { λ k. k.kinds.items };
+}
+
+impl From<Vec<ChangeKind>> for Kinds {
+    ghost from_gives = { λ vec kinds. kinds ≡ vec.items };
+
+    /// The kinds of a `Vec`. It takes no memory.
+    fn from(kinds: Vec<ChangeKind>) -> Kinds {
+        Kinds { kinds }
+    }
+}
+
+impl Kinds {
+    /// The `Vec` back again. It takes no memory.
+    pub fn into_vec(self) -> Vec<ChangeKind>
+        ensures { result.items ≡ self }
+    {
+        let Kinds { kinds } = self;
+        kinds
+    }
+
+    /// Whether a kind is in the list.
+    pub fn contains(&self, kind: ChangeKind) -> bool
+        ensures { IsTrue result ↔ Contains self.now kind }
+    {
+        self.kinds.contains(&kind)
+    }
+}

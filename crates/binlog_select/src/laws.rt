@@ -1,0 +1,35 @@
+//! Laws of the texts, as contracts of functions that do nothing.
+
+ghost use Rattle.std.specs.Prelude.{◌≡◌, ◌<◌, ℕ, List, length, slice_index};
+ghost use Rattle.binlog_select.specs.Gtid.{source_number};
+ghost use Rattle.binlog_select.specs.Token.{IsTokenText};
+
+use uuid::Uuid;
+
+/// A text spells at most one token.
+pub fn one_token()
+    ensures { (text file other_file : List ℕ) (position count other_position other_count : ℕ)
+        → IsTokenText text position count file → IsTokenText text other_position other_count other_file
+        → (position ≡ other_position) × (count ≡ other_count) × (file ≡ other_file) }
+{}
+
+/// Two UUIDs with one number are one, so that a set's sources can be kept as numbers.
+pub fn one_source(a: Uuid, b: Uuid)
+    ensures { source_number a ≡ source_number b → a ≡ b }
+{
+    sixteen_bytes(a.as_bytes());
+    sixteen_bytes(b.as_bytes());
+}
+
+/// An array of sixteen bytes has that length, and bytes in it.
+fn sixteen_bytes(bytes: &[u8; 16])
+    ensures length { length bytes.now ≡ 16 }
+    ensures bytes { (i : ℕ) → slice_index bytes.now i < 256 }
+{
+    are_bytes(bytes.as_slice());
+}
+
+/// A slice of bytes has bytes in it.
+fn are_bytes(bytes: &[u8])
+    ensures { (i : ℕ) → slice_index bytes.now i < 256 }
+{}

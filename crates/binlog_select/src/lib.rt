@@ -1,0 +1,30 @@
+//! What a reader of a change feed chooses by, and the text that it keeps to go on from: GTID sets,
+//! filters and tokens.
+#![tactic(auto)]
+
+mod decimal;
+mod file_name;
+mod filter;
+mod gtid_set;
+mod interval;
+mod joining;
+mod kind;
+mod laws;
+mod names;
+mod set_fault;
+mod set_form;
+mod set_text;
+mod split;
+mod token;
+
+pub use file_name::FileName;
+pub use filter::Filter;
+pub use gtid_set::{GtidSet, one_set_for_each_text, one_written_form, written_form_names_the_set};
+pub use kind::{ChangeKind, Kinds};
+pub use laws::{one_source, one_token};
+pub use names::Names;
+pub use set_fault::SetFault;
+pub use token::{Token, TokenFault, TokenRef};
+
+#[cfg(test)]
+mod tests;

@@ -1,0 +1,194 @@
+//! Reading the text of a GTID set.
+
+ghost use Rattle.std.specs.Prelude.{◌≡◌, ◌∷◌, [], ℕ, Some, Err, All, IfSome, IfOk, option_map, reverse};
+ghost use Rattle.binlog_select.specs.Appending.{Appends};
+ghost use Rattle.binlog_select.specs.Intervals.{IsInterval};
+ghost use Rattle.binlog_select.specs.Parts.{parts};
+ghost use Rattle.binlog_select.specs.SetText.{colon, comma, hyphen, is_blank, trimmed, without_leading_blanks, source_of, gtid_number, interval_of, intervals_of, intervals_in, elements, reading, IsFirstBad};
+
+use crate::decimal::number;
+use crate::interval::Interval;
+use crate::set_fault::SetFault;
+use crate::split::split_once;
+use std::alloc::Global;
+use uuid::Uuid;
+use uuid::fmt::Hyphenated;
+
+/// The largest number of a GTID is below this.
+const NUMBER_LIMIT: u64 = 1 << 63;
+
+/// The text without blanks at either end.
+fn trimmed(text: &[u8]) -> &[u8]
+    ensures { result.now ≡ trimmed text.now }
+{
+    trimmed_end(trimmed_start(text))
+}
+
+/// The text without the blanks that it begins with.
+fn trimmed_start(text: &[u8]) -> &[u8]
+    ensures { result.now ≡ without_leading_blanks text.now }
+{
+    let mut rest = text;
+    while let [first, more @ ..] = rest {
+        if !is_blank(*first) {
+            break;
+        }
+        rest = more;
+    }
+    rest
+}
+
+/// The text without the blanks that it ends with.
+fn trimmed_end(text: &[u8]) -> &[u8]
+    ensures { result.now ≡ reverse (without_leading_blanks (reverse text.now)) }
+{
+    let mut rest = text;
+    while let [more @ .., last] = rest {
+        if !is_blank(*last) {
+            break;
+        }
+        rest = more;
+    }
+    rest
+}
+
+/// Whether a byte is a space, a tab, a CR or an LF.
+fn is_blank(byte: u8) -> bool
+    ensures { result ≡ is_blank byte }
+{
+    matches!(byte, b' ' | b'\t' | b'\r' | b'\n')
+}
+
+/// The source that a text of 36 characters spells, as a number.
+fn source_of(text: &[u8]) -> Option<u128>
+    ensures { result ≡ source_of text.now }
+{
+    if text.len() != Hyphenated::LENGTH {
+        return None;
+    }
+    match Uuid::try_parse_ascii(text) {
+        Ok(uuid) => Some(uuid.as_u128()),
+        Err(_) => None,
+    }
+}
+
+/// A number from 1 to 2^63 - 1.
+fn gtid_number(digits: &[u8]) -> Option<u64>
+    ensures { result ≡ gtid_number digits.now }
+{
+    match number(digits) {
+        Some(n) if n > 0 && n < NUMBER_LIMIT => Some(n),
+        _ => None,
+    }
+}
+
+/// The interval of a source that a text spells: `n` or `n-m`.
+fn interval_of(source: u128, text: &[u8]) -> Option<Interval>
+    ensures read { result ≡ interval_of source (parts hyphen text.now) }
+    ensures valid { IfSome result IsInterval }
+{
+    let Some((first, last)) = split_once(text, b'-') else {
+        let number = gtid_number(text)?;
+        return Some(Interval {
+            source,
+            first: number,
+            last: number,
+        });
+    };
+    let Some(first) = gtid_number(first) else {
+        return None;
+    };
+    let Some(last) = gtid_number(last) else {
+        return None;
+    };
+    if first > last {
+        return None;
+    }
+    Some(Interval {
+        source,
+        first,
+        last,
+    })
+}
+
+/// Appends the interval that a text spells.
+fn push_interval(
+    intervals: &mut Vec<Interval>,
+    source: u128,
+    text: &[u8],
+    at: usize,
+) -> Result<(), SetFault>
+    requires { All IsInterval intervals.old.items }
+    ensures read { Appends at (option_map (λ i. i ∷ []) (interval_of source (parts hyphen text.now))) intervals.old.items intervals.new.items result }
+    ensures valid { All IsInterval intervals.new.items }
+{
+    let Some(interval) = interval_of(source, text) else {
+        return Err(SetFault::BadSet { at });
+    };
+    intervals.push(interval)?;
+    Ok(())
+}
+
+/// Appends the intervals that a text spells, parted by colons.
+fn push_intervals(
+    intervals: &mut Vec<Interval>,
+    source: u128,
+    texts: &[u8],
+    at: usize,
+) -> Result<(), SetFault>
+    requires { All IsInterval intervals.old.items }
+    ensures read { Appends at (intervals_of source (parts colon texts.now)) intervals.old.items intervals.new.items result }
+    ensures valid { All IsInterval intervals.new.items }
+{
+    let mut rest = texts;
+    while let Some((text, more)) = split_once(rest, b':') {
+        push_interval(intervals, source, text, at)?;
+        rest = more;
+    }
+    push_interval(intervals, source, rest, at)
+}
+
+/// Appends the intervals of an element, a source and its intervals, with or without blanks around it.
+fn push_element(intervals: &mut Vec<Interval>, element: &[u8], at: usize) -> Result<(), SetFault>
+    requires { All IsInterval intervals.old.items }
+    ensures read { Appends at (intervals_in element.now) intervals.old.items intervals.new.items result }
+    ensures valid { All IsInterval intervals.new.items }
+{
+    let Some((source, texts)) = split_once(trimmed(element), b':') else {
+        return Err(SetFault::BadSet { at });
+    };
+    let Some(source) = source_of(source) else {
+        return Err(SetFault::BadSet { at });
+    };
+    push_intervals(intervals, source, texts, at)
+}
+
+/// The intervals of a set's text, in its order.
+pub(crate) fn read(alloc: Global, text: &[u8]) -> Result<Vec<Interval>, SetFault>
+    ensures read { IfOk result (λ v. reading (elements text.now) ≡ Some v.items) }
+    ensures valid { IfOk result (λ v. All IsInterval v.items) }
+    ensures refused { (at : ℕ) → result ≡ Err (SetFault.BadSet at) → IsFirstBad (elements text.now) at }
+{
+    if trimmed(text).is_empty() {
+        return Ok(Vec::new(alloc));
+    }
+    read_elements(alloc, text)
+}
+
+/// The intervals of elements, which are parted by commas.
+fn read_elements(alloc: Global, text: &[u8]) -> Result<Vec<Interval>, SetFault>
+    ensures read { IfOk result (λ v. reading (parts comma text.now) ≡ Some v.items) }
+    ensures valid { IfOk result (λ v. All IsInterval v.items) }
+    ensures refused { (at : ℕ) → result ≡ Err (SetFault.BadSet at) → IsFirstBad (parts comma text.now) at }
+{
+    let mut intervals = Vec::new(alloc);
+    let mut rest = text;
+    let mut at = 0;
+    while let Some((element, more)) = split_once(rest, b',') {
+        push_element(&mut intervals, element, at)?;
+        rest = more;
+        at += 1;
+    }
+    push_element(&mut intervals, rest, at)?;
+    Ok(intervals)
+}

@@ -1,0 +1,6 @@
+use Rattle.std.proofs.Common.{sym, ap, ◌∙◌, is_some}
+use Rattle.binlog_table.proofs.DecimalGroups.{digits-some, is_some-map}
+use Rattle.binlog_table.proofs.decimal.has_digits.Goals as goal
+
+pub returns : goal.returns
+returns c = c.is_some.ensures ∙ sym (is_some-map (λ x. x.now) c.after_digits.result) ∙ ap is_some c.after_digits.ensures ∙ sym (digits-some c.args.size.precision c.args.size.scale c.args.bytes.now)

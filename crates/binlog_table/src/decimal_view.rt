@@ -1,0 +1,46 @@
+ghost use Rattle.std.specs.Prelude.{◌≡◌, ◌≤◌, length, is_some, true};
+ghost use Rattle.binlog_table.specs.Decimal.{decimal_len, digits_at, plain};
+ghost use Rattle.binlog_table.specs.DecimalDigits.{IsInRange};
+
+use crate::column::DecimalSize;
+use crate::decimal::{digits_of, plain};
+use crate::digits::Digits;
+
+/// A decimal where it lies in a body: its sign, its digits, and how many of them stand after the point.
+#[derive(Clone, Copy)]
+pub struct DecimalView<'a> {
+    pub(crate) text: &'a [u8],
+    pub(crate) precision: u8,
+    pub(crate) scale: u8,
+    ghost size: { IsInRange (record { precision = precision; scale = scale }) },
+    ghost whole: { length text.now ≡ decimal_len precision scale },
+    ghost has_digits: { is_some (digits_at precision scale (plain text.now)) ≡ true },
+}
+
+impl<'a> DecimalView<'a> {
+    ghost use Rattle.binlog_table.specs.DecimalShown.{decimal_view};
+
+    /// Whether the number is stored as one below zero. A negative zero is, too.
+    pub fn is_negative(&self) -> bool
+        ensures { result ≡ (decimal_view self.now).negative }
+    {
+        self.text[0] < 128
+    }
+
+    /// How many digits stand after the point.
+    pub fn scale(&self) -> usize
+        ensures scale { result ≡ (decimal_view self.now).scale }
+        ensures within { result ≤ length (decimal_view self.now).digits }
+    {
+        usize::from(self.scale)
+    }
+
+    /// All digits, the highest first: those in front of the point, with leading zeros, then those after it.
+    pub fn digits(&self) -> Digits
+        ensures { result ≡ (decimal_view self.now).digits }
+    {
+        let bytes = plain(self.text);
+        let size = DecimalSize::new(self.precision, self.scale);
+        digits_of(size, &bytes[..self.text.len()]).unwrap()
+    }
+}

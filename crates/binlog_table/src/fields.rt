@@ -1,0 +1,134 @@
+ghost use Rattle.std.specs.Prelude.{◌≡◌, ◌≤◌, ◌+◌, ◌*◌, length};
+ghost use Rattle.binlog_table.specs.MapResult.{Gives};
+ghost use Rattle.binlog_table.specs.Fields.{bytes_at, number_at, string_at, name_at, is_utf8, text_of, with_field, fields_from, no_fields};
+ghost use Rattle.binlog_table.specs.FieldsShown.{fields_view};
+
+use crate::fault::MapFault;
+use crate::packed::packed_at;
+
+/// The values of the optional fields that are read.
+#[derive(Clone, Copy)]
+pub(crate) struct Fields<'a> {
+    /// Bits of signedness.
+    pub(crate) signs: Option<&'a [u8]>,
+    /// The names of columns.
+    pub(crate) names: Option<&'a [u8]>,
+    /// The names of the values of SET columns.
+    pub(crate) set_names: Option<&'a [u8]>,
+    /// The names of the values of ENUM columns.
+    pub(crate) enum_names: Option<&'a [u8]>,
+    /// The columns of the key.
+    pub(crate) key: Option<&'a [u8]>,
+    /// The columns of a key with prefixes, and the lengths of these.
+    pub(crate) prefix_key: Option<&'a [u8]>,
+}
+
+/// So many bytes, and those after them.
+pub(crate) fn bytes_at(len: u64, bytes: &[u8]) -> Result<(&[u8], &[u8]), MapFault>
+    ensures { Gives (λ x. (x.0.now, x.1.now)) result (bytes_at len bytes.now) }
+{
+    if len > bytes.len() as u64 {
+        return Err(MapFault::BadMap);
+    }
+    Ok(bytes.split_at(len as usize))
+}
+
+/// A packed number, and the bytes after it.
+#[tactic(auto, unfolding(crate::specs::Fields::number_at))]
+pub(crate) fn number_at(bytes: &[u8]) -> Result<(u64, &[u8]), MapFault>
+    ensures { Gives (λ x. (x.0, x.1.now)) result (number_at bytes.now) }
+{
+    match packed_at(bytes) {
+        None => Err(MapFault::BadMap),
+        Some((number, len)) => Ok((number, &bytes[len..])),
+    }
+}
+
+/// A packed length, as many bytes, and the bytes after them.
+#[tactic(auto, unfolding(crate::specs::Fields::string_at))]
+pub(crate) fn string_at(bytes: &[u8]) -> Result<(&[u8], &[u8]), MapFault>
+    ensures { Gives (λ x. (x.0.now, x.1.now)) result (string_at bytes.now) }
+{
+    let (len, rest) = number_at(bytes)?;
+    bytes_at(len, rest)
+}
+
+/// The bytes as text.
+pub(crate) fn text_of(bytes: &[u8]) -> Result<&str, MapFault>
+    ensures { Gives (λ s. s.now) result (text_of bytes.now) }
+{
+    match str::from_utf8(bytes) {
+        Ok(text) => Ok(text),
+        Err(_) => Err(MapFault::BadMap),
+    }
+}
+
+/// A short name, and the bytes after its zero byte.
+#[tactic(auto, unfolding(crate::specs::Fields::name_at))]
+pub(crate) fn name_at(bytes: &[u8]) -> Result<(&str, &[u8]), MapFault>
+    ensures { Gives (λ x. (x.0.now, x.1.now)) result (name_at bytes.now) }
+{
+    let [len, rest @ ..] = bytes else {
+        return Err(MapFault::BadMap);
+    };
+    let len = usize::from(*len);
+    if len > 250 || len >= rest.len() || rest[len] != 0 {
+        return Err(MapFault::BadMap);
+    }
+    Ok((text_of(&rest[..len])?, &rest[len + 1..]))
+}
+
+/// The fields with one more: two of one type are refused, and both keys.
+fn with_field<'a>(fields: Fields<'a>, kind: u8, value: &'a [u8]) -> Result<Fields<'a>, MapFault>
+    ensures { Gives fields_view result (with_field (fields_view fields.entry) kind value.now) }
+{
+    match kind {
+        1 if fields.signs.is_none() => Ok(Fields {
+            signs: Some(value),
+            ..fields
+        }),
+        4 if fields.names.is_none() => Ok(Fields {
+            names: Some(value),
+            ..fields
+        }),
+        5 if fields.set_names.is_none() => Ok(Fields {
+            set_names: Some(value),
+            ..fields
+        }),
+        6 if fields.enum_names.is_none() => Ok(Fields {
+            enum_names: Some(value),
+            ..fields
+        }),
+        8 if fields.key.is_none() && fields.prefix_key.is_none() => Ok(Fields {
+            key: Some(value),
+            ..fields
+        }),
+        9 if fields.key.is_none() && fields.prefix_key.is_none() => Ok(Fields {
+            prefix_key: Some(value),
+            ..fields
+        }),
+        1 | 4 | 5 | 6 | 8 | 9 => Err(MapFault::BadMap),
+        _ => Ok(fields),
+    }
+}
+
+/// The optional fields, to the end of the bytes.
+pub(crate) fn fields_of(bytes: &[u8]) -> Result<Fields<'_>, MapFault>
+    ensures { Gives fields_view result (fields_from (length bytes.now) no_fields bytes.now) }
+{
+    let mut fields = Fields {
+        signs: None,
+        names: None,
+        set_names: None,
+        enum_names: None,
+        key: None,
+        prefix_key: None,
+    };
+    let mut rest = bytes;
+    while let [kind, after @ ..] = rest {
+        let (value, after) = string_at(after)?;
+        fields = with_field(fields, *kind, value)?;
+        rest = after;
+    }
+    Ok(fields)
+}

@@ -1,0 +1,76 @@
+ghost use Rattle.std.specs.Prelude.{◌≡◌, ◌≤◌, ◌<◌, [], length, option_map, IfOk};
+ghost use Rattle.std.specs.List.{All};
+ghost use Rattle.binlog_table.specs.MapResult.{Gives};
+ghost use Rattle.binlog_table.specs.Names.{index_at, new_index, key_from, key_in};
+
+use crate::fault::MapFault;
+use crate::fields::number_at;
+use std::alloc::Global;
+
+/// The index of a column, and after it the length of a prefix where the key has prefixes; the bytes after them.
+#[tactic(auto, unfolding(crate::specs::Names::index_at))]
+fn index_at(prefixed: bool, bytes: &[u8]) -> Result<(u64, &[u8]), MapFault>
+    ensures { Gives (λ x. (x.0, x.1.now)) result (index_at prefixed bytes.now) }
+{
+    let (index, rest) = number_at(bytes)?;
+    if !prefixed {
+        return Ok((index, rest));
+    }
+    let (_, rest) = number_at(rest)?;
+    Ok((index, rest))
+}
+
+/// An index below the count that isn't in the key.
+fn new_index(count: usize, key: &[usize], index: u64) -> Result<usize, MapFault>
+    ensures value { Gives (λ i. i) result (new_index count key.now index) }
+    ensures below { IfOk result (λ i. i < count) }
+{
+    if index >= count as u64 {
+        return Err(MapFault::BadMap);
+    }
+    let index = index as usize;
+    if key.contains(&index) {
+        return Err(MapFault::BadMap);
+    }
+    Ok(index)
+}
+
+/// The columns of a key, to the end of the bytes.
+fn key_from(
+    alloc: Global,
+    prefixed: bool,
+    count: usize,
+    bytes: &[u8],
+) -> Result<Vec<usize>, MapFault>
+    ensures key { Gives (λ v. v.items) result (key_from (length bytes.now) prefixed count [] bytes.now) }
+    ensures below { IfOk result (λ v. All (λ i. i < count) v.items) }
+{
+    let mut key = Vec::new(alloc);
+    let mut rest = bytes;
+    while !rest.is_empty() {
+        let (index, after) = index_at(prefixed, rest)?;
+        let index = new_index(count, &key, index)?;
+        key.push(index)?;
+        rest = after;
+    }
+    Ok(key)
+}
+
+/// The columns of the key, of which there are none where no field names them.
+pub(crate) fn key_in(
+    alloc: Global,
+    count: usize,
+    plain: Option<&[u8]>,
+    prefixed: Option<&[u8]>,
+) -> Result<Vec<usize>, MapFault>
+    ensures key { Gives (λ v. v.items) result (key_in count (option_map (λ x. x.now) plain.entry) (option_map (λ x. x.now) prefixed.entry)) }
+    ensures below { IfOk result (λ v. All (λ i. i < count) v.items) }
+{
+    if let Some(bytes) = plain {
+        return key_from(alloc, false, count, bytes);
+    }
+    if let Some(bytes) = prefixed {
+        return key_from(alloc, true, count, bytes);
+    }
+    Ok(Vec::new(alloc))
+}

@@ -1,0 +1,158 @@
+ghost use Rattle.std.specs.Prelude.{◌≡◌, ◌≤◌, ◌<◌, ◌+◌, IsTrue, IfOk, length};
+ghost use Rattle.binlog_table.specs.MapResult.{Gives};
+ghost use Rattle.binlog_table.specs.Columns.{plain_layout, has_byte, byte_layout, has_pair, pair_layout, string_layout, bits_layout, decimal_layout, prefix_len, layout_at, byte_at, pair_at, real_type, string_len};
+
+use crate::column::{ByteCount, DecimalSize, EnumSize, Layout, Precision};
+use crate::fault::MapFault;
+
+/// The layout of a type without metadata.
+fn plain_layout(code: u8) -> Option<Layout>
+    ensures { result ≡ plain_layout code }
+{
+    match code {
+        1 => Some(Layout::Integer(ByteCount::new(1))),
+        2 => Some(Layout::Integer(ByteCount::new(2))),
+        9 => Some(Layout::Integer(ByteCount::new(3))),
+        3 => Some(Layout::Integer(ByteCount::new(4))),
+        8 => Some(Layout::Integer(ByteCount::new(8))),
+        13 => Some(Layout::Year),
+        10 => Some(Layout::Date),
+        _ => None,
+    }
+}
+
+fn has_byte(code: u8) -> bool
+    ensures { result ≡ has_byte code }
+{
+    matches!(code, 4 | 5 | 17 | 18 | 19 | 252 | 245 | 255)
+}
+
+/// The layout of a type with one byte of metadata, where that is in range.
+fn byte_layout(code: u8, byte: u8) -> Option<Layout>
+    ensures { result ≡ byte_layout code byte }
+{
+    match code {
+        4 => Some(Layout::Float(ByteCount::new(4))),
+        5 => Some(Layout::Float(ByteCount::new(8))),
+        17 if byte <= 6 => Some(Layout::Timestamp(Precision::new(byte))),
+        18 if byte <= 6 => Some(Layout::DateTime(Precision::new(byte))),
+        19 if byte <= 6 => Some(Layout::Time(Precision::new(byte))),
+        17 | 18 | 19 => None,
+        _ if byte < 1 || byte > 4 => None,
+        252 => Some(Layout::Text(ByteCount::new(byte))),
+        _ => Some(Layout::Raw(ByteCount::new(byte))),
+    }
+}
+
+fn has_pair(code: u8) -> bool
+    ensures { result ≡ has_pair code }
+{
+    matches!(code, 15 | 253 | 16 | 246 | 254)
+}
+
+/// The bytes that a length up to a greatest one takes.
+fn prefix(greatest: u16) -> ByteCount
+    ensures { result ≡ prefix_len greatest }
+{
+    if greatest <= 255 {
+        ByteCount::new(1)
+    } else {
+        ByteCount::new(2)
+    }
+}
+
+/// BIT, by its odd bits and its whole bytes.
+fn bits_layout(odd: u8, whole: u8) -> Option<Layout>
+    ensures { result ≡ bits_layout odd whole }
+{
+    if odd > 7 || whole > 8 {
+        return None;
+    }
+    let bytes = whole + (odd + 7) / 8;
+    if bytes < 1 || bytes > 8 {
+        return None;
+    }
+    Some(Layout::Bits(ByteCount::new(bytes)))
+}
+
+/// NEWDECIMAL, by its digits and those after the point.
+fn decimal_layout(precision: u8, scale: u8) -> Option<Layout>
+    ensures { result ≡ decimal_layout precision scale }
+{
+    if precision < 1 || precision > 65 || scale > 30 || scale > precision {
+        return None;
+    }
+    Some(Layout::Decimal(DecimalSize::new(precision, scale)))
+}
+
+/// STRING, by its real type and its length.
+fn string_layout(real: u8, len: u16) -> Result<Layout, MapFault>
+    ensures { Gives (λ l. l) result (string_layout real len) }
+{
+    match real {
+        254 => Ok(Layout::Text(prefix(len))),
+        247 => match len {
+            1 => Ok(Layout::Enum(EnumSize::new(1))),
+            2 => Ok(Layout::Enum(EnumSize::new(2))),
+            _ => Err(MapFault::BadMap),
+        },
+        248 => match len {
+            1 | 2 | 3 | 4 | 8 => Ok(Layout::Set(ByteCount::new(len as u8))),
+            _ => Err(MapFault::BadMap),
+        },
+        _ => Err(MapFault::TypeOutOfProfile(real)),
+    }
+}
+
+/// The layout of a type with two bytes of metadata.
+fn pair_layout(code: u8, first: u8, second: u8) -> Result<Layout, MapFault>
+    ensures { Gives (λ l. l) result (pair_layout code first second) }
+{
+    match code {
+        16 => match bits_layout(first, second) {
+            Some(layout) => Ok(layout),
+            None => Err(MapFault::BadMap),
+        },
+        246 => match decimal_layout(first, second) {
+            Some(layout) => Ok(layout),
+            None => Err(MapFault::BadMap),
+        },
+        254 => {
+            if first & 48 == 48 {
+                string_layout(first, u16::from(second))
+            } else {
+                let high = u16::from((first & 48) ^ 48) * 16;
+                string_layout(first | 48, u16::from(second) | high)
+            }
+        }
+        _ => Ok(Layout::Text(prefix(u16::from(first) + 256 * u16::from(second)))),
+    }
+}
+
+/// The layout of a column's type, and how many bytes of the metadata it takes.
+#[tactic(auto, unfolding(crate::specs::Columns::layout_at))]
+pub(crate) fn layout_at(code: u8, metadata: &[u8]) -> Result<(Layout, usize), MapFault>
+    ensures layout { Gives (λ x. x) result (layout_at code metadata.now) }
+    ensures within { IfOk result (λ x. x.1 ≤ length metadata.now) }
+{
+    if let Some(layout) = plain_layout(code) {
+        return Ok((layout, 0));
+    }
+    if has_byte(code) {
+        let [byte, ..] = metadata else {
+            return Err(MapFault::BadMap);
+        };
+        let Some(layout) = byte_layout(code, *byte) else {
+            return Err(MapFault::BadMap);
+        };
+        return Ok((layout, 1));
+    }
+    if has_pair(code) {
+        let [first, second, ..] = metadata else {
+            return Err(MapFault::BadMap);
+        };
+        let layout = pair_layout(code, *first, *second)?;
+        return Ok((layout, 2));
+    }
+    Err(MapFault::TypeOutOfProfile(code))
+}

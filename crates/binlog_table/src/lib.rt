@@ -1,0 +1,43 @@
+//! Table maps, rows and column values of MySQL's binary log.
+#![tactic(auto)]
+
+mod cell;
+mod column;
+mod columns;
+mod decimal;
+mod decimal_view;
+mod digits;
+mod extent;
+mod fault;
+mod fields;
+mod image;
+mod key;
+mod laws;
+mod layout;
+mod names;
+mod packed;
+mod row_view;
+mod rows;
+mod rows_head;
+mod sections;
+mod table_map;
+mod time;
+mod value;
+mod value_names;
+
+pub use cell::{Cell, Date, DateTime, Time, Timestamp};
+pub use column::{ByteCount, Column, DecimalSize, EnumSize, Layout, Precision};
+pub use decimal_view::DecimalView;
+pub use digits::Digits;
+pub use fault::{BadRows, MapFault};
+pub use laws::{
+    images_are_read, map_bodies_have_one_reading, map_fields_are_read, rows_are_read,
+    rows_bodies_have_one_reading, spellings_are_apart,
+};
+pub use row_view::{Cells, RowView, Side};
+pub use rows::{RowSpan, next_row};
+pub use rows_head::{Part, RowsHead, rows_table_id};
+pub use table_map::TableMap;
+
+#[cfg(test)]
+mod tests;

@@ -1,0 +1,106 @@
+ghost use Rattle.std.specs.Prelude.{◌≡◌, ◌≤◌, ◌<◌, ◌+◌, ◌-◌, true, false, length, map, option_map, IfOk, IfSome, vec_len};
+ghost use Rattle.std.specs.String.{string_bytes};
+ghost use Rattle.binlog_table.specs.MapResult.{Gives};
+ghost use Rattle.binlog_table.specs.Names.{names_at, column_names, distinct_names, used_up};
+ghost use Rattle.binlog_table.specs.NameOrder.{IsNameOrder, AreNumbered, AreSorted, name_of, name_in};
+
+use crate::fault::MapFault;
+use crate::fields::{string_at, text_of};
+use std::alloc::{AllocError, Global};
+
+/// The names of columns, and the columns in the order of their names.
+#[derive(Drop)]
+pub(crate) struct ColumnNames {
+    pub(crate) names: Vec<String>,
+    pub(crate) order: Vec<usize>,
+}
+
+/// So many names, and the bytes after them.
+fn names_of<'a>(
+    alloc: Global,
+    count: usize,
+    bytes: &'a [u8],
+) -> Result<(Vec<String>, &'a [u8]), MapFault>
+    ensures names { Gives (λ x. (map string_bytes x.0.items, x.1.now)) result (names_at count bytes.now) }
+    ensures count { IfOk result (λ x. vec_len x.0 ≡ count) }
+{
+    let mut names = Vec::with_capacity(alloc, count)?;
+    let mut rest = bytes;
+    for _ in 0..count {
+        let (text, after) = string_at(rest)?;
+        let name = text_of(text)?;
+        names.push(String::from_str(alloc, name)?)?;
+        rest = after;
+    }
+    Ok((names, rest))
+}
+
+/// The names with their columns.
+fn numbered_names<'a>(
+    alloc: Global,
+    names: &'a [String],
+) -> Result<Vec<(&'a str, usize)>, AllocError>
+    ensures { IfOk result (λ v. AreNumbered (map string_bytes names.now) (length names.now) v.items) }
+{
+    let mut entries = Vec::with_capacity(alloc, names.len())?;
+    for (column, name) in names.iter().enumerate() {
+        entries.push((name.as_str(), column))?;
+    }
+    Ok(entries)
+}
+
+/// The names with their columns, in ascending order.
+fn sorted_names<'a>(alloc: Global, names: &'a [String]) -> Result<Vec<(&'a str, usize)>, AllocError>
+    ensures { IfOk result (λ v. AreSorted (map string_bytes names.now) v.items) }
+{
+    let mut entries = numbered_names(alloc, names)?;
+    entries.sort_unstable();
+    Ok(entries)
+}
+
+/// Whether the name at a place is that in front of it.
+fn is_repeated(sorted: &[(&str, usize)], place: usize) -> bool
+    requires { place < length sorted.now }
+    ensures yes { result ≡ true → (0 < place) × (name_of (map name_in sorted.now) (place - 1) ≡ name_of (map name_in sorted.now) place) }
+    ensures no { result ≡ false → 0 < place → name_of (map name_in sorted.now) (place - 1) ≡ name_of (map name_in sorted.now) place → ⊥ }
+{
+    place > 0 && sorted[place - 1].0 == sorted[place].0
+}
+
+/// The columns in the order of their names, where no name stands twice.
+fn name_order(alloc: Global, names: &[String]) -> Result<Vec<usize>, MapFault>
+    ensures distinct { Gives (λ _. map string_bytes names.now) result (distinct_names (map string_bytes names.now)) }
+    ensures order { IfOk result (λ o. IsNameOrder (map string_bytes names.now) o.items) }
+{
+    let sorted = sorted_names(alloc, names)?;
+    let mut order = Vec::with_capacity(alloc, sorted.len())?;
+    for place in 0..sorted.len() {
+        if is_repeated(&sorted, place) {
+            return Err(MapFault::BadMap);
+        }
+        order.push(sorted[place].1)?;
+    }
+    Ok(order)
+}
+
+/// The distinct names of so many columns, where there is such a field.
+#[tactic(auto, unfolding(crate::specs::Names::column_names))]
+pub(crate) fn column_names(
+    alloc: Global,
+    count: usize,
+    field: Option<&[u8]>,
+) -> Result<Option<ColumnNames>, MapFault>
+    ensures names { Gives (option_map (λ n. map string_bytes n.names.items)) result (column_names count (option_map (λ x. x.now) field.entry)) }
+    ensures count { IfOk result (λ o. IfSome o (λ n. vec_len n.names ≡ count)) }
+    ensures order { IfOk result (λ o. IfSome o (λ n. IsNameOrder (map string_bytes n.names.items) n.order.items)) }
+{
+    let Some(bytes) = field else {
+        return Ok(None);
+    };
+    let (names, rest) = names_of(alloc, count, bytes)?;
+    if !rest.is_empty() {
+        return Err(MapFault::BadMap);
+    }
+    let order = name_order(alloc, &names)?;
+    Ok(Some(ColumnNames { names, order }))
+}

@@ -1,0 +1,72 @@
+ghost use Rattle.std.specs.Prelude.{◌≡◌, ◌≤◌, ◌+◌, ◌/◌};
+ghost use Rattle.binlog_table.specs.MapResult.{Gives};
+ghost use Rattle.binlog_table.specs.Map.{sections_at, sections_after, counted};
+ghost use Rattle.binlog_table.specs.SectionsShown.{sections_view};
+
+use crate::fault::MapFault;
+use crate::fields::{Fields, bytes_at, fields_of, name_at, number_at, string_at};
+use byteorder::{ByteOrder, LittleEndian};
+
+/// The sections of a table map's body as they stand.
+#[derive(Clone, Copy)]
+pub(crate) struct Sections<'a> {
+    pub(crate) table_id: u64,
+    pub(crate) schema: &'a str,
+    pub(crate) table: &'a str,
+    /// A type for each column.
+    pub(crate) types: &'a [u8],
+    pub(crate) metadata: &'a [u8],
+    pub(crate) fields: Fields<'a>,
+}
+
+/// A number of columns that a table may have.
+fn counted(count: u64) -> Result<u64, MapFault>
+    ensures { Gives (λ n. n) result (counted count) }
+{
+    if count < 1 || count > 4096 {
+        return Err(MapFault::BadMap);
+    }
+    Ok(count)
+}
+
+/// How many bytes the bits of so many columns take.
+fn nulls_len(count: u64) -> u64
+    requires { count ≤ 4096 }
+    ensures { result ≡ (count + 7) / 8 }
+{
+    (count + 7) / 8
+}
+
+/// The sections after the table id and the flags.
+#[tactic(auto, unfolding(crate::specs::Map::sections_after))]
+fn sections_after(table_id: u64, bytes: &[u8]) -> Result<Sections<'_>, MapFault>
+    ensures { Gives sections_view result (sections_after table_id bytes.now) }
+{
+    let (schema, rest) = name_at(bytes)?;
+    let (table, rest) = name_at(rest)?;
+    let (count, rest) = number_at(rest)?;
+    let count = counted(count)?;
+    let (types, rest) = bytes_at(count, rest)?;
+    let (metadata, rest) = string_at(rest)?;
+    let (_, rest) = bytes_at(nulls_len(count), rest)?;
+    let fields = fields_of(rest)?;
+    Ok(Sections {
+        table_id,
+        schema,
+        table,
+        types,
+        metadata,
+        fields,
+    })
+}
+
+/// The sections of a body.
+#[tactic(auto, unfolding(crate::specs::Map::sections_at))]
+pub(crate) fn sections_at(body: &[u8]) -> Result<Sections<'_>, MapFault>
+    ensures { Gives sections_view result (sections_at body.now) }
+{
+    if body.len() < 8 {
+        return Err(MapFault::BadMap);
+    }
+    sections_after(LittleEndian::read_u48(body), &body[8..])
+}

@@ -1,0 +1,41 @@
+ghost use Rattle.std.specs.Prelude.{◌≡◌, ◌≤◌, option_map};
+ghost use Rattle.binlog_table.specs.Extent.{HasExtent, extent_of};
+ghost use Rattle.binlog_table.specs.Value.{value_of, view};
+
+use crate::cell::Cell;
+use crate::column::{Column, Layout};
+use crate::decimal::decimal_of;
+use crate::time::{date_of, date_time_of, time_of, timestamp_of};
+use byteorder::{BigEndian, ByteOrder, LittleEndian};
+
+/// What the whole text of a value means, where it means anything.
+#[tactic(auto, unfolding(crate::specs::Value::value_of))]
+pub(crate) fn value_of<'a>(column: &Column, text: &'a [u8]) -> Option<Cell<'a>>
+    requires { HasExtent (extent_of column.now.layout) text.now }
+    ensures { option_map view result ≡ value_of column.now text.now }
+{
+    match &column.layout {
+        Layout::Integer(width) => {
+            if column.unsigned {
+                Some(Cell::UInt(LittleEndian::read_uint(text, width.get())))
+            } else {
+                Some(Cell::Int(LittleEndian::read_int(text, width.get())))
+            }
+        }
+        Layout::Year => {
+            let byte = u16::from(text[0]);
+            Some(Cell::Year(if byte == 0 { 0 } else { 1900 + byte }))
+        }
+        Layout::Date => Some(Cell::Date(date_of(text))),
+        Layout::Text(width) => Some(Cell::Bytes(&text[width.get()..])),
+        Layout::Raw(width) => Some(Cell::Raw(&text[width.get()..])),
+        Layout::Float(_) => Some(Cell::Raw(text)),
+        Layout::Bits(width) => Some(Cell::Bits(BigEndian::read_uint(text, width.get()))),
+        Layout::Timestamp(precision) => Some(Cell::Timestamp(timestamp_of(*precision, text)?)),
+        Layout::DateTime(precision) => Some(Cell::DateTime(date_time_of(*precision, text)?)),
+        Layout::Time(precision) => Some(Cell::Time(time_of(*precision, text)?)),
+        Layout::Decimal(size) => Some(Cell::Decimal(decimal_of(*size, text)?)),
+        Layout::Enum(size) => Some(Cell::Enum(LittleEndian::read_uint(text, size.get()) as u16)),
+        Layout::Set(width) => Some(Cell::Set(LittleEndian::read_uint(text, width.get()))),
+    }
+}

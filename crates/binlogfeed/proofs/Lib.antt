@@ -1,0 +1,6 @@
+pub mod Commands
+pub mod Sending
+pub mod Coming
+pub mod Ending
+pub mod Naming
+pub mod Answering

@@ -1,0 +1,16 @@
+use Rattle.binlogfeed.proofs.fault.fault_line.Goals as goal
+
+pub returns-in-Write : goal.returns-in-Write
+returns-in-Write g c = rw c.in-Write.is c.write-in-Write.ensures.bytes
+
+pub returns-in-OutOfMemory : goal.returns-in-OutOfMemory
+returns-in-OutOfMemory g c = rw c.in-OutOfMemory.is c.write-in-OutOfMemory.ensures.bytes
+
+pub returns-in-DuplicateFile : goal.returns-in-DuplicateFile
+returns-in-DuplicateFile g c = rw c.in-DuplicateFile.is (rw c.file_name-name.ensures at c.write.ensures.bytes)
+
+pub returns-in-Read : goal.returns-in-Read
+returns-in-Read g c = rw c.in-Read.is (rw c.file_name-name-in-Read.ensures at c.write-in-Read.ensures.bytes)
+
+pub returns-in-Log : goal.returns-in-Log
+returns-in-Log g c = rw c.in-Log.is (rw c.file_name-name-in-Log.ensures at c.write-in-Log.ensures.bytes)

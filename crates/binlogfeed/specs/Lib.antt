@@ -1,0 +1,6 @@
+pub mod Faults
+pub mod Words
+pub mod Lines
+pub mod Sending
+pub mod Runs
+pub mod Coming

@@ -1,0 +1,47 @@
+-- The command line, and what its words ask for.
+use Rattle.std.specs.Prelude.{◌≡◌, ℕ, List, [], map, true, Option, Some, unwrap_or, codes}
+use Rattle.std.specs.Borrow.{Bor}
+use Rattle.clap.specs.Lexer.{usize_max}
+use Rattle.clap.specs.Words.{App, Rule, Row, Text, new_app, new_rule, with_rule, with_subcommand, all_of}
+use Rattle.clap.specs.declared.builder.action.ArgAction.TheVariants.{Append}
+use Rattle.binlogfeed.specs.declared.words.Order.{Order}
+use Rattle.binlogfeed.specs.declared.words.Order.TheVariants.{Transactions}
+use Rattle.binlogfeed.specs.declared.words.WordsFault.{WordsFault}
+use Rattle.binlogfeed.specs.declared.words.WordsFault.TheVariants.{Help, CommandLine, OutOfMemory}
+
+-- one file or more
+abbrev pub file_rule : Rule
+file_rule = record (new_rule (codes "file")) {
+  required = true;
+  action = Some Append;
+  range = Some (record { start_inclusive = 1; end_inclusive = usize_max });
+}
+
+abbrev pub transactions_app : App
+transactions_app = with_rule (new_app (codes "transactions")) file_rule
+
+abbrev pub program_app : App
+program_app = with_subcommand (new_app (codes "binlogfeed")) transactions_app.top
+
+abbrev pub texts : List (Bor Text) → List Text
+texts = map (λ word. word.now)
+
+-- the files among the values that a subcommand was given
+abbrev pub files_given : List Row → List Text
+files_given rows = unwrap_or (all_of (codes "file") rows) []
+
+-- the subcommand that the words name, with the values that they give it
+abbrev pub IsOrder : Order → Option (Text × List Row) → Type 0
+IsOrder (Transactions files) found =
+    (rows : List Row) × (found ≡ Some (codes "transactions", rows)) × (texts files.items ≡ files_given rows)
+
+abbrev pub words_status_of : WordsFault → ℕ
+words_status_of (Help error) = 0
+words_status_of CommandLine = 2
+words_status_of OutOfMemory = 5
+
+-- the line of a fault, without its line feed
+abbrev pub words_text : WordsFault → List ℕ
+words_text (Help error) = []
+words_text CommandLine = codes "binlogfeed: command line refused"
+words_text OutOfMemory = codes "binlogfeed: out of memory"

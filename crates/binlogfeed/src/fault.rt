@@ -1,0 +1,105 @@
+//! Why a run ended early: its line on standard error, and the program's status.
+ghost use Rattle.std.specs.Prelude.{◌≡◌, ◌++◌, OnOk, string_bytes};
+ghost use Rattle.binlogfeed.specs.Faults.{what_text, fault_text, status_of, IsNamed};
+
+use binlog_feed::{LogFault, What};
+use binlog_frame::Logs;
+use std::alloc::AllocError;
+use std::fmt;
+
+/// Why a run ended before the end of the files. Files go by their number in the list, from 0.
+#[derive(Clone, Copy, Debug, PartialEq, Eq)]
+pub enum RunFault {
+    /// The file with this number is the first that has the name of an earlier one.
+    DuplicateFile(usize),
+    /// An event can't be taken in.
+    Log(LogFault),
+    /// The device failed in the file with this number.
+    Read(usize),
+    /// A write or the flush failed, or a write took nothing.
+    Write,
+    /// A growth was refused.
+    OutOfMemory,
+}
+
+/// Shows what is wrong with an event by its name, with its number in round brackets where it has one.
+#[derive(Clone, Copy)]
+struct Shown(What);
+
+impl fmt::Display for Shown {
+    ghost use Rattle.std.specs.Prelude.{Some};
+    ghost use Rattle.binlogfeed.specs.Faults.{what_text};
+
+    ghost output = { λ shown. Some (what_text shown.0) };
+
+    fn fmt<W: fmt::Write>(&self, f: &mut fmt::Formatter<W>) -> fmt::Result {
+        match self.0 {
+            What::BadMagic => write!(f, "BadMagic"),
+            What::NoFormat => write!(f, "NoFormat"),
+            What::BadFormat => write!(f, "BadFormat"),
+            What::ChecksumUnknown => write!(f, "ChecksumUnknown"),
+            What::BadLength => write!(f, "BadLength"),
+            What::EventAfterEnd => write!(f, "EventAfterEnd"),
+            What::KindOutOfProfile(kind) => write!(f, "KindOutOfProfile({kind})"),
+            What::BadBody => write!(f, "BadBody"),
+            What::Xa => write!(f, "Xa"),
+            What::RollbackTo => write!(f, "RollbackTo"),
+            What::OutOfPlace(kind) => write!(f, "OutOfPlace({kind})"),
+            What::RotationMismatch => write!(f, "RotationMismatch"),
+            What::BadMap => write!(f, "BadMap"),
+            What::TypeOutOfProfile(column_type) => write!(f, "TypeOutOfProfile({column_type})"),
+            What::NoColumnNames => write!(f, "NoColumnNames"),
+            What::BadRows => write!(f, "BadRows"),
+            What::UnmappedTable => write!(f, "UnmappedTable"),
+            What::SourceChanged => write!(f, "SourceChanged"),
+        }
+    }
+}
+
+/// Appends the line of a fault, without its line feed. Where it finds no memory, nothing is said of what was appended.
+pub fn fault_line<L: Logs>(fault: &RunFault, logs: &L, line: &mut String) -> Result<(), AllocError>
+    requires { IsNamed (L.names logs.now) fault.now }
+    ensures { OnOk result (string_bytes line.new ≡ string_bytes line.old ++ fault_text (L.names logs.now) fault.now) }
+{
+    match fault {
+        RunFault::DuplicateFile(file) => {
+            let name = file_name(logs, *file);
+            write!(line, "binlogfeed: duplicate file {name}")
+        }
+        RunFault::Log(fault) => {
+            let name = file_name(logs, fault.file);
+            let position = fault.position;
+            let what = Shown(fault.what);
+            write!(line, "binlogfeed: log fault at {name}:{position}: {what}")
+        }
+        RunFault::Read(file) => {
+            let name = file_name(logs, *file);
+            write!(line, "binlogfeed: read fault: {name}")
+        }
+        RunFault::Write => write!(line, "binlogfeed: write fault"),
+        RunFault::OutOfMemory => write!(line, "binlogfeed: out of memory"),
+    }
+}
+
+ghost use Rattle.std.specs.Prelude.{◌<◌, length};
+ghost use Rattle.binlogfeed.specs.Faults.{name_of};
+
+/// The name of a file of the list.
+fn file_name<L: Logs>(logs: &L, file: usize) -> &str
+    requires { file < length (L.names logs.now) }
+    ensures { result.now ≡ name_of (L.names logs.now) file }
+{
+    logs.name(file)
+}
+
+/// The status with which the program ends.
+pub fn status(fault: &RunFault) -> u8
+    ensures { result ≡ status_of fault.now }
+{
+    match fault {
+        RunFault::Log(_) => 1,
+        RunFault::DuplicateFile(_) => 2,
+        RunFault::Read(_) | RunFault::Write => 4,
+        RunFault::OutOfMemory => 5,
+    }
+}

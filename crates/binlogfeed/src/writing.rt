@@ -1,0 +1,80 @@
+//! Text on its way to a writer.
+ghost use Rattle.std.specs.Prelude.{◌≡◌, ◌++◌, [], OnOk, OnErr};
+ghost use Rattle.std.specs.Io.KnownBytes.{Appends};
+ghost use Rattle.binlogfeed.specs.Sending.{AppendsBeginning, Adds};
+
+use std::alloc::AllocError;
+use std::io::Write;
+
+/// A write or the flush failed, or a write took nothing.
+#[derive(Clone, Copy, Debug, PartialEq, Eq)]
+pub(crate) struct WriteFault;
+
+/// Why a line was not added.
+#[derive(Clone, Copy, Debug, PartialEq, Eq)]
+pub(crate) enum AddFault {
+    Write,
+    OutOfMemory,
+}
+
+impl From<WriteFault> for AddFault {
+    ghost use Rattle.binlogfeed.specs.declared.writing.AddFault.TheVariants.{Write};
+
+    ghost from_gives = { λ _ fault. fault ≡ Write };
+
+    fn from(_: WriteFault) -> AddFault {
+        AddFault::Write
+    }
+}
+
+impl From<AllocError> for AddFault {
+    ghost use Rattle.binlogfeed.specs.declared.writing.AddFault.TheVariants.{OutOfMemory};
+
+    ghost from_gives = { λ _ fault. fault ≡ OutOfMemory };
+
+    fn from(_: AllocError) -> AddFault {
+        AddFault::OutOfMemory
+    }
+}
+
+/// What waits goes out once it has so many bytes.
+pub(crate) const ENOUGH: usize = 65_536;
+
+/// Writes the whole text, in as many calls of `write` as it takes.
+pub(crate) fn write_text<W: Write>(out: &mut W, text: &[u8]) -> Result<(), WriteFault>
+    ensures ok { OnOk result (Appends (W.contents out.old) (W.contents out.new) text.now) }
+    ensures err { OnErr result (AppendsBeginning (W.contents out.old) (W.contents out.new) text.now) }
+{
+    let mut written = 0;
+    while written < text.len() {
+        match out.write(&text[written..]) {
+            Ok(0) => return Err(WriteFault),
+            Ok(count) => written += count,
+            Err(_) => return Err(WriteFault),
+        }
+    }
+    Ok(())
+}
+
+/// Lets a line wait behind what waits already, and sends all of it where it is enough.
+pub(crate) fn add_line<W: Write>(
+    out: &mut W,
+    waiting: &mut Vec<u8>,
+    line: &str,
+) -> Result<(), AddFault>
+    ensures { Adds (W.contents out.old) (W.contents out.new) waiting.old.items waiting.new.items line.now result }
+{
+    if waiting.extend_from_slice(line.as_bytes()).is_err() {
+        return Err(AddFault::OutOfMemory);
+    }
+    if waiting.len() < ENOUGH {
+        return Ok(());
+    }
+    match write_text(out, waiting.as_slice()) {
+        Ok(()) => {
+            waiting.clear();
+            Ok(())
+        }
+        Err(_) => Err(AddFault::Write),
+    }
+}
