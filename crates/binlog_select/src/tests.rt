@@ -203,7 +203,9 @@ fn long_lists_of_names(rt: HostRuntime) -> Result<(), Fail> {
         list.push(format!(in alloc; "table{}", (n * 7) % 200)?)?;
     }
     let names = Names::from(list);
-    assert!(rt; names.contains("table0") && names.contains("table199") && names.contains("table63"));
+    assert!(rt;
+        names.contains("table0") && names.contains("table199") && names.contains("table63")
+    );
     assert!(rt; !names.contains("table200") && !names.contains("") && !names.contains("Table1"));
     assert_eq!(rt; names.into_vec().len(), 200);
     Ok(())
