@@ -4,10 +4,10 @@ use Rattle.std.proofs.lemmas.List.{length-drop, take_rest}
 use Rattle.binlog_table.specs.declared.fault.MapFault.{MapFault}
 use Rattle.binlog_table.specs.declared.fault.MapFault.TheVariants.{BadMap}
 use Rattle.binlog_table.specs.Packed.{packed_at}
-use Rattle.binlog_table.specs.MapResult.{◌>>=◌, Fails}
+use Rattle.binlog_table.specs.MapResult.{◌>>=◌}
 use Rattle.binlog_table.specs.Columns.{or_bad}
 use Rattle.binlog_table.specs.Fields.{Fields, bytes_at, number_at, string_at, with_field, fields_from}
-use Rattle.binlog_table.proofs.FirstFaults.{fails_first, goes_first}
+use Rattle.binlog_table.proofs.FirstFaults.{stops_first, goes_first}
 
 pub bind_ok : {A B : Type 0} (r : Result A MapFault) (f : A → Result B MapFault) (y : B) → (r >>= f) ≡ Ok y → (x : A) × (r ≡ Ok x) × (f x ≡ Ok y)
 bind_ok (Ok x) f y e = (x, refl, e)
@@ -65,12 +65,12 @@ fields-step f (t ∷ bytes) total h so_far =
     let k : suc (length bytes) - 1 ≡ length bytes = omega arith in
     rw (take_rest (t ∷ bytes) 1) (subst (λ (n : ℕ). (string_at bytes >>= λ v. with_field f t v.0 >>= λ g. fields_from n g v.1) ≡ total) (sym k) so_far)
 
-pub fields-no_value : (e : MapFault) (f : Fields) (rest : List ℕ) (total : Result Fields MapFault) → 1 ≤ length rest → fields_from (length rest) f rest ≡ total → Fails e (string_at (take (length rest - 1) (drop 1 rest))) → Fails e total
-fields-no_value e f rest total h so_far refused = fails_first e (string_at (take (length rest - 1) (drop 1 rest))) (field_then rest f) total refused (fields-step f rest total h so_far)
+pub fields-no_value : (e : MapFault) (f : Fields) (rest : List ℕ) (total : Result Fields MapFault) → 1 ≤ length rest → fields_from (length rest) f rest ≡ total → string_at (take (length rest - 1) (drop 1 rest)) ≡ Err e → total ≡ Err e
+fields-no_value e f rest total h so_far refused = stops_first e (string_at (take (length rest - 1) (drop 1 rest))) (field_then rest f) total refused (fields-step f rest total h so_far)
 
-pub fields-refused : (e : MapFault) (f : Fields) (rest : List ℕ) (total : Result Fields MapFault) (v : List ℕ × List ℕ) → 1 ≤ length rest → fields_from (length rest) f rest ≡ total → string_at (take (length rest - 1) (drop 1 rest)) ≡ Ok v → Fails e (with_field f (get_or rest 0 0) v.0) → Fails e total
+pub fields-refused : (e : MapFault) (f : Fields) (rest : List ℕ) (total : Result Fields MapFault) (v : List ℕ × List ℕ) → 1 ≤ length rest → fields_from (length rest) f rest ≡ total → string_at (take (length rest - 1) (drop 1 rest)) ≡ Ok v → with_field f (get_or rest 0 0) v.0 ≡ Err e → total ≡ Err e
 fields-refused e f rest total v h so_far is refused =
-    fails_first e (with_field f (get_or rest 0 0) v.0) (λ g. fields_from (length rest - 1) g v.1) total refused (goes_first (string_at (take (length rest - 1) (drop 1 rest))) v (field_then rest f) total is (fields-step f rest total h so_far))
+    stops_first e (with_field f (get_or rest 0 0) v.0) (λ g. fields_from (length rest - 1) g v.1) total refused (goes_first (string_at (take (length rest - 1) (drop 1 rest))) v (field_then rest f) total is (fields-step f rest total h so_far))
 
 pub fields-shorter : (rest : List ℕ) (v : List ℕ × List ℕ) → 1 ≤ length rest → string_at (take (length rest - 1) (drop 1 rest)) ≡ Ok v → length v.1 < length rest
 fields-shorter rest v h is =

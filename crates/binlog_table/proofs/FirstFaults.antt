@@ -1,5 +1,5 @@
 -- A step that failed, and one that didn't.
-use Rattle.std.proofs.Common.{◌≡◌, ℕ, true, List, Result, Ok, refl, sym, ap, ◌∙◌}
+use Rattle.std.proofs.Common.{◌≡◌, ℕ, true, List, Result, Ok, Err, refl, sym, ap, ◌∙◌}
 use Rattle.std.specs.Str.{IsUtf8}
 use Rattle.std.proofs.lemmas.Bool.{eq-eqb}
 use Rattle.std.proofs.lemmas.Str.{utf8_valid_len-IsUtf8}
@@ -14,6 +14,17 @@ fails_first {A = A} OutOfMemory r f total h so_far = tt
 fails_first {A = A} BadMap r f total h so_far = sym so_far ∙ ap (λ (x : Result A MapFault). x >>= f) h
 fails_first {A = A} (TypeOutOfProfile t) r f total h so_far = sym so_far ∙ ap (λ (x : Result A MapFault). x >>= f) h
 fails_first {A = A} NoColumnNames r f total h so_far = sym so_far ∙ ap (λ (x : Result A MapFault). x >>= f) h
+
+-- a step that failed has its fault
+pub fails_as : {A : Type 0} (e : MapFault) (r : Result A MapFault) → r ≡ Err e → Fails e r
+fails_as OutOfMemory r h = tt
+fails_as BadMap r h = h
+fails_as (TypeOutOfProfile t) r h = h
+fails_as NoColumnNames r h = h
+
+-- its fault is that of the whole
+pub stops_first : {A B : Type 0} (e : MapFault) (r : Result A MapFault) (f : A → Result B MapFault) (total : Result B MapFault) → r ≡ Err e → (r >>= f) ≡ total → total ≡ Err e
+stops_first {A = A} e r f total h so_far = sym so_far ∙ ap (λ (x : Result A MapFault). x >>= f) h
 
 -- what went well goes on
 pub goes_first : {A B : Type 0} (r : Result A MapFault) (x : A) (f : A → Result B MapFault) (total : Result B MapFault) → r ≡ Ok x → (r >>= f) ≡ total → f x ≡ total

@@ -1,7 +1,12 @@
 -- The loop over the columns of a key.
-use Rattle.std.proofs.Common.{◌≡◌, ℕ, zero, suc, ◌-◌, ◌<◌, ◌≤◌, Bool, true, false, List, [], ◌∷◌, ◌++◌, length, drop, take, Option, Some, None, Result, Ok, refl, sym, ap, subst, ◌∙◌, arith}
-use Rattle.std.proofs.lemmas.List.{length-drop, length-take}
+use Rattle.std.proofs.Common.{◌≡◌, ℕ, zero, suc, ◌-◌, ◌<◌, ◌≤◌, Bool, true, false, cond, ltb, List, [], ◌∷◌, ◌++◌, length, drop, take, set, get_or, Option, Some, None, Result, Ok, Err, refl, sym, ap, subst, ◌∙◌, arith}
+use Rattle.std.specs.Prelude.{not, ◌||◌, ◌==◌}
+use Rattle.std.specs.List.{list_any}
+use Rattle.std.proofs.lemmas.Bool.{eqb-true, eqb-false, ltb-true, ltb-false}
+use Rattle.std.proofs.lemmas.List.{length-drop, length-take, length-set, get_or-set_same, get_or-set_other, get_or_past}
+use Rattle.std.proofs.lemmas.List.Folds.{list_any-append}
 use Rattle.binlog_table.specs.declared.fault.MapFault.{MapFault}
+use Rattle.binlog_table.specs.declared.fault.MapFault.TheVariants.{BadMap}
 use Rattle.binlog_table.specs.MapResult.{◌>>=◌, Fails}
 use Rattle.binlog_table.specs.Packed.{IsPacked, packed_at}
 use Rattle.binlog_table.specs.Columns.{or_bad}
@@ -92,3 +97,50 @@ pub key-end : (prefixed : Bool) (count : ℕ) (key rest : List ℕ) (total : Res
 unfolding key_from
 key-end prefixed count key [] total h so_far = sym so_far
 key-end prefixed count key (b ∷ bs) total h so_far = absurd (omega arith)
+
+-- ---- a mark for each column that stands in the key
+
+abbrev pub Marks : List Bool → List ℕ → Type 0
+Marks seen key = (i : ℕ) → i < length seen → get_or seen i true ≡ list_any (λ y. y == i) key
+
+pub marks-more : (seen : List Bool) (key : List ℕ) (index : ℕ) → index < length seen → Marks seen key → Marks (set seen index true) (key ++ index ∷ [])
+marks-more seen key index within marks i lt = by_test (index == i) refl
+  where
+    below : i < length seen
+    below = omega (arith, length-set seen index true)
+
+    with_last : list_any (λ y. y == i) (key ++ index ∷ []) ≡ (list_any (λ y. y == i) key || (index == i || false))
+    with_last = list_any-append (λ y. y == i) key (index ∷ [])
+
+    or_true : (a : Bool) → (a || true) ≡ true
+    or_true true = refl
+    or_true false = refl
+
+    or_false : (a : Bool) → (a || false) ≡ a
+    or_false true = refl
+    or_false false = refl
+
+    by_test : (b : Bool) → (index == i) ≡ b → get_or (set seen index true) i true ≡ list_any (λ y. y == i) (key ++ index ∷ [])
+    by_test true t =
+        let same : index ≡ i = eqb-true _ _ t in
+        subst (λ (k : ℕ). get_or (set seen index true) k true ≡ true) same (get_or-set_same seen index true true within)
+        ∙ sym (with_last ∙ ap (λ (b : Bool). list_any (λ y. y == i) key || (b || false)) t ∙ or_true (list_any (λ y. y == i) key))
+    by_test false t =
+        let other : i ≡ index → ⊥ = λ e. eqb-false _ _ t (sym e) in
+        get_or-set_other seen index i true true other ∙ marks i below
+        ∙ sym (with_last ∙ ap (λ (b : Bool). list_any (λ y. y == i) key || (b || false)) t ∙ or_false (list_any (λ y. y == i) key))
+
+pub marks-index : (count : ℕ) (seen : List Bool) (key : List ℕ) (index : ℕ) → length seen ≡ count → Marks seen key → new_index count key index ≡ cond (get_or seen index true) (Err BadMap) (Ok index)
+marks-index count seen key index len marks = by_test (ltb index count) refl
+  where
+    unmarked : (a : Bool) → ◌≡◌ {A = Result ℕ MapFault} (cond (not a) (Ok index) (Err BadMap)) (cond a (Err BadMap) (Ok index))
+    unmarked true = refl
+    unmarked false = refl
+
+    by_test : (b : Bool) → ltb index count ≡ b → new_index count key index ≡ cond (get_or seen index true) (Err BadMap) (Ok index)
+    by_test true t =
+        let below : index < length seen = omega (arith, ltb-true _ _ t) in
+        rw (t, marks index below) (unmarked (list_any (λ y. y == index) key))
+    by_test false t =
+        let beyond : length seen ≤ index = omega (arith, ltb-false _ _ t) in
+        rw (t, get_or_past seen index true beyond) refl

@@ -26,3 +26,4 @@ pub mod Cursor
 pub mod DecimalDigitLists
 pub mod OneReading
 pub mod MapListReadings
+pub mod ValueNameReadings

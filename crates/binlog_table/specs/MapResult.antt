@@ -20,3 +20,8 @@ Fails NoColumnNames read = read ≡ Err NoColumnNames
 abbrev pub Gives : {X Y : Type 0} → (X → Y) → Result X MapFault → Result Y MapFault → Type 0
 Gives view (Ok x) read = read ≡ Ok (view x)
 Gives view (Err e) read = Fails e read
+
+-- The same of a function that takes no memory.
+abbrev pub GivesExactly : {X Y : Type 0} → (X → Y) → Result X MapFault → Result Y MapFault → Type 0
+GivesExactly view (Ok x) read = read ≡ Ok (view x)
+GivesExactly view (Err e) read = read ≡ Err e

@@ -1,5 +1,5 @@
 ghost use Rattle.std.specs.Prelude.{◌≡◌, ◌≤◌, ◌+◌, ◌*◌, length};
-ghost use Rattle.binlog_table.specs.MapResult.{Gives};
+ghost use Rattle.binlog_table.specs.MapResult.{GivesExactly};
 ghost use Rattle.binlog_table.specs.Fields.{bytes_at, number_at, string_at, name_at, is_utf8, text_of, with_field, fields_from, no_fields};
 ghost use Rattle.binlog_table.specs.FieldsShown.{fields_view};
 
@@ -25,7 +25,7 @@ pub(crate) struct Fields<'a> {
 
 /// So many bytes, and those after them.
 pub(crate) fn bytes_at(len: u64, bytes: &[u8]) -> Result<(&[u8], &[u8]), MapFault>
-    ensures { Gives (λ x. (x.0.now, x.1.now)) result (bytes_at len bytes.now) }
+    ensures { GivesExactly (λ x. (x.0.now, x.1.now)) result (bytes_at len bytes.now) }
 {
     if len > bytes.len() as u64 {
         return Err(MapFault::BadMap);
@@ -36,7 +36,7 @@ pub(crate) fn bytes_at(len: u64, bytes: &[u8]) -> Result<(&[u8], &[u8]), MapFaul
 /// A packed number, and the bytes after it.
 #[tactic(auto, unfolding(crate::specs::Fields::number_at))]
 pub(crate) fn number_at(bytes: &[u8]) -> Result<(u64, &[u8]), MapFault>
-    ensures { Gives (λ x. (x.0, x.1.now)) result (number_at bytes.now) }
+    ensures { GivesExactly (λ x. (x.0, x.1.now)) result (number_at bytes.now) }
 {
     match packed_at(bytes) {
         None => Err(MapFault::BadMap),
@@ -47,7 +47,7 @@ pub(crate) fn number_at(bytes: &[u8]) -> Result<(u64, &[u8]), MapFault>
 /// A packed length, as many bytes, and the bytes after them.
 #[tactic(auto, unfolding(crate::specs::Fields::string_at))]
 pub(crate) fn string_at(bytes: &[u8]) -> Result<(&[u8], &[u8]), MapFault>
-    ensures { Gives (λ x. (x.0.now, x.1.now)) result (string_at bytes.now) }
+    ensures { GivesExactly (λ x. (x.0.now, x.1.now)) result (string_at bytes.now) }
 {
     let (len, rest) = number_at(bytes)?;
     bytes_at(len, rest)
@@ -55,7 +55,7 @@ pub(crate) fn string_at(bytes: &[u8]) -> Result<(&[u8], &[u8]), MapFault>
 
 /// The bytes as text.
 pub(crate) fn text_of(bytes: &[u8]) -> Result<&str, MapFault>
-    ensures { Gives (λ s. s.now) result (text_of bytes.now) }
+    ensures { GivesExactly (λ s. s.now) result (text_of bytes.now) }
 {
     match str::from_utf8(bytes) {
         Ok(text) => Ok(text),
@@ -66,7 +66,7 @@ pub(crate) fn text_of(bytes: &[u8]) -> Result<&str, MapFault>
 /// A short name, and the bytes after its zero byte.
 #[tactic(auto, unfolding(crate::specs::Fields::name_at))]
 pub(crate) fn name_at(bytes: &[u8]) -> Result<(&str, &[u8]), MapFault>
-    ensures { Gives (λ x. (x.0.now, x.1.now)) result (name_at bytes.now) }
+    ensures { GivesExactly (λ x. (x.0.now, x.1.now)) result (name_at bytes.now) }
 {
     let [len, rest @ ..] = bytes else {
         return Err(MapFault::BadMap);
@@ -80,7 +80,7 @@ pub(crate) fn name_at(bytes: &[u8]) -> Result<(&str, &[u8]), MapFault>
 
 /// The fields with one more: two of one type are refused, and both keys.
 fn with_field<'a>(fields: Fields<'a>, kind: u8, value: &'a [u8]) -> Result<Fields<'a>, MapFault>
-    ensures { Gives fields_view result (with_field (fields_view fields.entry) kind value.now) }
+    ensures { GivesExactly fields_view result (with_field (fields_view fields.entry) kind value.now) }
 {
     match kind {
         1 if fields.signs.is_none() => Ok(Fields {
@@ -114,7 +114,7 @@ fn with_field<'a>(fields: Fields<'a>, kind: u8, value: &'a [u8]) -> Result<Field
 
 /// The optional fields, to the end of the bytes.
 pub(crate) fn fields_of(bytes: &[u8]) -> Result<Fields<'_>, MapFault>
-    ensures { Gives fields_view result (fields_from (length bytes.now) no_fields bytes.now) }
+    ensures { GivesExactly fields_view result (fields_from (length bytes.now) no_fields bytes.now) }
 {
     let mut fields = Fields {
         signs: None,

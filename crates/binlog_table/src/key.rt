@@ -1,7 +1,8 @@
-ghost use Rattle.std.specs.Prelude.{◌≡◌, ◌≤◌, ◌<◌, [], length, option_map, IfOk};
+ghost use Rattle.std.specs.Prelude.{◌≡◌, ◌≤◌, ◌<◌, [], length, option_map, IfOk, Ok, Err, true, slice_index_or, if◌then◌else◌};
 ghost use Rattle.std.specs.List.{All};
-ghost use Rattle.binlog_table.specs.MapResult.{Gives};
-ghost use Rattle.binlog_table.specs.Names.{index_at, new_index, key_from, key_in};
+ghost use Rattle.binlog_table.specs.MapResult.{Gives, GivesExactly};
+ghost use Rattle.binlog_table.specs.declared.fault.MapFault.TheVariants.{BadMap};
+ghost use Rattle.binlog_table.specs.Names.{index_at, key_from, key_in};
 
 use crate::fault::MapFault;
 use crate::fields::number_at;
@@ -10,7 +11,7 @@ use std::alloc::Global;
 /// The index of a column, and after it the length of a prefix where the key has prefixes; the bytes after them.
 #[tactic(auto, unfolding(crate::specs::Names::index_at))]
 fn index_at(prefixed: bool, bytes: &[u8]) -> Result<(u64, &[u8]), MapFault>
-    ensures { Gives (λ x. (x.0, x.1.now)) result (index_at prefixed bytes.now) }
+    ensures { GivesExactly (λ x. (x.0, x.1.now)) result (index_at prefixed bytes.now) }
 {
     let (index, rest) = number_at(bytes)?;
     if !prefixed {
@@ -20,16 +21,16 @@ fn index_at(prefixed: bool, bytes: &[u8]) -> Result<(u64, &[u8]), MapFault>
     Ok((index, rest))
 }
 
-/// An index below the count that isn't in the key.
-fn new_index(count: usize, key: &[usize], index: u64) -> Result<usize, MapFault>
-    ensures value { Gives (λ i. i) result (new_index count key.now index) }
-    ensures below { IfOk result (λ i. i < count) }
+/// The index of a column that wasn't seen yet; `seen` has a mark for each column.
+fn unseen(seen: &[bool], index: u64) -> Result<usize, MapFault>
+    ensures value { GivesExactly (λ i. i) result (if slice_index_or seen.now index true then Err BadMap else Ok index) }
+    ensures below { IfOk result (λ i. i < length seen.now) }
 {
-    if index >= count as u64 {
+    if index >= seen.len() as u64 {
         return Err(MapFault::BadMap);
     }
     let index = index as usize;
-    if key.contains(&index) {
+    if seen[index] {
         return Err(MapFault::BadMap);
     }
     Ok(index)
@@ -46,10 +47,12 @@ fn key_from(
     ensures below { IfOk result (λ v. All (λ i. i < count) v.items) }
 {
     let mut key = Vec::new(alloc);
+    let mut seen = vec![in alloc; false; count]?;
     let mut rest = bytes;
     while !rest.is_empty() {
         let (index, after) = index_at(prefixed, rest)?;
-        let index = new_index(count, &key, index)?;
+        let index = unseen(&seen, index)?;
+        seen[index] = true;
         key.push(index)?;
         rest = after;
     }

@@ -7,8 +7,8 @@ ghost use Rattle.binlog_table.specs.RowsBody.{RowsParts, IsRowsBody, rows_parts_
 ghost use Rattle.binlog_table.specs.Rows.{Row, AreRows, SpellsRows, rows_in, rows_of};
 ghost use Rattle.binlog_table.specs.Map.{Sections, sections_at};
 ghost use Rattle.binlog_table.specs.MapBody.{IsMapBody};
-ghost use Rattle.binlog_table.specs.MapLists.{AreColumnNames, AreKeyColumns};
-ghost use Rattle.binlog_table.specs.Names.{column_names, key_from};
+ghost use Rattle.binlog_table.specs.MapLists.{AreColumnNames, AreKeyColumns, AreNameLists, AreValueNames};
+ghost use Rattle.binlog_table.specs.Names.{column_names, key_from, value_names};
 
 /// No spelling of a value begins another under the same column, and no image begins another under the same columns.
 pub fn spellings_are_apart()
@@ -63,4 +63,15 @@ pub fn map_fields_are_read()
         key_from (length value) prefixed count [] value ≡ Ok key → AreKeyColumns prefixed count key value }
     ensures key_only { (prefixed : Bool) (count : ℕ) (value key : List ℕ) →
         AreKeyColumns prefixed count key value → key_from (length value) prefixed count [] value ≡ Ok key }
+{}
+
+/// What reading finds in the fields of the names of ENUM and SET values is spelled there, and it misses none. A field
+/// spells one list of lists of names.
+pub fn value_names_are_read()
+    ensures found { (columns : List Column) (sets enums : Option (List ℕ)) (names : List (Option (List (List ℕ)))) →
+        value_names columns sets enums ≡ Ok names → AreValueNames columns sets enums names }
+    ensures only { (columns : List Column) (sets enums : Option (List ℕ)) (names : List (Option (List (List ℕ)))) →
+        AreValueNames columns sets enums names → value_names columns sets enums ≡ Ok names }
+    ensures one { (value : List ℕ) (lists others : List (List (List ℕ))) →
+        AreNameLists lists value → AreNameLists others value → lists ≡ others }
 {}

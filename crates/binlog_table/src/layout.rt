@@ -1,5 +1,5 @@
 ghost use Rattle.std.specs.Prelude.{◌≡◌, ◌≤◌, ◌<◌, ◌+◌, IsTrue, IfOk, length};
-ghost use Rattle.binlog_table.specs.MapResult.{Gives};
+ghost use Rattle.binlog_table.specs.MapResult.{GivesExactly};
 ghost use Rattle.binlog_table.specs.Columns.{plain_layout, has_byte, byte_layout, has_pair, pair_layout, string_layout, bits_layout, decimal_layout, prefix_len, layout_at, byte_at, pair_at, real_type, string_len};
 
 use crate::column::{ByteCount, DecimalSize, EnumSize, Layout, Precision};
@@ -87,7 +87,7 @@ fn decimal_layout(precision: u8, scale: u8) -> Option<Layout>
 
 /// STRING, by its real type and its length.
 fn string_layout(real: u8, len: u16) -> Result<Layout, MapFault>
-    ensures { Gives (λ l. l) result (string_layout real len) }
+    ensures { GivesExactly (λ l. l) result (string_layout real len) }
 {
     match real {
         254 => Ok(Layout::Text(prefix(len))),
@@ -106,7 +106,7 @@ fn string_layout(real: u8, len: u16) -> Result<Layout, MapFault>
 
 /// The layout of a type with two bytes of metadata.
 fn pair_layout(code: u8, first: u8, second: u8) -> Result<Layout, MapFault>
-    ensures { Gives (λ l. l) result (pair_layout code first second) }
+    ensures { GivesExactly (λ l. l) result (pair_layout code first second) }
 {
     match code {
         16 => match bits_layout(first, second) {
@@ -132,7 +132,7 @@ fn pair_layout(code: u8, first: u8, second: u8) -> Result<Layout, MapFault>
 /// The layout of a column's type, and how many bytes of the metadata it takes.
 #[tactic(auto, unfolding(crate::specs::Columns::layout_at))]
 pub(crate) fn layout_at(code: u8, metadata: &[u8]) -> Result<(Layout, usize), MapFault>
-    ensures layout { Gives (λ x. x) result (layout_at code metadata.now) }
+    ensures layout { GivesExactly (λ x. x) result (layout_at code metadata.now) }
     ensures within { IfOk result (λ x. x.1 ≤ length metadata.now) }
 {
     if let Some(layout) = plain_layout(code) {

@@ -32,7 +32,7 @@ pub use digits::Digits;
 pub use fault::{BadRows, MapFault};
 pub use laws::{
     images_are_read, map_bodies_have_one_reading, map_fields_are_read, rows_are_read,
-    rows_bodies_have_one_reading, spellings_are_apart,
+    rows_bodies_have_one_reading, spellings_are_apart, value_names_are_read,
 };
 pub use row_view::{Cells, RowView, Side};
 pub use rows::{RowSpan, next_row};

@@ -1,5 +1,5 @@
 ghost use Rattle.std.specs.Prelude.{◌≡◌, ◌≤◌, ◌+◌, ◌/◌};
-ghost use Rattle.binlog_table.specs.MapResult.{Gives};
+ghost use Rattle.binlog_table.specs.MapResult.{GivesExactly};
 ghost use Rattle.binlog_table.specs.Map.{sections_at, sections_after, counted};
 ghost use Rattle.binlog_table.specs.SectionsShown.{sections_view};
 
@@ -21,7 +21,7 @@ pub(crate) struct Sections<'a> {
 
 /// A number of columns that a table may have.
 fn counted(count: u64) -> Result<u64, MapFault>
-    ensures { Gives (λ n. n) result (counted count) }
+    ensures { GivesExactly (λ n. n) result (counted count) }
 {
     if count < 1 || count > 4096 {
         return Err(MapFault::BadMap);
@@ -40,7 +40,7 @@ fn nulls_len(count: u64) -> u64
 /// The sections after the table id and the flags.
 #[tactic(auto, unfolding(crate::specs::Map::sections_after))]
 fn sections_after(table_id: u64, bytes: &[u8]) -> Result<Sections<'_>, MapFault>
-    ensures { Gives sections_view result (sections_after table_id bytes.now) }
+    ensures { GivesExactly sections_view result (sections_after table_id bytes.now) }
 {
     let (schema, rest) = name_at(bytes)?;
     let (table, rest) = name_at(rest)?;
@@ -63,7 +63,7 @@ fn sections_after(table_id: u64, bytes: &[u8]) -> Result<Sections<'_>, MapFault>
 /// The sections of a body.
 #[tactic(auto, unfolding(crate::specs::Map::sections_at))]
 pub(crate) fn sections_at(body: &[u8]) -> Result<Sections<'_>, MapFault>
-    ensures { Gives sections_view result (sections_at body.now) }
+    ensures { GivesExactly sections_view result (sections_at body.now) }
 {
     if body.len() < 8 {
         return Err(MapFault::BadMap);

@@ -229,7 +229,7 @@ fn names_of_values(rt: HostRuntime) -> Result<(), Fail> {
     Ok(())
 }
 
-/// A map of so many TINY columns.
+/// A map of so many TINY columns, all of them in the key.
 fn wide_map(alloc: Global, count: u16) -> Result<Vec<u8>, AllocError> {
     let mut body = Vec::new(alloc);
     body.extend_from_slice(&MAP[..14])?;
@@ -256,6 +256,14 @@ fn wide_map(alloc: Global, count: u16) -> Result<Vec<u8>, AllocError> {
         body.push(4)?;
         body.extend_from_slice(format!(in alloc; "{column:04x}")?.as_bytes())?;
     }
+    body.push(8)?;
+    body.push(0xfd)?;
+    let key_len = u32::from(count) * 3;
+    body.extend_from_slice(&key_len.to_le_bytes()[..3])?;
+    for column in 0..count {
+        body.push(0xfc)?;
+        body.extend_from_slice(&column.to_le_bytes())?;
+    }
     Ok(body)
 }
 
@@ -267,6 +275,7 @@ fn many_columns(rt: HostRuntime) -> Result<(), Fail> {
     assert_eq!(rt; map.column_count(), 4096);
     assert_eq!(rt; map.column_name(4095), "0fff");
     assert_eq!(rt; map.name_order().len(), 4096);
+    assert_eq!(rt; map.key(), map.name_order());
     let body = wide_map(alloc, 4097)?;
     assert_eq!(rt; TableMap::read(alloc, &body).err(), Some(MapFault::BadMap));
     Ok(())

@@ -1,5 +1,6 @@
 //! Values of each type: what a column's type and metadata make of some bytes.
 
+use crate::cell::Cell;
 use crate::column::Column;
 use crate::image::value_at;
 use crate::layout::layout_at;
@@ -146,4 +147,28 @@ fn vectors(rt: HostRuntime) -> Result<(), Fail> {
     check(&rt, DECIMALS)?;
     check(&rt, DAYS_AND_TIMES)?;
     check(&rt, TEXTS_AND_BITS)
+}
+
+/// A length of 48, and the bytes whose base64 is its alphabet.
+const NO_TEXT: &[u8] = &[
+    0x30, 0, 0x10, 0x83, 0x10, 0x51, 0x87, 0x20, 0x92, 0x8b, 0x30, 0xd3, 0x8f, 0x41, 0x14, 0x93,
+    0x51, 0x55, 0x97, 0x61, 0x96, 0x9b, 0x71, 0xd7, 0x9f, 0x82, 0x18, 0xa3, 0x92, 0x59, 0xa7, 0xa2,
+    0x9a, 0xab, 0xb2, 0xdb, 0xaf, 0xc3, 0x1c, 0xb3, 0xd3, 0x5d, 0xb7, 0xe3, 0x9e, 0xbb, 0xf3, 0xdf,
+    0xbf,
+];
+
+#[test]
+fn bytes_that_are_no_text(rt: HostRuntime) -> Result<(), Fail> {
+    let (layout, _) = layout_at(15, &[0x50, 0])?;
+    let column = Column {
+        layout,
+        unsigned: false,
+    };
+    let Some((Cell::Bytes(bytes), len)) = value_at(&column, NO_TEXT) else {
+        assert!(rt; false, "bytes");
+        return Ok(());
+    };
+    assert_eq!(rt; len, 49);
+    assert_eq!(rt; bytes, &NO_TEXT[1..]);
+    Ok(())
 }

@@ -3,6 +3,7 @@ use Rattle.std.specs.declared.alloc.Global.{Global}
 use Rattle.std.proofs.lemmas.Result.{err_from_is_err_and}
 use Rattle.std.proofs.lemmas.List.{map_push}
 use Rattle.binlog_table.specs.Names.{strings_at}
+use Rattle.binlog_table.proofs.FirstFaults.{fails_as}
 use Rattle.binlog_table.proofs.StringLoop.{strings-no_string, strings-more, strings-done}
 use Rattle.binlog_table.proofs.value_names.strings_of.Goals as goal
 
@@ -12,7 +13,7 @@ bytes_in v = v.items
 pub returns-in_err-text : goal.returns-in_err-text
 returns-in_err-text c =
     let p = err_from_is_err_and c.from_residual.result c.from_residual.ensures.1 in
-    rw (p.1, p.2) (strings-no_string c.args.count c.loop.counter (map bytes_in c.loop.strings.items) c.loop.rest.now (strings_at c.args.count c.args.bytes.now) c.loop-test.true c.loop.invariant c.in_err-text.field-0.0 c.in_err-text.ensures)
+    rw (p.1, p.2) (strings-no_string c.args.count c.loop.counter (map bytes_in c.loop.strings.items) c.loop.rest.now (strings_at c.args.count c.args.bytes.now) c.loop-test.true c.loop.invariant c.in_err-text.field-0.0 (fails_as _ _ c.in_err-text.ensures))
 
 pub loop-preserved : goal.loop-preserved
 loop-preserved c =
