@@ -1,4 +1,5 @@
 pub mod DecimalLemmas
+pub mod FilterLemmas
 pub mod IntervalLemmas
 pub mod JoiningLemmas
 pub mod NamesLemmas
