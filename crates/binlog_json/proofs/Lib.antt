@@ -1,0 +1,10 @@
+pub mod DigitLists
+pub mod ValueNames
+pub mod Utf8
+pub mod Folding
+pub mod Putting
+pub mod NameOrders
+pub mod Floats
+pub mod Quoting
+pub mod PieceTexts
+pub mod LineParts

@@ -1,0 +1,12 @@
+-- The members of an image as they are written.
+use Rattle.std.specs.Prelude.{ℕ, List, [], ◌∷◌, if◌then◌else◌}
+use Rattle.serde_json.specs.Data.{Members, member, no_members}
+use Rattle.binlog_table.specs.RowImage.{RowImage}
+use Rattle.binlog_table.specs.NameOrder.{name_of}
+use Rattle.binlog_json.specs.Values.{is_absent}
+use Rattle.binlog_json.specs.Images.{cell_in, value_data}
+
+-- those of the present columns, in the order in which the columns stand
+abbrev pub listed : RowImage → List ℕ → Members
+listed image [] = no_members
+listed image (column ∷ columns) = if is_absent (cell_in image column) then listed image columns else member (name_of image.table.names column) (value_data image column) (listed image columns)

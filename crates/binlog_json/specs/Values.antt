@@ -1,0 +1,97 @@
+-- What a column's value is in JSON.
+use Rattle.std.specs.Prelude.{ℕ, ◌-◌, ◌/◌, ◌%◌, ◌^◌, List, [], ◌∷◌, ◌==◌, Bool, if◌then◌else◌, nat_lt, length, codes, Option, Some, None, slice_get}
+use Rattle.std.specs.List.{join_with_byte}
+use Rattle.std.specs.Str.{is_utf8}
+use Rattle.base64.specs.Engines.{standard}
+use Rattle.base64.specs.GeneralPurpose.{encode_of}
+use Rattle.serde_json.specs.Data.{Data, null, number, string, object, member, no_members, unsigned}
+use Rattle.serde_json.specs.Find.{of_integer}
+use Rattle.binlog_table.specs.Value as cell
+use Rattle.binlog_table.specs.Value.{Content}
+use Rattle.binlog_json.specs.Texts.{padded, decimal_text, date_text, date_time_text, time_text, timestamp_text}
+
+-- an object of one member, whose value is the bytes in base64, with padding
+abbrev pub encoded_data : List ℕ → List ℕ → Data
+encoded_data name bytes = object (member name (string (encode_of standard bytes)) no_members)
+
+-- text where the bytes are UTF-8
+abbrev pub bytes_data : List ℕ → Data
+bytes_data bytes = if is_utf8 bytes then string bytes else encoded_data (codes "base64") bytes
+
+abbrev pub whole_number : ℕ → Data
+whole_number n = number (unsigned n)
+
+-- the name where there is one, else the number
+abbrev pub name_data : ℕ → Option (List ℕ) → Data
+name_data n None = whole_number n
+name_data n (Some name) = bytes_data name
+
+-- A value of an ENUM whose names are known: 0 is the empty name, 1 the first name. A value without a name is its number.
+abbrev pub enum_data : Option (List (List ℕ)) → ℕ → Data
+enum_data None n = whole_number n
+enum_data (Some names) n = if n == 0 then bytes_data [] else name_data n (slice_get names (n - 1))
+
+-- the names whose bit is set, of which the first has the lowest
+abbrev pub members_in : List (List ℕ) → ℕ → List (List ℕ)
+members_in [] n = []
+members_in (name ∷ names) n = if n % 2 == 1 then name ∷ members_in names (n / 2) else members_in names (n / 2)
+
+-- A value of a SET whose names are known: the names of its bits, parted by commas. A value with a bit that has no name is
+-- its number.
+abbrev pub set_data : Option (List (List ℕ)) → ℕ → Data
+set_data None n = whole_number n
+set_data (Some names) n = if nat_lt n (2 ^ length names) then bytes_data (join_with_byte 44 (members_in names n)) else whole_number n
+
+-- The text of a decimal, a date or a time; nothing for other values.
+abbrev pub shown_text : Content → List ℕ
+shown_text cell.absent = []
+shown_text cell.null = []
+shown_text (cell.int z) = []
+shown_text (cell.uint n) = []
+shown_text (cell.decimal d) = decimal_text d
+shown_text (cell.year n) = padded 4 n
+shown_text (cell.date d) = date_text d
+shown_text (cell.date_time t) = date_time_text t
+shown_text (cell.time t) = time_text t
+shown_text (cell.timestamp t) = timestamp_text t
+shown_text (cell.bits n) = []
+shown_text (cell.enum n) = []
+shown_text (cell.set n) = []
+shown_text (cell.bytes b) = []
+shown_text (cell.raw b) = []
+
+-- The value under the names of its column's values, where there are some. An absent one, which is never asked for, is null.
+abbrev pub content_data : Option (List (List ℕ)) → Content → Data
+content_data names cell.absent = null
+content_data names cell.null = null
+content_data names (cell.int z) = number (of_integer z)
+content_data names (cell.uint n) = whole_number n
+content_data names (cell.decimal d) = string (decimal_text d)
+content_data names (cell.year n) = string (padded 4 n)
+content_data names (cell.date d) = string (date_text d)
+content_data names (cell.date_time t) = string (date_time_text t)
+content_data names (cell.time t) = string (time_text t)
+content_data names (cell.timestamp t) = string (timestamp_text t)
+content_data names (cell.bits n) = whole_number n
+content_data names (cell.enum n) = enum_data names n
+content_data names (cell.set n) = set_data names n
+content_data names (cell.bytes b) = bytes_data b
+content_data names (cell.raw b) = encoded_data (codes "raw") b
+
+-- the image doesn't have the column
+abbrev pub is_absent : Content → Bool
+is_absent cell.absent = Bool.true
+is_absent cell.null = Bool.false
+is_absent (cell.int z) = Bool.false
+is_absent (cell.uint n) = Bool.false
+is_absent (cell.decimal d) = Bool.false
+is_absent (cell.year n) = Bool.false
+is_absent (cell.date d) = Bool.false
+is_absent (cell.date_time t) = Bool.false
+is_absent (cell.time t) = Bool.false
+is_absent (cell.timestamp t) = Bool.false
+is_absent (cell.bits n) = Bool.false
+is_absent (cell.enum n) = Bool.false
+is_absent (cell.set n) = Bool.false
+is_absent (cell.bytes b) = Bool.false
+is_absent (cell.raw b) = Bool.false

@@ -1,0 +1,19 @@
+//! Row changes as lines of JSON.
+#![tactic(auto)]
+
+mod append;
+mod cells;
+mod digits;
+mod names;
+mod pieces;
+mod room;
+mod texts;
+mod tree;
+mod values;
+mod writer;
+
+pub use tree::line;
+pub use writer::LineWriter;
+
+#[cfg(test)]
+mod tests;

@@ -1,0 +1,88 @@
+//! The texts of ENUM and SET values, by the names that the table map has for them.
+ghost use Rattle.std.specs.Prelude.{◌≡◌, ◌<◌, ◌++◌, ◌||◌, [], length, unwrap_or, if◌then◌else◌, IfOk, OnOk, MatchOption};
+ghost use Rattle.std.specs.List.{join_with_byte};
+ghost use Rattle.binlog_table.specs.MapWords.{value_names_in};
+ghost use Rattle.binlog_json.specs.Values.{bytes_data, whole_number, enum_data, set_data, members_in};
+ghost use Rattle.binlog_json.specs.Joining.{comma_if};
+
+use binlog_table::RowView;
+use std::alloc::AllocError;
+
+/// The name of an ENUM's value. None where the value is written as its number.
+pub(crate) fn enum_name<'a>(image: &RowView<'a>, column: usize, number: u16) -> Option<&'a [u8]>
+    requires { column < length image.now.table.columns }
+    ensures { MatchOption result
+        (enum_data (value_names_in image.now.table column) number ≡ whole_number number)
+        (λ name. enum_data (value_names_in image.now.table column) number ≡ bytes_data name.now) }
+{
+    let _ = image.value_name_count(column)?;
+    if number == 0 {
+        return Some(b"");
+    }
+    image.value_name(column, usize::from(number))
+}
+
+/// Whether each bit of a SET's value has a name. Where one has none, the value is written as its number.
+pub(crate) fn is_named(image: &RowView<'_>, column: usize, number: u64) -> bool
+    requires { column < length image.now.table.columns }
+    ensures { set_data (value_names_in image.now.table column) number
+        ≡ (if result
+        then bytes_data (join_with_byte 44
+        (members_in (unwrap_or (value_names_in image.now.table column) []) number))
+        else whole_number number) }
+{
+    match image.value_name_count(column) {
+        None => false,
+        Some(count) => count >= 64 || number >> count == 0,
+    }
+}
+
+/// The names of a SET's value, parted by commas, at the end of a text.
+pub(crate) fn append_names(
+    text: &mut Vec<u8>,
+    image: &RowView<'_>,
+    column: usize,
+    number: u64,
+) -> Result<(), AllocError>
+    requires { column < length image.now.table.columns }
+    ensures { OnOk result (text.new.items ≡ text.old.items ++ join_with_byte 44
+        (members_in (unwrap_or (value_names_in image.now.table column) []) number)) }
+{
+    let mut rest = number;
+    let mut later = false;
+    for place in 1..65 {
+        let Some(name) = image.value_name(column, place) else {
+            return Ok(());
+        };
+        later = append_member(text, later, rest % 2 == 1, name)?;
+        rest /= 2;
+    }
+    Ok(())
+}
+
+/// Appends a name that is a member, behind a comma where something stands before it. Whether something stands there then.
+pub(crate) fn append_member(
+    text: &mut Vec<u8>,
+    later: bool,
+    is_member: bool,
+    name: &[u8],
+) -> Result<bool, AllocError>
+    ensures text { OnOk result (text.new.items
+        ≡ text.old.items ++ (if is_member then comma_if later ++ name.now else [])) }
+    ensures later { IfOk result (λ now. now ≡ (is_member || later)) }
+{
+    if !is_member {
+        return Ok(later);
+    }
+    append_name(text, later, name)?;
+    Ok(true)
+}
+
+fn append_name(text: &mut Vec<u8>, later: bool, name: &[u8]) -> Result<(), AllocError>
+    ensures { OnOk result (text.new.items ≡ text.old.items ++ (comma_if later ++ name.now)) }
+{
+    if later {
+        text.push(b',')?;
+    }
+    text.extend_from_slice(name)
+}

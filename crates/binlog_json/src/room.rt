@@ -1,0 +1,24 @@
+//! Room to work in, kept from line to line.
+
+use crate::append::Quoter;
+use std::alloc::Global;
+
+/// What a value is put together in.
+#[derive(Drop)]
+pub(crate) struct Room {
+    pub(crate) quoter: Quoter,
+    /// A text before it is quoted.
+    pub(crate) text: String,
+    /// The names of a SET's value.
+    pub(crate) names: Vec<u8>,
+}
+
+impl Room {
+    pub(crate) fn new(alloc: Global) -> Room {
+        Room {
+            quoter: Quoter::new(alloc),
+            text: String::new(alloc),
+            names: Vec::new(alloc),
+        }
+    }
+}

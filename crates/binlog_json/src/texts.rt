@@ -1,0 +1,106 @@
+//! The texts of decimals, dates and times, at the end of a text.
+ghost use Rattle.std.specs.Prelude.{◌≡◌, ◌++◌, ◌==◌, OnOk, string_bytes};
+ghost use Rattle.std.specs.List.{list_all};
+ghost use Rattle.binlog_table.specs.DecimalShown.{decimal_view};
+ghost use Rattle.binlog_table.specs.Value.{view as cell_view};
+ghost use Rattle.binlog_json.specs.Values.{shown_text};
+ghost use Rattle.binlog_json.specs.Texts.{sign_text, decimal_text, fraction_text, day_text, clock_text, date_text, date_time_text, time_text, timestamp_text};
+
+use crate::digits::{push_fraction, push_number, push_padded, push_point, push_whole};
+use binlog_table::{Cell, Date, DateTime, DecimalView, Time, Timestamp};
+use std::alloc::AllocError;
+
+pub(crate) fn push_decimal(text: &mut String, decimal: DecimalView<'_>) -> Result<(), AllocError>
+    ensures { OnOk result (string_bytes text.new
+        ≡ string_bytes text.old ++ decimal_text (decimal_view decimal.entry)) }
+{
+    let digits = decimal.digits();
+    let digits = digits.as_slice();
+    let (whole, fraction) = digits.split_at(digits.len() - decimal.scale());
+    push_sign(text, decimal.is_negative() && !are_zeros(digits))?;
+    push_whole(text, whole)?;
+    push_point(text, fraction)
+}
+
+fn are_zeros(digits: &[u8]) -> bool
+    ensures { result ≡ list_all (λ digit. digit == 0) digits.now }
+{
+    digits.iter().all(|digit| *digit == 0)
+}
+
+fn push_sign(text: &mut String, is_negative: bool) -> Result<(), AllocError>
+    ensures { OnOk result (string_bytes text.new ≡ string_bytes text.old ++ sign_text is_negative) }
+{
+    if is_negative {
+        text.push('-')?;
+    }
+    Ok(())
+}
+
+fn push_day(text: &mut String, year: u32, month: u8, day: u8) -> Result<(), AllocError>
+    ensures { OnOk result (string_bytes text.new
+        ≡ string_bytes text.old ++ day_text year month day) }
+{
+    push_padded(text, year, 4)?;
+    text.push('-')?;
+    push_padded(text, u32::from(month), 2)?;
+    text.push('-')?;
+    push_padded(text, u32::from(day), 2)
+}
+
+fn push_clock(text: &mut String, hour: u16, minute: u8, second: u8) -> Result<(), AllocError>
+    ensures { OnOk result (string_bytes text.new
+        ≡ string_bytes text.old ++ clock_text hour minute second) }
+{
+    push_padded(text, u32::from(hour), 2)?;
+    text.push(':')?;
+    push_padded(text, u32::from(minute), 2)?;
+    text.push(':')?;
+    push_padded(text, u32::from(second), 2)
+}
+
+pub(crate) fn push_date(text: &mut String, date: Date) -> Result<(), AllocError>
+    ensures { OnOk result (string_bytes text.new ≡ string_bytes text.old ++ date_text date) }
+{
+    push_day(text, u32::from(date.year), date.month, date.day)
+}
+
+pub(crate) fn push_date_time(text: &mut String, time: DateTime) -> Result<(), AllocError>
+    ensures { OnOk result (string_bytes text.new ≡ string_bytes text.old ++ date_time_text time) }
+{
+    push_day(text, time.year, time.month, time.day)?;
+    text.push(' ')?;
+    push_clock(text, u16::from(time.hour), time.minute, time.second)?;
+    push_fraction(text, time.precision, time.fraction)
+}
+
+pub(crate) fn push_time(text: &mut String, time: Time) -> Result<(), AllocError>
+    ensures { OnOk result (string_bytes text.new ≡ string_bytes text.old ++ time_text time) }
+{
+    push_sign(text, time.negative)?;
+    push_clock(text, time.hour, time.minute, time.second)?;
+    push_fraction(text, time.precision, time.fraction)
+}
+
+pub(crate) fn push_timestamp(text: &mut String, time: Timestamp) -> Result<(), AllocError>
+    ensures { OnOk result (string_bytes text.new ≡ string_bytes text.old ++ timestamp_text time) }
+{
+    push_number(text, u64::from(time.seconds))?;
+    push_fraction(text, time.precision, time.fraction)
+}
+
+/// The text of a value that is written as a string of digits and signs: a decimal, a date or a time.
+pub(crate) fn push_cell(text: &mut String, cell: Cell<'_>) -> Result<(), AllocError>
+    ensures { OnOk result (string_bytes text.new
+        ≡ string_bytes text.old ++ shown_text (cell_view cell.entry)) }
+{
+    match cell {
+        Cell::Decimal(decimal) => push_decimal(text, decimal),
+        Cell::Year(year) => push_padded(text, u32::from(year), 4),
+        Cell::Date(date) => push_date(text, date),
+        Cell::DateTime(time) => push_date_time(text, time),
+        Cell::Time(time) => push_time(text, time),
+        Cell::Timestamp(time) => push_timestamp(text, time),
+        _ => Ok(()),
+    }
+}
