@@ -1,3 +1,5 @@
+pub mod Parsing
+mod WordFacts
 pub mod Commands
 pub mod Sending
 pub mod Coming

@@ -4,3 +4,4 @@ pub mod Lines
 pub mod Sending
 pub mod Runs
 pub mod Coming
+pub mod Statuses

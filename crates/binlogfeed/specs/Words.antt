@@ -1,9 +1,12 @@
 -- The command line, and what its words ask for.
-use Rattle.std.specs.Prelude.{◌≡◌, ℕ, List, [], map, true, Option, Some, unwrap_or, codes}
+use Rattle.std.specs.Prelude.{◌≡◌, ◌≢◌, ◌⊎◌, ℕ, List, [], map, true, Option, Some, Result, Ok, Err, unwrap_or, codes}
 use Rattle.std.specs.Borrow.{Bor}
 use Rattle.clap.specs.Lexer.{usize_max}
-use Rattle.clap.specs.Words.{App, Rule, Row, Text, new_app, new_rule, with_rule, with_subcommand, all_of}
+use Rattle.clap.specs.Words.{App, Rule, Row, Text, Kinds, IsAmong, new_app, new_rule, with_rule, with_subcommand, all_of, subcommand_of, fault_of, kind_of}
 use Rattle.clap.specs.declared.builder.action.ArgAction.TheVariants.{Append}
+use Rattle.clap.specs.declared.error.Error.{Error}
+use Rattle.clap.specs.declared.error.kind.ErrorKind.{ErrorKind}
+use Rattle.clap.specs.declared.error.kind.ErrorKind.TheVariants as kind
 use Rattle.binlogfeed.specs.declared.words.Order.{Order}
 use Rattle.binlogfeed.specs.declared.words.Order.TheVariants.{Transactions}
 use Rattle.binlogfeed.specs.declared.words.WordsFault.{WordsFault}
@@ -34,6 +37,37 @@ files_given rows = unwrap_or (all_of (codes "file") rows) []
 abbrev pub IsOrder : Order → Option (Text × List Row) → Type 0
 IsOrder (Transactions files) found =
     (rows : List Row) × (found ≡ Some (codes "transactions", rows)) × (texts files.items ≡ files_given rows)
+
+-- the words name no subcommand that the program has
+abbrev pub NamesNone : Option (Text × List Row) → Type 0
+NamesNone found = (rows : List Row) → found ≢ Some (codes "transactions", rows)
+
+-- what a subcommand found comes to; memory may be wanting for any
+abbrev pub AnswersFound : Option (Text × List Row) → Result Order WordsFault → Type 0
+AnswersFound found (Ok order) = IsOrder order found
+AnswersFound found (Err (Help error)) = ⊥
+AnswersFound found (Err CommandLine) = NamesNone found
+AnswersFound found (Err OutOfMemory) = Unit {0}
+
+-- what an error of the parser comes to
+abbrev pub IsFaultOf : Error → WordsFault → Type 0
+IsFaultOf given (Help error) = (error ≡ given) × (kind_of given ≡ kind.DisplayHelp)
+IsFaultOf given CommandLine = (kind_of given ≢ kind.DisplayHelp) × (kind_of given ≢ kind.OutOfMemory)
+IsFaultOf given OutOfMemory = kind_of given ≡ kind.OutOfMemory
+
+-- a fault that is no call for help
+abbrev pub HasMistake : Kinds → Type 0
+HasMistake kinds = (mistake : ErrorKind) × IsAmong mistake kinds × (mistake ≢ kind.DisplayHelp)
+
+-- What words come to that the parser refuses by these kinds of fault, or takes, where there are none, and finds this subcommand.
+abbrev pub AnswersParse : Kinds → Option (Text × List Row) → Result Order WordsFault → Type 0
+AnswersParse faults found (Ok order) = (faults ≡ []) × IsOrder order found
+AnswersParse faults found (Err (Help error)) = IsAmong kind.DisplayHelp faults × (kind_of error ≡ kind.DisplayHelp)
+AnswersParse faults found (Err CommandLine) = HasMistake faults ⊎ ((faults ≡ []) × NamesNone found)
+AnswersParse faults found (Err OutOfMemory) = Unit {0}
+
+abbrev pub AnswersWords : List Text → Result Order WordsFault → Type 0
+AnswersWords words = AnswersParse (fault_of program_app words) (subcommand_of program_app words)
 
 abbrev pub words_status_of : WordsFault → ℕ
 words_status_of (Help error) = 0

@@ -1,8 +1,8 @@
 //! What the words of the command line ask for.
-ghost use Rattle.std.specs.Prelude.{◌≡◌, ◌∷◌, ◌++◌, IfOk, OnOk, map, codes, false, Some, option_map, string_bytes};
-ghost use Rattle.clap.specs.Words.{rule_of, app_of, rows_of, found_of, subcommand_of, subcommand_rows_of};
+ghost use Rattle.std.specs.Prelude.{◌≡◌, ◌∷◌, ◌++◌, IfOk, OnOk, codes, false, true, Some, option_map, string_bytes};
+ghost use Rattle.clap.specs.Words.{rule_of, app_of, rows_of, found_of, subcommand_of, subcommand_rows_of, takes};
 ghost use Rattle.clap.specs.declared.builder.command.Command.TheViews.{out-Command as fields_of};
-ghost use Rattle.binlogfeed.specs.Words.{file_rule, transactions_app, program_app, IsOrder, texts, files_given, words_status_of, words_text};
+ghost use Rattle.binlogfeed.specs.Words.{file_rule, transactions_app, program_app, IsOrder, IsFaultOf, AnswersFound, AnswersWords, texts, files_given, words_status_of, words_text};
 
 use clap::error::ErrorKind;
 use clap::{Arg, ArgAction, ArgMatches, Command, Error};
@@ -90,7 +90,10 @@ fn program<'a>(alloc: Global) -> Result<Command<'a>, AllocError>
         .subcommand(transactions_command(alloc)?)
 }
 
-fn refused(error: Error) -> WordsFault {
+/// Why the words ask for nothing, by the parser's error.
+fn refused(error: Error) -> WordsFault
+    ensures { IsFaultOf error result }
+{
     match error.kind() {
         ErrorKind::DisplayHelp => WordsFault::Help(error),
         ErrorKind::OutOfMemory => WordsFault::OutOfMemory,
@@ -100,7 +103,8 @@ fn refused(error: Error) -> WordsFault {
 
 /// What the words ask for. The program's name is the first of them.
 pub fn read_words<'a>(alloc: Global, words: &'a [&'a str]) -> Result<Order<'a>, WordsFault>
-    ensures { IfOk result (λ order. IsOrder order (subcommand_of program_app (map (λ word. word.now) words.entry.now))) }
+    ensures answers { AnswersWords (texts words.entry.now) result }
+    ensures taken { takes program_app (texts words.entry.now) ≡ true → AnswersFound (subcommand_of program_app (texts words.entry.now)) result }
 {
     let command = program(alloc)?;
     let matches = match command.try_get_matches_from(words) {
@@ -111,7 +115,7 @@ pub fn read_words<'a>(alloc: Global, words: &'a [&'a str]) -> Result<Order<'a>, 
 }
 
 fn order_of<'a>(alloc: Global, matches: &ArgMatches<'a>) -> Result<Order<'a>, WordsFault>
-    ensures { IfOk result (λ order. IsOrder order (subcommand_rows_of matches.now)) }
+    ensures { AnswersFound (subcommand_rows_of matches.now) result }
 {
     let Some((name, inner)) = matches.subcommand() else {
         return Err(WordsFault::CommandLine);
@@ -124,7 +128,7 @@ fn order_of<'a>(alloc: Global, matches: &ArgMatches<'a>) -> Result<Order<'a>, Wo
 }
 
 fn transactions<'a>(alloc: Global, matches: &ArgMatches<'a>) -> Result<Order<'a>, WordsFault>
-    ensures { IfOk result (λ order. IsOrder order (Some (codes "transactions", rows_of (found_of matches.now)))) }
+    ensures { AnswersFound (Some (codes "transactions", rows_of (found_of matches.now))) result }
 {
     let files = files(alloc, matches)?;
     Ok(Order::Transactions { files })

@@ -1,0 +1,57 @@
+-- What the parser's answer comes to.
+use Rattle.std.proofs.Common.{◌≡◌, refl, Bool, true, false, true≢false, List, [], Option, Result, Ok, Err, ap, sym, subst, ◌∙◌, inl, inr}
+use Rattle.clap.specs.Words.{App, Row, Text, Kinds, IsAmong, HasKind, HasMatchesOf, kind_of, fault_of, is_simple_and_free, subcommand_of, subcommand_rows_of, takes}
+use Rattle.clap.specs.declared.parser.matches.ArgMatches.{ArgMatches}
+use Rattle.clap.specs.declared.error.Error.{Error}
+use Rattle.clap.specs.declared.error.kind.ErrorKind.{ErrorKind}
+use Rattle.clap.specs.declared.error.kind.ErrorKind.TheVariants as kind
+use Rattle.binlogfeed.specs.Words.{program_app, IsFaultOf, AnswersFound, AnswersParse}
+use Rattle.binlogfeed.specs.declared.words.Order.{Order}
+use Rattle.binlogfeed.specs.declared.words.WordsFault.{WordsFault}
+use Rattle.binlogfeed.specs.declared.words.WordsFault.TheVariants.{Help, CommandLine, OutOfMemory}
+
+abbrev is_help : ErrorKind → Bool
+is_help kind.DisplayHelp = true
+is_help _ = false
+
+help_is_no_memory : (k : ErrorKind) → k ≡ kind.DisplayHelp → k ≡ kind.OutOfMemory → ⊥
+help_is_no_memory k h m = true≢false (ap is_help (sym h ∙ m))
+
+pub parse_refused : (faults : Kinds) (found : Option (Text × List Row)) (error : Error) (fault : WordsFault)
+    → HasKind faults error → IsFaultOf error fault → AnswersParse faults found (Err fault)
+parse_refused faults found error (Help shown) (inl memory) h = absurd (help_is_no_memory (kind_of error) h.1 memory)
+parse_refused faults found error (Help shown) (inr among) h = (subst (λ (k : ErrorKind). IsAmong k faults) h.1 among, ap kind_of h.0 ∙ h.1)
+parse_refused faults found error CommandLine (inl memory) h = absurd (h.1 memory)
+parse_refused faults found error CommandLine (inr among) h = inl (kind_of error, among, h.0)
+parse_refused faults found error OutOfMemory k h = tt
+
+pub parse_taken : (faults : Kinds) (found : Option (Text × List Row)) (result : Result Order WordsFault)
+    → faults ≡ [] → AnswersFound found result → AnswersParse faults found result
+parse_taken faults found (Ok order) none h = (none, h)
+parse_taken faults found (Err (Help error)) none h = absurd h
+parse_taken faults found (Err CommandLine) none h = inr (none, h)
+parse_taken faults found (Err OutOfMemory) none h = tt
+
+-- where only memory may be wanting
+pub parse_without_memory : (found : Option (Text × List Row)) (error : Error) (fault : WordsFault)
+    → kind_of error ≡ kind.OutOfMemory → IsFaultOf error fault → AnswersFound found (Err fault)
+parse_without_memory found error (Help shown) memory h = absurd (help_is_no_memory (kind_of error) h.1 memory)
+parse_without_memory found error CommandLine memory h = absurd (h.1 memory)
+parse_without_memory found error OutOfMemory memory h = tt
+
+-- what holds of a command holds of the program's
+pub faults_found : (app : App) (words : List Text) (error : Error) → app ≡ program_app
+    → (is_simple_and_free app ≡ true → HasKind (fault_of app words) error) → HasKind (fault_of program_app words) error
+faults_found app words error same h = subst (λ (a : App). is_simple_and_free a ≡ true → HasKind (fault_of a words) error) same h refl
+
+pub no_fault_found : (app : App) (words : List Text) → app ≡ program_app
+    → (is_simple_and_free app ≡ true → fault_of app words ≡ []) → fault_of program_app words ≡ []
+no_fault_found app words same h = subst (λ (a : App). is_simple_and_free a ≡ true → fault_of a words ≡ []) same h refl
+
+pub only_memory : (app : App) (words : List Text) (error : Error) → app ≡ program_app
+    → (takes app words ≡ true → kind_of error ≡ kind.OutOfMemory) → takes program_app words ≡ true → kind_of error ≡ kind.OutOfMemory
+only_memory app words error same h = subst (λ (a : App). takes a words ≡ true → kind_of error ≡ kind.OutOfMemory) same h
+
+pub found_by : (app : App) (words : List Text) (matches : ArgMatches) (result : Result Order WordsFault) → app ≡ program_app
+    → HasMatchesOf app words matches → AnswersFound (subcommand_rows_of matches) result → AnswersFound (subcommand_of program_app words) result
+found_by app words matches result same h = subst (λ (found : Option (Text × List Row)). AnswersFound found result) (subst (λ (a : App). HasMatchesOf a words matches) same h refl).1
