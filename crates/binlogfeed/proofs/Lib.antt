@@ -1,8 +1,9 @@
 pub mod Parsing
 mod WordFacts
-pub mod Commands
+pub mod Building
 pub mod Sending
 pub mod Coming
-pub mod Ending
+pub mod Ends
 pub mod Naming
 pub mod Answering
+pub mod Listing

@@ -1,14 +1,19 @@
 -- What the parser's answer comes to.
-use Rattle.std.proofs.Common.{◌≡◌, refl, Bool, true, false, true≢false, List, [], Option, Result, Ok, Err, ap, sym, subst, ◌∙◌, inl, inr}
-use Rattle.clap.specs.Words.{App, Row, Text, Kinds, IsAmong, HasKind, HasMatchesOf, kind_of, fault_of, is_simple_and_free, subcommand_of, subcommand_rows_of, takes}
+use Rattle.std.proofs.Common.{◌≡◌, refl, Bool, true, false, true≢false, List, [], Option, Some, None, option_map, Result, Ok, Err, ap, sym, subst, ◌∙◌, inl, inr}
+use Rattle.std.specs.Prelude.{Box}
+use Rattle.std.specs.Box.{box_value}
+use Rattle.std.specs.declared.alloc.Global.{Global}
+use Rattle.clap.specs.Words.{App, Row, Text, Kinds, IsAmong, HasKind, HasMatchesOf, kind_of, fault_of, is_simple_and_free, subcommand_name_of, subcommand_of, subcommand_rows, subcommand_rows_of, takes}
 use Rattle.clap.specs.declared.parser.matches.ArgMatches.{ArgMatches}
+use Rattle.clap.specs.declared.parser.matches.ArgMatches.TheViews.{out-ArgMatches, out-SubCommand}
+use Rattle.clap.specs.declared.parser.matches.SubCommand.{SubCommand}
 use Rattle.clap.specs.declared.error.Error.{Error}
 use Rattle.clap.specs.declared.error.kind.ErrorKind.{ErrorKind}
 use Rattle.clap.specs.declared.error.kind.ErrorKind.TheVariants as kind
 use Rattle.binlogfeed.specs.Words.{program_app, IsFaultOf, AnswersFound, AnswersParse}
 use Rattle.binlogfeed.specs.declared.words.Order.{Order}
-use Rattle.binlogfeed.specs.declared.words.WordsFault.{WordsFault}
-use Rattle.binlogfeed.specs.declared.words.WordsFault.TheVariants.{Help, CommandLine, OutOfMemory}
+use Rattle.binlogfeed.specs.declared.words_fault.WordsFault.{WordsFault}
+use Rattle.binlogfeed.specs.declared.words_fault.WordsFault.TheVariants.{Help, CommandLine, EventName, Set, OutOfMemory}
 
 abbrev is_help : ErrorKind → Bool
 is_help kind.DisplayHelp = true
@@ -23,6 +28,8 @@ parse_refused faults found error (Help shown) (inl memory) h = absurd (help_is_n
 parse_refused faults found error (Help shown) (inr among) h = (subst (λ (k : ErrorKind). IsAmong k faults) h.1 among, ap kind_of h.0 ∙ h.1)
 parse_refused faults found error CommandLine (inl memory) h = absurd (h.1 memory)
 parse_refused faults found error CommandLine (inr among) h = inl (kind_of error, among, h.0)
+parse_refused faults found error (EventName word) k h = absurd h
+parse_refused faults found error (Set at) k h = absurd h
 parse_refused faults found error OutOfMemory k h = tt
 
 pub parse_taken : (faults : Kinds) (found : Option (Text × List Row)) (result : Result Order WordsFault)
@@ -30,6 +37,8 @@ pub parse_taken : (faults : Kinds) (found : Option (Text × List Row)) (result :
 parse_taken faults found (Ok order) none h = (none, h)
 parse_taken faults found (Err (Help error)) none h = absurd h
 parse_taken faults found (Err CommandLine) none h = inr (none, h)
+parse_taken faults found (Err (EventName word)) none h = (none, h)
+parse_taken faults found (Err (Set at)) none h = (none, h)
 parse_taken faults found (Err OutOfMemory) none h = tt
 
 -- where only memory may be wanting
@@ -37,6 +46,8 @@ pub parse_without_memory : (found : Option (Text × List Row)) (error : Error) (
     → kind_of error ≡ kind.OutOfMemory → IsFaultOf error fault → AnswersFound found (Err fault)
 parse_without_memory found error (Help shown) memory h = absurd (help_is_no_memory (kind_of error) h.1 memory)
 parse_without_memory found error CommandLine memory h = absurd (h.1 memory)
+parse_without_memory found error (EventName word) memory h = absurd h
+parse_without_memory found error (Set at) memory h = absurd h
 parse_without_memory found error OutOfMemory memory h = tt
 
 -- what holds of a command holds of the program's
@@ -55,3 +66,16 @@ only_memory app words error same h = subst (λ (a : App). takes a words ≡ true
 pub found_by : (app : App) (words : List Text) (matches : ArgMatches) (result : Result Order WordsFault) → app ≡ program_app
     → HasMatchesOf app words matches → AnswersFound (subcommand_rows_of matches) result → AnswersFound (subcommand_of program_app words) result
 found_by app words matches result same h = subst (λ (found : Option (Text × List Row)). AnswersFound found result) (subst (λ (a : App). HasMatchesOf a words matches) same h refl).1
+
+-- the subcommand with a name and rows
+pub named_is : (sub : Option (Box SubCommand Global)) (name : Text) (rows : List Row)
+    → Some name ≡ option_map (λ b. (out-SubCommand (box_value b)).name.now) sub → Some rows ≡ option_map (λ p. p.1) (subcommand_rows sub)
+    → Some (name, rows) ≡ subcommand_rows sub
+named_is None name rows h k = cc
+named_is (Some b) name rows h k = cc
+
+pub named_answers : (matches : ArgMatches) (name given : Text) (rows : List Row) (result : Result Order WordsFault)
+    → Some given ≡ subcommand_name_of matches → Some rows ≡ option_map (λ p. p.1) (subcommand_rows_of matches) → given ≡ name
+    → AnswersFound (Some (name, rows)) result → AnswersFound (subcommand_rows_of matches) result
+named_answers matches name given rows result h k same = subst (λ (found : Option (Text × List Row)). AnswersFound found result)
+    (ap (λ (t : Text). Some (t, rows)) (sym same) ∙ named_is (out-ArgMatches matches).subcommand given rows h k)

@@ -2,6 +2,8 @@
 use Rattle.std.specs.Prelude.{ℕ, ◌<◌, List, [], ◌∷◌, ◌++◌, length, slice_get, unwrap_or, codes, decimal}
 use Rattle.binlog_feed.specs.declared.what.What.{What}
 use Rattle.binlog_feed.specs.declared.what.What.TheVariants.{BadMagic, NoFormat, BadFormat, ChecksumUnknown, BadLength, EventAfterEnd, KindOutOfProfile, BadBody, Xa, RollbackTo, OutOfPlace, RotationMismatch, BadMap, TypeOutOfProfile, NoColumnNames, BadRows, UnmappedTable, SourceChanged}
+use Rattle.binlog_feed.specs.declared.fault.OpenFeedFault.{OpenFeedFault}
+use Rattle.binlog_feed.specs.declared.fault.OpenFeedFault.TheVariants as open_faults
 use Rattle.binlogfeed.specs.declared.fault.RunFault.{RunFault}
 use Rattle.binlogfeed.specs.declared.fault.RunFault.TheVariants.{DuplicateFile, Log, Read, Write, OutOfMemory}
 
@@ -41,6 +43,10 @@ fault_text names (Log fault) =
 fault_text names (Read file) = codes "binlogfeed: read fault: " ++ name_of names file
 fault_text names Write = codes "binlogfeed: write fault"
 fault_text names OutOfMemory = codes "binlogfeed: out of memory"
+
+-- the fault of a run over files that can't be opened together
+abbrev pub fault_of_opening : OpenFeedFault → RunFault
+fault_of_opening (open_faults.DuplicateFile file) = DuplicateFile file
 
 -- what is wrong with the logs is 1, with the words 2; a device that fails is 4
 abbrev pub status_of : RunFault → ℕ

@@ -1,4 +1,5 @@
 pub mod Faults
+pub mod Options
 pub mod Words
 pub mod Lines
 pub mod Sending

@@ -5,21 +5,28 @@ use Rattle.binlog_frame.specs.declared.open_fault.OpenFault.{OpenFault}
 use Rattle.binlog_frame.specs.declared.open_fault.OpenFault.TheVariants as open_faults
 use Rattle.binlog_frame.specs.Files.{RefusesOne}
 use Rattle.binlogfeed.specs.Faults.{status_of}
-use Rattle.binlogfeed.specs.Runs.{Answers}
+use Rattle.binlogfeed.specs.Runs.{Output, AnswersIfBegun, units_output, changes_output}
 use Rattle.binlogfeed.specs.Words.{AnswersWords, words_status_of}
 use Rattle.binlogfeed.specs.declared.fault.RunFault.{RunFault}
+use Rattle.binlogfeed.specs.declared.program.Task.{Task}
+use Rattle.binlogfeed.specs.declared.program.Task.TheVariants.{Transactions, Read}
 use Rattle.binlogfeed.specs.declared.words.Order.{Order}
-use Rattle.binlogfeed.specs.declared.words.WordsFault.{WordsFault}
+use Rattle.binlogfeed.specs.declared.words_fault.WordsFault.{WordsFault}
 
 -- a run that comes to the end of the files is 0
 abbrev pub run_status_of : Result ℕ RunFault → ℕ
 run_status_of (Ok count) = 0
 run_status_of (Err fault) = status_of fault
 
--- the status of a run over files with these names and contents is that of what it answers
-abbrev pub EndsRun : List (List ℕ) → List (List ℕ) → Option (List ℕ) → Option (List ℕ) → ℕ → Type 0
-EndsRun names contents old new status =
-    (result : Result ℕ RunFault) × Answers names contents old new result × (status ≡ run_status_of result)
+-- what a task has to write of files with these names and contents
+abbrev pub output_of : Task → List (List ℕ) → List (List ℕ) → Output
+output_of Transactions names contents = units_output names contents
+output_of (Read filter start) names contents = changes_output names contents filter
+
+-- the status of a run that has this to write is that of what it answers
+abbrev pub EndsRun : List (List ℕ) → Output → Option (List ℕ) → Option (List ℕ) → ℕ → Type 0
+EndsRun names output old new status =
+    (result : Result ℕ RunFault) × AnswersIfBegun names output old new result × (status ≡ run_status_of result)
 
 abbrev pub open_status_of : OpenFault → ℕ
 open_status_of (open_faults.BadName path) = 4

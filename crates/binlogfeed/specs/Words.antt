@@ -1,30 +1,46 @@
 -- The command line, and what its words ask for.
-use Rattle.std.specs.Prelude.{◌≡◌, ◌≢◌, ◌⊎◌, ℕ, List, [], map, true, Option, Some, Result, Ok, Err, unwrap_or, codes}
+use Rattle.std.specs.Prelude.{◌≡◌, ◌≢◌, ◌⊎◌, ◌++◌, ℕ, List, [], map, true, Option, Some, Result, Ok, Err, unwrap_or, codes, decimal, string_bytes}
 use Rattle.std.specs.Borrow.{Bor}
 use Rattle.clap.specs.Lexer.{usize_max}
 use Rattle.clap.specs.Words.{App, Rule, Row, Text, Kinds, IsAmong, new_app, new_rule, with_rule, with_subcommand, all_of, subcommand_of, fault_of, kind_of}
-use Rattle.clap.specs.declared.builder.action.ArgAction.TheVariants.{Append}
+use Rattle.clap.specs.declared.builder.action.ArgAction.TheVariants as action
 use Rattle.clap.specs.declared.error.Error.{Error}
 use Rattle.clap.specs.declared.error.kind.ErrorKind.{ErrorKind}
 use Rattle.clap.specs.declared.error.kind.ErrorKind.TheVariants as kind
+use Rattle.binlog_feed.specs.declared.feed.Start.TheVariants.{Beginning}
+use Rattle.binlogfeed.specs.Options.{IsFilterOf, AnswersOptions}
 use Rattle.binlogfeed.specs.declared.words.Order.{Order}
-use Rattle.binlogfeed.specs.declared.words.Order.TheVariants.{Transactions}
-use Rattle.binlogfeed.specs.declared.words.WordsFault.{WordsFault}
-use Rattle.binlogfeed.specs.declared.words.WordsFault.TheVariants.{Help, CommandLine, OutOfMemory}
+use Rattle.binlogfeed.specs.declared.words.Order.TheVariants.{Transactions, Read}
+use Rattle.binlogfeed.specs.declared.words_fault.WordsFault.{WordsFault}
+use Rattle.binlogfeed.specs.declared.words_fault.WordsFault.TheVariants.{Help, CommandLine, EventName, Set, OutOfMemory}
 
 -- one file or more
 abbrev pub file_rule : Rule
 file_rule = record (new_rule (codes "file")) {
   required = true;
-  action = Some Append;
+  action = Some action.Append;
   range = Some (record { start_inclusive = 1; end_inclusive = usize_max });
 }
+
+-- an option with one value, which has a name in the help
+abbrev pub option_rule : Text → Rule
+option_rule name = record (new_rule name) { long = Some name; action = Some action.Set; value_names = 1 }
+
+abbrev pub with_option : App → Text → App
+with_option app name = with_rule app (option_rule name)
 
 abbrev pub transactions_app : App
 transactions_app = with_rule (new_app (codes "transactions")) file_rule
 
+abbrev pub read_app : App
+read_app = with_rule
+    (with_option (with_option (with_option (with_option (with_option (with_option (new_app (codes "read"))
+    (codes "only-events")) (codes "only-tables")) (codes "ignored-tables")) (codes "only-schemas")) (codes "ignored-schemas"))
+    (codes "auto-position"))
+    file_rule
+
 abbrev pub program_app : App
-program_app = with_subcommand (new_app (codes "binlogfeed")) transactions_app.top
+program_app = with_subcommand (with_subcommand (new_app (codes "binlogfeed")) transactions_app.top) read_app.top
 
 abbrev pub texts : List (Bor Text) → List Text
 texts = map (λ word. word.now)
@@ -37,22 +53,33 @@ files_given rows = unwrap_or (all_of (codes "file") rows) []
 abbrev pub IsOrder : Order → Option (Text × List Row) → Type 0
 IsOrder (Transactions files) found =
     (rows : List Row) × (found ≡ Some (codes "transactions", rows)) × (texts files.items ≡ files_given rows)
+IsOrder (Read filter start files) found =
+    (rows : List Row) × (found ≡ Some (codes "read", rows))
+    × IsFilterOf rows filter × (start ≡ Beginning) × (texts files.items ≡ files_given rows)
 
 -- the words name no subcommand that the program has
 abbrev pub NamesNone : Option (Text × List Row) → Type 0
-NamesNone found = (rows : List Row) → found ≢ Some (codes "transactions", rows)
+NamesNone found = (rows : List Row) → (found ≢ Some (codes "transactions", rows)) × (found ≢ Some (codes "read", rows))
+
+-- the words name the subcommand `read`, whose options have this fault
+abbrev pub HasOptionFault : Option (Text × List Row) → WordsFault → Type 0
+HasOptionFault found fault = (rows : List Row) × (found ≡ Some (codes "read", rows)) × AnswersOptions rows (Err fault)
 
 -- what a subcommand found comes to; memory may be wanting for any
 abbrev pub AnswersFound : Option (Text × List Row) → Result Order WordsFault → Type 0
 AnswersFound found (Ok order) = IsOrder order found
 AnswersFound found (Err (Help error)) = ⊥
 AnswersFound found (Err CommandLine) = NamesNone found
+AnswersFound found (Err (EventName word)) = HasOptionFault found (EventName word)
+AnswersFound found (Err (Set at)) = HasOptionFault found (Set at)
 AnswersFound found (Err OutOfMemory) = Unit {0}
 
 -- what an error of the parser comes to
 abbrev pub IsFaultOf : Error → WordsFault → Type 0
 IsFaultOf given (Help error) = (error ≡ given) × (kind_of given ≡ kind.DisplayHelp)
 IsFaultOf given CommandLine = (kind_of given ≢ kind.DisplayHelp) × (kind_of given ≢ kind.OutOfMemory)
+IsFaultOf given (EventName word) = ⊥
+IsFaultOf given (Set at) = ⊥
 IsFaultOf given OutOfMemory = kind_of given ≡ kind.OutOfMemory
 
 -- a fault that is no call for help
@@ -64,6 +91,8 @@ abbrev pub AnswersParse : Kinds → Option (Text × List Row) → Result Order W
 AnswersParse faults found (Ok order) = (faults ≡ []) × IsOrder order found
 AnswersParse faults found (Err (Help error)) = IsAmong kind.DisplayHelp faults × (kind_of error ≡ kind.DisplayHelp)
 AnswersParse faults found (Err CommandLine) = HasMistake faults ⊎ ((faults ≡ []) × NamesNone found)
+AnswersParse faults found (Err (EventName word)) = (faults ≡ []) × HasOptionFault found (EventName word)
+AnswersParse faults found (Err (Set at)) = (faults ≡ []) × HasOptionFault found (Set at)
 AnswersParse faults found (Err OutOfMemory) = Unit {0}
 
 abbrev pub AnswersWords : List Text → Result Order WordsFault → Type 0
@@ -72,10 +101,14 @@ AnswersWords words = AnswersParse (fault_of program_app words) (subcommand_of pr
 abbrev pub words_status_of : WordsFault → ℕ
 words_status_of (Help error) = 0
 words_status_of CommandLine = 2
+words_status_of (EventName word) = 2
+words_status_of (Set at) = 2
 words_status_of OutOfMemory = 5
 
 -- the line of a fault, without its line feed
 abbrev pub words_text : WordsFault → List ℕ
 words_text (Help error) = []
 words_text CommandLine = codes "binlogfeed: command line refused"
+words_text (EventName word) = codes "binlogfeed: bad --only-events: " ++ string_bytes word
+words_text (Set at) = codes "binlogfeed: bad --auto-position: element " ++ decimal at
 words_text OutOfMemory = codes "binlogfeed: out of memory"

@@ -2,7 +2,7 @@
 ghost use Rattle.std.specs.Prelude.{◌≡◌, ◌++◌, OnOk, string_bytes};
 ghost use Rattle.binlogfeed.specs.Faults.{what_text, fault_text, status_of, IsNamed};
 
-use binlog_feed::{LogFault, What};
+use binlog_feed::{LogFault, OpenFeedFault, What};
 use binlog_frame::Logs;
 use std::alloc::AllocError;
 use std::fmt;
@@ -20,6 +20,18 @@ pub enum RunFault {
     Write,
     /// A growth was refused.
     OutOfMemory,
+}
+
+impl From<OpenFeedFault> for RunFault {
+    ghost use Rattle.binlogfeed.specs.Faults.{fault_of_opening};
+
+    ghost from_gives = { λ opening fault. fault ≡ fault_of_opening opening };
+
+    fn from(opening: OpenFeedFault) -> RunFault {
+        match opening {
+            OpenFeedFault::DuplicateFile(file) => RunFault::DuplicateFile(file),
+        }
+    }
 }
 
 /// Shows what is wrong with an event by its name, with its number in round brackets where it has one.

@@ -1,3 +1,5 @@
+mod change_faults;
+mod changes;
 mod faults;
 mod files;
 mod outcome;

@@ -1,7 +1,7 @@
 //! Text on its way to a writer.
 ghost use Rattle.std.specs.Prelude.{◌≡◌, ◌++◌, [], OnOk, OnErr};
 ghost use Rattle.std.specs.Io.KnownBytes.{Appends};
-ghost use Rattle.binlogfeed.specs.Sending.{AppendsBeginning, Adds};
+ghost use Rattle.binlogfeed.specs.Sending.{AppendsBeginning, IsSending, Adds};
 
 use std::alloc::AllocError;
 use std::io::Write;
@@ -64,17 +64,20 @@ pub(crate) fn add_line<W: Write>(
 ) -> Result<(), AddFault>
     ensures { Adds (W.contents out.old) (W.contents out.new) waiting.old.items waiting.new.items line.now result }
 {
-    if waiting.extend_from_slice(line.as_bytes()).is_err() {
-        return Err(AddFault::OutOfMemory);
-    }
+    waiting.extend_from_slice(line.as_bytes())?;
+    send_enough(out, waiting)?;
+    Ok(())
+}
+
+/// Sends what waits where it is enough.
+pub(crate) fn send_enough<W: Write>(out: &mut W, waiting: &mut Vec<u8>) -> Result<(), WriteFault>
+    ensures ok { OnOk result (IsSending (W.contents out.old) (W.contents out.new) waiting.new.items waiting.old.items) }
+    ensures err { OnErr result (AppendsBeginning (W.contents out.old) (W.contents out.new) waiting.old.items) }
+{
     if waiting.len() < ENOUGH {
         return Ok(());
     }
-    match write_text(out, waiting.as_slice()) {
-        Ok(()) => {
-            waiting.clear();
-            Ok(())
-        }
-        Err(_) => Err(AddFault::Write),
-    }
+    write_text(out, waiting.as_slice())?;
+    waiting.clear();
+    Ok(())
 }

@@ -1,5 +1,5 @@
 use Rattle.std.proofs.Common.{[]}
 use Rattle.binlogfeed.proofs.program.perform.Given as goal
 
-abbrev pub ghost-transactions : goal.ghost-transactions
-ghost-transactions g a = []
+abbrev pub ghost-carry_out : goal.ghost-carry_out
+ghost-carry_out g a = []

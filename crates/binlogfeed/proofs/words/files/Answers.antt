@@ -2,7 +2,7 @@ use Rattle.std.proofs.Common.{ap, codes, ◌∙◌}
 use Rattle.std.proofs.lemmas.Result.{IfOk-weaker}
 use Rattle.clap.specs.Words.{found_of}
 use Rattle.binlogfeed.specs.Words.{texts}
-use Rattle.binlogfeed.proofs.Commands.{given, none_given}
+use Rattle.binlogfeed.proofs.Building.{given, none_given}
 use Rattle.binlogfeed.proofs.words.files.Goals as goal
 
 pub returns-in-Some : goal.returns-in-Some

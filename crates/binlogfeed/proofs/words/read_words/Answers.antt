@@ -18,3 +18,7 @@ returns-clause-answers c =
     parse_taken _ _ c.order_of.result
     (no_fault_found (app_of c.in_ok-command.command) (texts c.args.words.now) c.in_ok-command.ensures c.in-Ok.ensures.kinds)
     (found_by (app_of c.in_ok-command.command) (texts c.args.words.now) c.in-Ok.matches c.order_of.result c.in_ok-command.ensures c.in-Ok.ensures.matches c.order_of.ensures)
+
+pub returns-clause-taken : goal.returns-clause-taken
+returns-clause-taken c = λ taken.
+    found_by (app_of c.in_ok-command.command) (texts c.args.words.now) c.in-Ok.matches c.order_of.result c.in_ok-command.ensures c.in-Ok.ensures.matches c.order_of.ensures

@@ -1,0 +1,24 @@
+use Rattle.binlogfeed.proofs.Ends.{ends, ends_by_write, whole_is_beginning}
+use Rattle.binlogfeed.proofs.Sending.{appends_kept}
+use Rattle.binlogfeed.proofs.ending.finish.Goals as goal
+
+pub returns-in-Err-clause-answers : goal.returns-in-Err-clause-answers
+returns-in-Err-clause-answers g c = λ output start left.
+    ends_by_write output start (g.W.Write.contents c.args.out.now) (g.W.Write.contents c.write_text.new.out) c.args.waiting.now c.args.answer
+    (c.has_failed_write.ensures.no c.if-has_failed_write.false) left c.in-Err.ensures.err
+
+pub returns-in-Err-flush-clause-answers : goal.returns-in-Err-flush-clause-answers
+returns-in-Err-flush-clause-answers g c = λ output start left.
+    let old = g.W.Write.contents c.args.out.now in
+    let mid = g.W.Write.contents c.write_text.new.out in
+    let new = g.W.Write.contents c.flush.new.self in
+    ends_by_write output start old new c.args.waiting.now c.args.answer (c.has_failed_write.ensures.no c.if-has_failed_write.false) left
+    (whole_is_beginning old new c.args.waiting.now (appends_kept old mid new c.args.waiting.now c.in-Ok.ensures.ok c.in-Err-flush.ensures.bytes))
+
+pub returns-in-Ok-flush-clause-answers : goal.returns-in-Ok-flush-clause-answers
+returns-in-Ok-flush-clause-answers g c = λ output start left.
+    let old = g.W.Write.contents c.args.out.now in
+    let mid = g.W.Write.contents c.write_text.new.out in
+    let new = g.W.Write.contents c.flush.new.self in
+    ends output start old new c.args.waiting.now c.args.answer (c.has_failed_write.ensures.no c.if-has_failed_write.false) left
+    (appends_kept old mid new c.args.waiting.now c.in-Ok.ensures.ok c.in-Ok-flush.ensures.bytes)

@@ -1,6 +1,0 @@
-use Rattle.std.proofs.Common.{refl, inl, Err}
-use Rattle.binlogfeed.specs.declared.fault.RunFault.TheVariants.{OutOfMemory}
-use Rattle.binlogfeed.proofs.program.write_transactions.Goals as goal
-
-pub returns-in_default-clause-ends : goal.returns-in_default-clause-ends
-returns-in_default-clause-ends g c = λ honest. (Err OutOfMemory, inl refl, c.refuse.ensures)

@@ -1,0 +1,88 @@
+-- What the values of options name, and how they are refused.
+use Rattle.std.specs.Prelude.{◌≡◌, ◌≢◌, List, ◌∷◌, ◌++◌, map, Option, Some, None, option_map, Result, Ok, Err, codes, string_bytes}
+use Rattle.std.specs.Ordering.{nat_cmp}
+use Rattle.std.specs.Cmp.Lexicographic.{slice_cmp}
+use Rattle.std.specs.FinSet as set
+use Rattle.clap.specs.Words.{Row, Text, first_of}
+use Rattle.binlog_select.specs.Parts.{parts}
+use Rattle.binlog_select.specs.SetText.{comma, elements, IsSetText, IsFirstBad}
+use Rattle.binlog_select.specs.declared.filter.Filter.{Filter}
+use Rattle.binlog_select.specs.declared.kind.ChangeKind.{ChangeKind}
+use Rattle.binlog_json.specs.Line.{kind_text}
+use Rattle.binlogfeed.specs.declared.words_fault.WordsFault.{WordsFault}
+use Rattle.binlogfeed.specs.declared.words_fault.WordsFault.TheVariants.{Help, CommandLine, EventName, Set, OutOfMemory}
+
+-- the words of a list, which are parted at its commas: an empty text is a list of one empty word
+abbrev pub words_in : Text → List Text
+words_in list = parts comma list
+
+-- the words of a list as a set
+abbrev pub names_in : Text → set.FinSet (slice_cmp nat_cmp)
+names_in list = set.from_list (words_in list)
+
+-- kinds of change go by the names that they have in lines
+abbrev pub IsKindOf : Text → Option ChangeKind → Type 0
+IsKindOf word (Some kind) = word ≡ kind_text kind
+IsKindOf word None = (kind : ChangeKind) → word ≢ kind_text kind
+
+-- the words of the list are the names of these kinds, in their order
+abbrev pub NamesKinds : Text → List ChangeKind → Type 0
+NamesKinds list kinds = words_in list ≡ map kind_text kinds
+
+-- the first word of the list that is the name of no kind
+pub record IsFirstBadWord (list word : Text) : Type 0 where
+  pub kinds : List ChangeKind
+  pub behind : List Text
+  pub split : words_in list ≡ map kind_text kinds ++ word ∷ behind
+  pub bad : IsKindOf word None
+
+-- what an option comes to: nothing where it isn't given, else what its value reads as
+abbrev pub IsGiven : {X : Type 0} → (Text → X → Type 0) → Option Text → Option X → Type 0
+IsGiven Reads None None = Unit {0}
+IsGiven Reads (Some text) (Some x) = Reads text x
+IsGiven Reads None (Some x) = ⊥
+IsGiven Reads (Some text) None = ⊥
+
+abbrev pub event_names : List Row → Option Text
+event_names = first_of (codes "only-events")
+
+abbrev pub set_text : List Row → Option Text
+set_text = first_of (codes "auto-position")
+
+-- the filter has what the options name
+pub record IsFilterOf (rows : List Row) (filter : Filter) : Type 0 where
+  pub only_events : IsGiven NamesKinds (event_names rows) filter.only_events
+  pub only_tables : filter.only_tables ≡ option_map names_in (first_of (codes "only-tables") rows)
+  pub ignored_tables : filter.ignored_tables ≡ option_map names_in (first_of (codes "ignored-tables") rows)
+  pub only_schemas : filter.only_schemas ≡ option_map names_in (first_of (codes "only-schemas") rows)
+  pub ignored_schemas : filter.ignored_schemas ≡ option_map names_in (first_of (codes "ignored-schemas") rows)
+  pub auto_position : IsGiven IsSetText (set_text rows) filter.auto_position
+
+-- why event names come to nothing; memory may be wanting for any
+abbrev pub IsEventFault : Option Text → WordsFault → Type 0
+IsEventFault given (EventName word) = (list : Text) × (given ≡ Some list) × IsFirstBadWord list (string_bytes word)
+IsEventFault given OutOfMemory = Unit {0}
+IsEventFault given (Set at) = ⊥
+IsEventFault given CommandLine = ⊥
+IsEventFault given (Help error) = ⊥
+
+-- why a set comes to nothing
+abbrev pub IsSetFault : Option Text → WordsFault → Type 0
+IsSetFault given (Set at) = (text : Text) × (given ≡ Some text) × IsFirstBad (elements text) at
+IsSetFault given OutOfMemory = Unit {0}
+IsSetFault given (EventName word) = ⊥
+IsSetFault given CommandLine = ⊥
+IsSetFault given (Help error) = ⊥
+
+-- the event names have no fault
+abbrev pub HasKinds : List Row → Type 0
+HasKinds rows = (kinds : Option (List ChangeKind)) × IsGiven NamesKinds (event_names rows) kinds
+
+-- what the options come to: event names are judged first, then the set
+abbrev pub AnswersOptions : List Row → Result Filter WordsFault → Type 0
+AnswersOptions rows (Ok filter) = IsFilterOf rows filter
+AnswersOptions rows (Err (EventName word)) = IsEventFault (event_names rows) (EventName word)
+AnswersOptions rows (Err (Set at)) = HasKinds rows × IsSetFault (set_text rows) (Set at)
+AnswersOptions rows (Err OutOfMemory) = Unit {0}
+AnswersOptions rows (Err CommandLine) = ⊥
+AnswersOptions rows (Err (Help error)) = ⊥

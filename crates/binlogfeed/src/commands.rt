@@ -1,0 +1,138 @@
+//! The command line: its subcommands, with their options and their help.
+ghost use Rattle.std.specs.Prelude.{◌≡◌, IfOk, false};
+ghost use Rattle.clap.specs.Words.{rule_of, app_of};
+ghost use Rattle.clap.specs.declared.builder.command.Command.TheViews.{out-Command as fields_of};
+ghost use Rattle.binlogfeed.specs.Words.{file_rule, option_rule, transactions_app, read_app, program_app};
+
+use clap::{Arg, ArgAction, Command};
+use std::alloc::{AllocError, Global};
+
+const ABOUT: &str = "Reads binary log files of MySQL 8.0, and says what stands in them";
+
+const STATUSES: &str = "\
+Exit status:
+  0  the files were read to their end; a last transaction that is cut short is left out
+  1  something in a file can't be taken in: the line on standard error says where and what
+  2  the command line, a value of an option, or two files with one name
+  4  a file can't be opened or read, or the output can't be written
+  5  out of memory";
+
+const FILE_HELP: &str = "Binary log files, as the server wrote them, in the order in which it did";
+
+const TRANSACTIONS_ABOUT: &str =
+    "Writes a line for each transaction, and each statement outside of one";
+
+const TRANSACTIONS_AFTER: &str = "\
+A line has five columns, parted by tabs: the position of the first event and the
+end of the last, in bytes from the file's start; the GTID, or `-`; how it ends
+(xid, commit, rollback or statement); and the file's name.
+
+Example:
+  binlogfeed transactions /var/lib/mysql/binlog.000001 /var/lib/mysql/binlog.000002";
+
+const READ_ABOUT: &str = "Writes a line of JSON for each row change of a committed transaction";
+
+const READ_AFTER: &str = "\
+A line is one JSON object. This one is cut in three to fit here:
+  {\"after\":{\"id\":7,\"price\":\"10.80\"},\"before\":{\"id\":7,\"price\":\"12.00\"},
+   \"gtid\":\"3e11fa47-71ca-11e1-9e33-c80aa9429562:10\",\"kind\":\"update\",\"schema\":\"shop\",
+   \"table\":\"product\",\"timestamp\":1795332186,\"token\":\"3406.1@binlog.000001\"}
+
+  before, after  the row as it was and as it is then, by the names of its columns; an
+                 insert has none before, and a delete none after: null
+  gtid           the GTID of the transaction, or null where it has none
+  kind           insert, update or delete
+  schema, table  where the row stands
+  timestamp      the time in the header of the rows event, in seconds since 1970
+  token          the place of the change: the position of its transaction in the file,
+                 the number of the change in the transaction, from 1, and the file
+
+Integers are numbers; DECIMAL, dates and times are strings. Text that isn't UTF-8 is
+{\"base64\":\"..\"}; FLOAT, DOUBLE, JSON and GEOMETRY are {\"raw\":\"..\"}, their bytes in base64.
+
+The changes stand in the order of the log. Those of a transaction that was rolled back, or
+that isn't whole at the end of its file, are left out.
+
+Without options each change has a line. With several, a change has one if all of them let
+it pass. A LIST is parted by commas: shop,stock. Names are compared byte for byte, so blanks
+count, and upper and lower case differ. A SET is a GTID set as MySQL writes it: a source
+and its numbers, and further sources behind commas. Write a value that begins with `-` as
+--option=value.
+
+Examples:
+  binlogfeed read --only-schemas shop --ignored-tables cart,visit binlog.000001 binlog.000002
+  binlogfeed read --only-events insert,update binlog.000001
+  binlogfeed read --auto-position 3e11fa47-71ca-11e1-9e33-c80aa9429562:1-5:7 binlog.000001";
+
+const ONLY_EVENTS_HELP: &str = "Only changes of these kinds: insert, update, delete";
+
+const ONLY_TABLES_HELP: &str = "Only changes of tables with these names, in any schema";
+
+const IGNORED_TABLES_HELP: &str = "No changes of tables with these names, in any schema";
+
+const ONLY_SCHEMAS_HELP: &str = "Only changes of tables in these schemas";
+
+const IGNORED_SCHEMAS_HELP: &str = "No changes of tables in these schemas";
+
+const AUTO_POSITION_HELP: &str = "No changes of transactions with these GTIDs";
+
+/// One file or more.
+fn file_argument<'a>(alloc: Global) -> Arg<'a>
+    ensures rule { rule_of result ≡ file_rule }
+    ensures local { result.global ≡ false }
+{
+    Arg::new(alloc, "file")
+        .help(FILE_HELP)
+        .required(true)
+        .action(ArgAction::Append)
+        .num_args(1..)
+}
+
+/// An option that has one value, and is given at most once.
+fn option<'a>(alloc: Global, name: &'a str, value: &'a str, help: &'a str) -> Arg<'a>
+    ensures rule { rule_of result ≡ option_rule name.entry.now }
+    ensures local { result.global ≡ false }
+{
+    Arg::new(alloc, name)
+        .long(name)
+        .value_name(value)
+        .help(help)
+        .action(ArgAction::Set)
+}
+
+fn transactions_command<'a>(alloc: Global) -> Result<Command<'a>, AllocError>
+    ensures app { IfOk result (λ command. app_of command ≡ transactions_app) }
+    ensures local { IfOk result (λ command. (fields_of command).has_globals ≡ false) }
+{
+    Command::new(alloc, "transactions")
+        .about(TRANSACTIONS_ABOUT)
+        .after_help(TRANSACTIONS_AFTER)
+        .arg(file_argument(alloc))
+}
+
+fn read_command<'a>(alloc: Global) -> Result<Command<'a>, AllocError>
+    ensures app { IfOk result (λ command. app_of command ≡ read_app) }
+    ensures local { IfOk result (λ command. (fields_of command).has_globals ≡ false) }
+{
+    Command::new(alloc, "read")
+        .about(READ_ABOUT)
+        .after_help(READ_AFTER)
+        .arg(option(alloc, "only-events", "LIST", ONLY_EVENTS_HELP))?
+        .arg(option(alloc, "only-tables", "LIST", ONLY_TABLES_HELP))?
+        .arg(option(alloc, "ignored-tables", "LIST", IGNORED_TABLES_HELP))?
+        .arg(option(alloc, "only-schemas", "LIST", ONLY_SCHEMAS_HELP))?
+        .arg(option(alloc, "ignored-schemas", "LIST", IGNORED_SCHEMAS_HELP))?
+        .arg(option(alloc, "auto-position", "SET", AUTO_POSITION_HELP))?
+        .arg(file_argument(alloc))
+}
+
+/// The program's command line.
+pub(crate) fn program<'a>(alloc: Global) -> Result<Command<'a>, AllocError>
+    ensures { IfOk result (λ command. app_of command ≡ program_app) }
+{
+    Command::new(alloc, "binlogfeed")
+        .about(ABOUT)
+        .after_help(STATUSES)
+        .subcommand(transactions_command(alloc)?)?
+        .subcommand(read_command(alloc)?)
+}

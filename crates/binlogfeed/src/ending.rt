@@ -1,0 +1,38 @@
+//! How a run ends.
+ghost use Rattle.std.specs.Prelude.{◌≡◌, ◌≢◌, ℕ, ◌⊎◌, true, false, List, Option, Err};
+ghost use Rattle.binlogfeed.specs.Runs.{Output, AnswersOutput};
+ghost use Rattle.binlogfeed.specs.Coming.{Leaves};
+
+use crate::fault::RunFault;
+use crate::writing::write_text;
+use std::io::Write;
+
+/// Whether a run ended because a write failed.
+fn has_failed_write(answer: &Result<u64, RunFault>) -> bool
+    ensures yes { result ≡ true → answer.now ≡ Err RunFault.Write }
+    ensures no { result ≡ false → answer.now ≢ Err RunFault.Write }
+{
+    matches!(answer, Err(RunFault::Write))
+}
+
+/// Sends what waits and flushes, unless a write has failed.
+pub(crate) fn finish<W: Write>(
+    out: &mut W,
+    waiting: &[u8],
+    answer: Result<u64, RunFault>,
+) -> Result<u64, RunFault>
+    ensures answers { (output : Output) (start : Option (List ℕ)) → Leaves output start (W.contents out.old) waiting.now answer
+        → AnswersOutput output start (W.contents out.new) result }
+    ensures keeps { (result ≡ answer) ⊎ (result ≡ Err RunFault.Write) }
+{
+    if has_failed_write(&answer) {
+        return answer;
+    }
+    match write_text(out, waiting) {
+        Err(_) => Err(RunFault::Write),
+        Ok(()) => match out.flush() {
+            Err(_) => Err(RunFault::Write),
+            Ok(()) => answer,
+        },
+    }
+}
