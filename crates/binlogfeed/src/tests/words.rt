@@ -18,16 +18,24 @@ fn show_names(text: &mut String, option: &str, names: Option<Names>) -> Result<(
 
 /// A filter as a short text, with the lists that are given.
 fn shown_filter(alloc: Global, filter: Filter) -> Result<String, Fail> {
+    let Filter {
+        only_events,
+        only_tables,
+        ignored_tables,
+        only_schemas,
+        ignored_schemas,
+        auto_position,
+    } = filter;
     let mut text = String::new(alloc);
-    if let Some(kinds) = filter.only_events {
+    if let Some(kinds) = only_events {
         let kinds = kinds.into_vec();
         write!(text, "only-events {kinds:?} ")?;
     }
-    show_names(&mut text, "only-tables", filter.only_tables)?;
-    show_names(&mut text, "ignored-tables", filter.ignored_tables)?;
-    show_names(&mut text, "only-schemas", filter.only_schemas)?;
-    show_names(&mut text, "ignored-schemas", filter.ignored_schemas)?;
-    if let Some(set) = filter.auto_position {
+    show_names(&mut text, "only-tables", only_tables)?;
+    show_names(&mut text, "ignored-tables", ignored_tables)?;
+    show_names(&mut text, "only-schemas", only_schemas)?;
+    show_names(&mut text, "ignored-schemas", ignored_schemas)?;
+    if let Some(set) = auto_position {
         text.push_str("auto-position ")?;
         set.write(&mut text)?;
         text.push_str(" ")?;
@@ -35,39 +43,45 @@ fn shown_filter(alloc: Global, filter: Filter) -> Result<String, Fail> {
     Ok(text)
 }
 
-/// What the words give, as a short text.
-fn shown(rt: &impl Abort, alloc: Global, words: &[&str]) -> Result<String, Fail> {
-    let text = match read_words(alloc, words) {
-        Ok(order) => match order {
-            Order::Transactions { files } => format!(in alloc; "transactions {files:?}")?,
-            Order::Read {
-                filter,
-                start,
-                files,
-            } => {
-                let Start::Beginning = start;
-                let filter = shown_filter(alloc, filter)?;
-                format!(in alloc; "read {filter}{files:?}")?
-            }
-        },
-        Err(fault) => {
-            let status = words_status(&fault);
-            let mut line = String::new(alloc);
-            words_line(&fault, &mut line)?;
-            match fault {
-                WordsFault::Help(error) => {
-                    let help = error.to_string(alloc)?;
-                    assert!(rt; help.as_str().contains("inary log"), "{help}");
-                    format!(in alloc; "help {status}{line}")?
-                }
-                WordsFault::CommandLine
-                | WordsFault::EventName(_)
-                | WordsFault::Set(_)
-                | WordsFault::OutOfMemory => format!(in alloc; "{status} {line}")?,
-            }
+/// An order as a short text.
+fn shown_order(alloc: Global, order: Order<'_>) -> Result<String, Fail> {
+    let text = match order {
+        Order::Transactions { files } => format!(in alloc; "transactions {files:?}")?,
+        Order::Read {
+            filter,
+            start,
+            files,
+        } => {
+            let Start::Beginning = start;
+            let filter = shown_filter(alloc, filter)?;
+            format!(in alloc; "read {filter}{files:?}")?
         }
     };
     Ok(text)
+}
+
+/// A fault as its status and its line.
+fn shown_fault(rt: &impl Abort, alloc: Global, fault: &WordsFault) -> Result<String, Fail> {
+    let status = words_status(fault);
+    let mut line = String::new(alloc);
+    words_line(fault, &mut line)?;
+    let text = match fault {
+        WordsFault::Help(error) => {
+            let help = error.to_string(alloc)?;
+            assert!(rt; help.as_str().contains("inary log"), "{help}");
+            format!(in alloc; "help {status}{line}")?
+        }
+        _ => format!(in alloc; "{status} {line}")?,
+    };
+    Ok(text)
+}
+
+/// What the words give, as a short text.
+fn shown(rt: &impl Abort, alloc: Global, words: &[&str]) -> Result<String, Fail> {
+    match read_words(alloc, words) {
+        Ok(order) => shown_order(alloc, order),
+        Err(fault) => shown_fault(rt, alloc, &fault),
+    }
 }
 
 /// Asserts what the words give, behind the program's name.
