@@ -6,7 +6,7 @@ rows = {}
 for line in sys.stdin:
     change = json.loads(line)
     if change["before"]:
-        rows.pop((change["table"], json.dumps(change["before"])))
+        rows.pop((change["table"], json.dumps(change["before"])), None)
     if change["after"]:
         rows[change["table"], json.dumps(change["after"])] = change["after"]
 for (table, _), row in rows.items():
