@@ -1,5 +1,5 @@
 //! Text on its way to a writer.
-ghost use Rattle.std.specs.Prelude.{◌≡◌, ◌++◌, [], OnOk, OnErr};
+ghost use Rattle.std.specs.Prelude.{◌≡◌, ◌<◌, ◌++◌, [], length, OnOk, OnErr};
 ghost use Rattle.std.specs.Io.KnownBytes.{Appends};
 ghost use Rattle.binlogfeed.specs.Sending.{AppendsBeginning, IsSending, Adds};
 
@@ -62,7 +62,8 @@ pub(crate) fn add_line<W: Write>(
     waiting: &mut Vec<u8>,
     line: &str,
 ) -> Result<(), AddFault>
-    ensures { Adds (W.contents out.old) (W.contents out.new) waiting.old.items waiting.new.items line.now result }
+    ensures adds { Adds (W.contents out.old) (W.contents out.new) waiting.old.items waiting.new.items line.now result }
+    ensures few { OnOk result (length waiting.new.items < ENOUGH) }
 {
     waiting.extend_from_slice(line.as_bytes())?;
     send_enough(out, waiting)?;
@@ -72,6 +73,7 @@ pub(crate) fn add_line<W: Write>(
 /// Sends what waits where it is enough.
 pub(crate) fn send_enough<W: Write>(out: &mut W, waiting: &mut Vec<u8>) -> Result<(), WriteFault>
     ensures ok { OnOk result (IsSending (W.contents out.old) (W.contents out.new) waiting.new.items waiting.old.items) }
+    ensures few { OnOk result (length waiting.new.items < ENOUGH) }
     ensures err { OnErr result (AppendsBeginning (W.contents out.old) (W.contents out.new) waiting.old.items) }
 {
     if waiting.len() < ENOUGH {
