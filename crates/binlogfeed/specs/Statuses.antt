@@ -1,16 +1,19 @@
 -- The status with which the program ends.
-use Rattle.std.specs.Prelude.{◌≡◌, ◌⊎◌, ℕ, List, Option, Result, Ok, Err}
+use Rattle.std.specs.Prelude.{◌≡◌, ◌⊎◌, ℕ, List, Option, None, Result, Ok, Err, IsTrue, IfSome}
 use Rattle.clap.specs.Words.{Text}
 use Rattle.binlog_frame.specs.declared.open_fault.OpenFault.{OpenFault}
 use Rattle.binlog_frame.specs.declared.open_fault.OpenFault.TheVariants as open_faults
-use Rattle.binlog_frame.specs.Files.{RefusesOne}
+use Rattle.binlog_frame.specs.declared.files.FileLogs.{FileLogs}
+use Rattle.binlog_frame.specs.FileLogs.{names_of, contents_of, is_honest}
+use Rattle.binlog_frame.specs.Files.{AreLastParts, RefusesOne}
 use Rattle.binlogfeed.specs.Faults.{status_of}
 use Rattle.binlogfeed.specs.Runs.{Output, AnswersIfBegun, units_output, changes_output}
-use Rattle.binlogfeed.specs.Words.{AnswersWords, words_status_of}
+use Rattle.binlogfeed.specs.Words.{AnswersWords, texts, words_status_of}
 use Rattle.binlogfeed.specs.declared.fault.RunFault.{RunFault}
 use Rattle.binlogfeed.specs.declared.program.Task.{Task}
 use Rattle.binlogfeed.specs.declared.program.Task.TheVariants.{Transactions, Read}
 use Rattle.binlogfeed.specs.declared.words.Order.{Order}
+use Rattle.binlogfeed.specs.declared.words.Order.TheVariants as orders
 use Rattle.binlogfeed.specs.declared.words_fault.WordsFault.{WordsFault}
 
 -- a run that comes to the end of the files is 0
@@ -41,10 +44,34 @@ EndsUnopened paths status = (fault : OpenFault) × RefusesOne paths fault × (st
 abbrev pub IsStatus : ℕ → Type 0
 IsStatus status = (status ≡ 0) ⊎ ((status ≡ 1) ⊎ ((status ≡ 2) ⊎ ((status ≡ 4) ⊎ (status ≡ 5))))
 
--- what the words come to: an order may end with any status
-abbrev pub HasStatus : Result Order WordsFault → ℕ → Type 0
-HasStatus (Ok order) status = IsStatus status
-HasStatus (Err fault) status = status ≡ words_status_of fault
+-- what an order has done with its files
+abbrev pub task_of : Order → Task
+task_of (orders.Transactions files) = Transactions
+task_of (orders.Read filter start files) = Read filter start
 
-abbrev pub EndsWords : List Text → ℕ → Type 0
-EndsWords words status = (result : Result Order WordsFault) × AnswersWords words result × HasStatus result status
+abbrev pub paths_of : Order → List Text
+paths_of (orders.Transactions files) = texts files.items
+paths_of (orders.Read filter start files) = texts files.items
+
+-- What an order comes to over files that are supposed to hold these contents: the logs come back where all files could be opened,
+-- and where they gave their true bytes, what was written and the status are those of the order over the contents. Where a path is
+-- refused nothing is written.
+pub record EndsOrder {F : Type 0} (order : Order) (contents : List (List ℕ)) (logs : Option (FileLogs F)) (old new : Option (List ℕ))
+    (status : ℕ) : Type 0 where
+  pub names : IfSome logs (λ logs. AreLastParts (paths_of order) (names_of logs))
+  pub held : IfSome logs (λ logs. contents_of logs ≡ contents)
+  pub ends : IfSome logs (λ logs. IsTrue (is_honest logs)
+      → EndsRun (names_of logs) (output_of (task_of order) (names_of logs) contents) old new status)
+  pub refused : logs ≡ None → EndsUnopened (paths_of order) status × (new ≡ old)
+  pub is_status : IsStatus status
+
+-- what the answer to the words comes to: where they are refused no file is opened, and nothing is written
+abbrev pub EndsAnswer : {F : Type 0} → Result Order WordsFault → List (List ℕ) → Option (FileLogs F)
+    → Option (List ℕ) → Option (List ℕ) → ℕ → Type 0
+EndsAnswer (Ok order) contents logs old new status = EndsOrder order contents logs old new status
+EndsAnswer (Err fault) contents logs old new status = (logs ≡ None) × (new ≡ old) × (status ≡ words_status_of fault)
+
+abbrev pub EndsWords : {F : Type 0} → List Text → List (List ℕ) → Option (FileLogs F)
+    → Option (List ℕ) → Option (List ℕ) → ℕ → Type 0
+EndsWords words contents logs old new status =
+    (result : Result Order WordsFault) × AnswersWords words result × EndsAnswer result contents logs old new status

@@ -1,5 +1,4 @@
-use Rattle.std.proofs.Common.{[]}
 use Rattle.binlogfeed.proofs.program.perform.Given as goal
 
 abbrev pub ghost-carry_out : goal.ghost-carry_out
-ghost-carry_out g a = []
+ghost-carry_out g a = g.contents
