@@ -3,7 +3,6 @@ mod changes;
 mod faults;
 mod files;
 mod outcome;
-mod program;
 mod shop_logs;
 mod units;
 mod words;
