@@ -14,7 +14,7 @@ import sys
 import time
 
 TOP = pathlib.Path(__file__).resolve().parent.parent
-PROGRAM = TOP / "crates" / "binlogfeed" / "out" / "binlogfeed"
+PROGRAM = TOP / "crates" / "program" / "out" / "program"
 
 
 def peak(pid):

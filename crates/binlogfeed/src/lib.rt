@@ -1,0 +1,19 @@
+//! What the program does: reads binary logs of MySQL, and writes a line for each of their row changes or of their units.
+#![tactic(auto)]
+
+mod change_line;
+mod commands;
+mod ending;
+pub mod fault;
+mod names;
+mod options;
+pub mod program;
+pub mod run;
+#[cfg(test)]
+mod tests;
+pub mod transactions;
+mod unit_line;
+mod window;
+pub mod words;
+pub mod words_fault;
+mod writing;
