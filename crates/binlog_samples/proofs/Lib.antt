@@ -1,0 +1,3 @@
+pub mod OnBytes
+pub mod Paths
+pub mod Windows

@@ -1,0 +1,13 @@
+pub mod Hex
+pub mod ColumnTypes
+pub mod Values
+pub mod Times
+pub mod Packed
+pub mod Rows
+pub mod Maps
+pub mod Files
+pub mod Changes
+pub mod Tokens
+pub mod Frames
+pub mod Sources
+pub mod Statuses

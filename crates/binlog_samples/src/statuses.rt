@@ -1,0 +1,19 @@
+//! The definitions of the program's lines on standard error and of its statuses.
+ghost use Rattle.binlog_samples.specs.Statuses.{Whats, FurtherWhats, RunTexts, WordsTexts, Endings};
+ghost use Rattle.binlog_samples.specs.Statuses.{RunStatuses, WordsStatuses, OpenStatuses};
+
+/// How faults are told.
+pub fn sample_texts()
+    ensures whats { Whats }
+    ensures further_whats { FurtherWhats }
+    ensures run_texts { RunTexts }
+    ensures words_texts { WordsTexts }
+    ensures endings { Endings }
+{}
+
+/// With what status runs, words and openings end.
+pub fn sample_statuses()
+    ensures run_statuses { RunStatuses }
+    ensures words_statuses { WordsStatuses }
+    ensures open_statuses { OpenStatuses }
+{}
