@@ -9,7 +9,8 @@ TOP = Path(__file__).resolve().parents[2]
 SHOP = TOP / "examples/shop"
 CASES = TOP / "tests/shop.cases"
 PROGRAMS = [TOP / "crates/cases/out/cases", TOP / "crates/cases/out/cases.by-rattle"]
-LAST = re.compile(r"cases=[1-9]\d* differing=0")
+# The last line: how many cases there were, with other counts, of which those of what is wrong are 0.
+LAST = re.compile(r"cases=[1-9]\d*( verbs=[1-9]\d*)? differing=0( bad_lines=0)?")
 
 
 def judge(program: Path, _folder: Path) -> list[str]:
