@@ -1,0 +1,16 @@
+//! Tests over the system's files, of what no text of cases can show: files that change while they are open, long ones, what is no
+//! file, and how many reads of the system a log takes.
+#![tactic(auto)]
+
+#[cfg(test)]
+mod changing;
+#[cfg(test)]
+mod counting;
+#[cfg(test)]
+mod folder;
+#[cfg(test)]
+mod long;
+#[cfg(test)]
+mod opening;
+#[cfg(test)]
+mod reading;

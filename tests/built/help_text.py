@@ -1,0 +1,91 @@
+"""The help: its status, its table of statuses, and what it says of each subcommand."""
+import re
+from functools import partial
+from pathlib import Path
+
+from built.check import Check, Outcome, Wanted, differs, run
+
+# The statuses with which the program ends, as its help has to tell them.
+STATUSES = {
+    0: "the files were read to their end; a last transaction that is cut short is left out",
+    1: "something in a file can't be taken in: the line on standard error says where and what",
+    2: "the command line, a value of an option, or two files with one name",
+    4: "a file can't be opened or read, or the output can't be written",
+    5: "out of memory",
+}
+
+# What each help has to name, each at the beginning of a line and with some words about it.
+NAMED = {
+    "": ("  transactions", "  read"),
+    "transactions": ("Usage: binlogfeed transactions <file>...", "  <file>...", "Example:", "  binlogfeed transactions /"),
+    "read": (
+        "Usage: binlogfeed read [OPTIONS] <file>...",
+        "  <file>...",
+        "      --only-events <LIST>",
+        "      --only-tables <LIST>",
+        "      --ignored-tables <LIST>",
+        "      --only-schemas <LIST>",
+        "      --ignored-schemas <LIST>",
+        "      --auto-position <SET>",
+        "  before, after",
+        "  gtid",
+        "  kind",
+        "  schema, table",
+        "  timestamp",
+        "  token",
+        "Examples:",
+        "  binlogfeed read --",
+    ),
+}
+
+
+def ending_differs(came: Outcome) -> list[str]:
+    """Help ends with status 0, and has nothing to say on standard error."""
+    return differs(came, Wanted(0, None))
+
+
+def statuses_in(text: str) -> dict[int, str]:
+    """The table of statuses of a help."""
+    _, _, table = text.partition("\nExit status:\n")
+    return {int(number): what for number, what in re.findall(r"(?m)^  (\d+)  (.+)$", table)}
+
+
+def judge_statuses(program: Path, folder: Path) -> list[str]:
+    """The table is the one above, in its order."""
+    came = run(program, ["--help"], folder)
+    told = statuses_in(came.stdout.decode())
+    if list(told.items()) == list(STATUSES.items()):
+        return ending_differs(came)
+    return [*ending_differs(came), f"the table of statuses is {told}", f"wanted: {STATUSES}"]
+
+
+def judge_named(subcommand: str, program: Path, folder: Path) -> list[str]:
+    """The help of the program or of a subcommand names what it has."""
+    words = [subcommand] if subcommand else []
+    came = run(program, [*words, "--help"], folder)
+    lines = came.stdout.decode().split("\n")
+    missing = [name for name in NAMED[subcommand] if not any(line.startswith(name) for line in lines)]
+    return ending_differs(came) + [f"it doesn't tell of {name.strip()}" for name in missing]
+
+
+def judge_same(words: list[str], other: list[str], program: Path, folder: Path) -> list[str]:
+    """Two ways to ask for one help."""
+    wanted = run(program, words, folder)
+    return ending_differs(wanted) + differs(run(program, other, folder), Wanted(0, wanted.stdout))
+
+
+def judge_asked_first(program: Path, folder: Path) -> list[str]:
+    """Help is told though the other words ask for a file that isn't there."""
+    wanted = run(program, ["read", "--help"], folder)
+    return ending_differs(wanted) + differs(run(program, ["read", "missing", "--help"], folder), Wanted(0, wanted.stdout))
+
+
+def checks() -> list[Check]:
+    """The checks of help."""
+    same = ((["--help"], ["-h"]), (["--help"], ["help"]), (["read", "--help"], ["help", "read"]))
+    return [
+        Check("help's table of statuses", judge_statuses),
+        *[Check(f"{kind or 'binlogfeed'} --help", partial(judge_named, kind)) for kind in NAMED],
+        *[Check(f"{' '.join(other)} is help", partial(judge_same, words, other)) for words, other in same],
+        Check("help beside a missing file", judge_asked_first),
+    ]

@@ -1,0 +1,105 @@
+"""Worked log files, made event by event, with what `transactions` and `read` write for them."""
+import struct
+from pathlib import Path
+
+SOURCE_ID = "3e11fa47-71ca-11e1-9e33-c80aa9429562"
+SOURCE = bytes.fromhex(SOURCE_ID.replace("-", ""))
+MAGIC = b"\xfebin"
+TIME = 1_700_000_000
+HEADER_LENGTH = 19
+
+FORMAT, PREVIOUS_GTIDS, GTID, QUERY, TABLE_MAP, WRITE_ROWS, XID = 15, 35, 33, 2, 19, 30, 16
+# The flag of events that a reader passes over where it doesn't know them.
+IGNORABLE = 0x0080
+
+BEGIN_BODY = bytes.fromhex("080000000000000001000000007300424547494e")
+# The table s.t: id, a signed INT and the key, and v, a VARCHAR of up to 80 bytes.
+MAP_BODY = bytes.fromhex("640000000000010001730001740002030f0250000201010004050269640176080100")
+# The row (1, 'a').
+ROWS_BODY = bytes.fromhex("6400000000000100020002fffc010000000161")
+XID_BODY = struct.pack("<Q", 7)
+
+
+def header(kind: int, place: int, length: int, flags: int = 0) -> bytes:
+    """The header of an event of this whole length, which stands at a place."""
+    return struct.pack("<IBIIIH", TIME, kind, 1, length, (place + length) % 2**32, flags)
+
+
+def event(kind: int, place: int, body: bytes, flags: int = 0) -> bytes:
+    """An event that stands at a place."""
+    return header(kind, place, HEADER_LENGTH + len(body), flags) + body
+
+
+def format_body() -> bytes:
+    """The body of the format event of a log without checksums."""
+    lengths = bytearray(41)
+    lengths[18] = 8
+    lengths[29:32] = b"\x0a\x0a\x0a"
+    return struct.pack("<H50sIB", 4, b"8.0.36", 0, HEADER_LENGTH) + bytes(lengths) + bytes(5)
+
+
+def gtid_body(number: int) -> bytes:
+    """The body of a GTID event."""
+    return b"\x01" + SOURCE + struct.pack("<Q", number) + bytes(17)
+
+
+def appended(log: bytes, kind: int, body: bytes, flags: int = 0) -> bytes:
+    """A log with one more event."""
+    return log + event(kind, len(log), body, flags)
+
+
+def front() -> bytes:
+    """What each of these logs begins with: 153 bytes."""
+    return appended(appended(MAGIC, FORMAT, format_body()), PREVIOUS_GTIDS, bytes(8), IGNORABLE)
+
+
+def insert(place: int, number: int) -> bytes:
+    """A transaction that stands at a place and inserts one row: 218 bytes."""
+    log = b""
+    bodies = ((GTID, gtid_body(number)), (QUERY, BEGIN_BODY), (TABLE_MAP, MAP_BODY), (WRITE_ROWS, ROWS_BODY), (XID, XID_BODY))
+    for kind, body in bodies:
+        log += event(kind, place + len(log), body)
+    return log
+
+
+def worked_log(count: int = 1) -> bytes:
+    """A log of so many transactions, each of which inserts one row. With one it has 371 bytes."""
+    parts = [front()]
+    place = len(parts[0])
+    for number in range(1, count + 1):
+        parts.append(insert(place, number))
+        place += len(parts[-1])
+    return b"".join(parts)
+
+
+def unit_line(place: int, number: int, name: str) -> str:
+    """The line of `transactions` for one of these transactions."""
+    return f"{place}\t{place + 218}\t{SOURCE_ID}:{number}\txid\t{name}\n"
+
+
+def unit_lines(count: int, name: str) -> bytes:
+    """The lines of `transactions` for a worked log."""
+    return "".join(unit_line(153 + 218 * number, number + 1, name) for number in range(count)).encode()
+
+
+def change_line(place: int, number: int, name: str) -> str:
+    """The line of `read` for one of these transactions."""
+    return (
+        '{"after":{"id":1,"v":"a"},"before":null,'
+        f'"gtid":"{SOURCE_ID}:{number}","kind":"insert","schema":"s","table":"t",'
+        f'"timestamp":{TIME},"token":"{place}.1@{name}"}}\n'
+    )
+
+
+def change_lines(count: int, name: str) -> bytes:
+    """The lines of `read` for a worked log."""
+    return "".join(change_line(153 + 218 * number, number + 1, name) for number in range(count)).encode()
+
+
+def put(folder: Path, names: list[str], content: bytes) -> list[str]:
+    """Writes files of one content, and answers their names."""
+    for name in names:
+        path = folder / name
+        path.parent.mkdir(parents=True, exist_ok=True)
+        path.write_bytes(content)
+    return names
