@@ -4,6 +4,14 @@ use Rattle.std.specs.Io.KnownBytes.{Appends}
 use Rattle.binlogfeed.specs.declared.writing.AddFault.{AddFault}
 use Rattle.binlogfeed.specs.declared.writing.AddFault.TheVariants.{Write, OutOfMemory}
 
+-- a run begins with a window of 64 KiB
+abbrev pub first_window_length : ℕ
+first_window_length = 65536
+
+-- So many bytes, 64 KiB, are enough to be sent: what waits behind a line is fewer.
+abbrev pub enough_waits : ℕ
+enough_waits = 65536
+
 -- a beginning of the text
 pub record AppendsBeginning (old new : Option (List ℕ)) (text : List ℕ) : Type 0 where
   pub sent : List ℕ

@@ -1,7 +1,7 @@
 //! Text on its way to a writer.
 ghost use Rattle.std.specs.Prelude.{◌≡◌, ◌<◌, ◌++◌, [], length, OnOk, OnErr};
 ghost use Rattle.std.specs.Io.KnownBytes.{Appends};
-ghost use Rattle.binlogfeed.specs.Sending.{AppendsBeginning, IsSending, Adds};
+ghost use Rattle.binlogfeed.specs.Sending.{AppendsBeginning, IsSending, Adds, enough_waits};
 
 use std::alloc::AllocError;
 use std::io::Write;
@@ -38,7 +38,7 @@ impl From<AllocError> for AddFault {
 }
 
 /// What waits goes out once it has so many bytes.
-pub(crate) const ENOUGH: usize = 65_536;
+const ENOUGH: usize = 65_536;
 
 /// Writes the whole text, in as many calls of `write` as it takes.
 pub(crate) fn write_text<W: Write>(out: &mut W, text: &[u8]) -> Result<(), WriteFault>
@@ -63,7 +63,7 @@ pub(crate) fn add_line<W: Write>(
     line: &str,
 ) -> Result<(), AddFault>
     ensures adds { Adds (W.contents out.old) (W.contents out.new) waiting.old.items waiting.new.items line.now result }
-    ensures few { OnOk result (length waiting.new.items < ENOUGH) }
+    ensures few { OnOk result (length waiting.new.items < enough_waits) }
 {
     waiting.extend_from_slice(line.as_bytes())?;
     send_enough(out, waiting)?;
@@ -73,7 +73,7 @@ pub(crate) fn add_line<W: Write>(
 /// Sends what waits where it is enough.
 pub(crate) fn send_enough<W: Write>(out: &mut W, waiting: &mut Vec<u8>) -> Result<(), WriteFault>
     ensures ok { OnOk result (IsSending (W.contents out.old) (W.contents out.new) waiting.new.items waiting.old.items) }
-    ensures few { OnOk result (length waiting.new.items < ENOUGH) }
+    ensures few { OnOk result (length waiting.new.items < enough_waits) }
     ensures err { OnErr result (AppendsBeginning (W.contents out.old) (W.contents out.new) waiting.old.items) }
 {
     if waiting.len() < ENOUGH {
