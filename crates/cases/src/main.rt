@@ -2,6 +2,7 @@
 #![tactic(auto)]
 
 mod bench;
+mod bent;
 mod case;
 mod lines;
 mod orders;
@@ -29,7 +30,10 @@ fn take_line(
     match bench.take(rt.alloc(), line) {
         Ok(None) => Ok(()),
         Ok(Some(said)) => println!(rt; "{said}"),
-        Err(why) => println!(rt; "BAD LINE {file}:{number}: {why}: {line}"),
+        Err(why) => {
+            let reason = why.reason();
+            println!(rt; "BAD LINE {file}:{number}: {reason}: {line}")
+        }
     }
 }
 
@@ -45,7 +49,10 @@ fn take_file(
     }
     match bench.end_file() {
         Ok(()) => Ok(()),
-        Err(why) => println!(rt; "BAD LINE {file}: the last: {why}"),
+        Err(why) => {
+            let reason = why.reason();
+            println!(rt; "BAD LINE {file}, the last: {reason}")
+        }
     }
 }
 
