@@ -1,0 +1,31 @@
+//! The lines that say how a case's files are read, and where its lines go.
+use crate::case::{Case, Full};
+use crate::lines::{Refused, number, only_word};
+
+impl Case {
+    /// Takes a setting in, and says whether the word is one.
+    pub fn set(&mut self, setting: &str, words: &[String]) -> Result<bool, Refused> {
+        match setting {
+            "windows" => self.set_windows(words)?,
+            "fail-read" => self.reads.failing = number(only_word(words)?)? as u64,
+            "short-reads" => self.reads.most = number(only_word(words)?)?,
+            "takes" => self.room.most = number(only_word(words)?)?,
+            "room" => self.room.room = number(only_word(words)?)?,
+            "full-takes-nothing" => self.room.full = Full::TakesNothing,
+            "flush-fails" => self.room.flushes = false,
+            _ => return Ok(false),
+        }
+        Ok(true)
+    }
+
+    fn set_windows(&mut self, words: &[String]) -> Result<(), Refused> {
+        if words.is_empty() {
+            return Err(Refused::BadPart);
+        }
+        self.windows.clear();
+        for word in words {
+            self.windows.push(number(word.as_str())?)?;
+        }
+        Ok(())
+    }
+}

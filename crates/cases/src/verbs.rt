@@ -1,0 +1,47 @@
+//! The verbs: what a line does with a case.
+use crate::bent::each_byte;
+use crate::case::Case;
+use crate::lines::Refused;
+use crate::orders::{answer_words, show_words};
+use crate::pieces::Pieces;
+use crate::runs::run_task;
+use crate::sweeps::sweep;
+use std::alloc::Global;
+
+/// Whether what came is what is wanted.
+#[derive(Drop)]
+pub enum Verdict {
+    /// It is, in each of so many runs.
+    Well { runs: u64 },
+    /// This came in its place.
+    Differs { came: String },
+}
+
+impl Verdict {
+    /// The verdict over one text.
+    pub fn of(case: &Case, came: String) -> Verdict {
+        if came.as_str() == case.wanted.as_str() {
+            Verdict::Well { runs: 1 }
+        } else {
+            Verdict::Differs { came }
+        }
+    }
+}
+
+/// Carries out a verb, with the words behind it.
+pub fn carry_out(
+    alloc: Global,
+    _pieces: &Pieces,
+    case: &Case,
+    verb: &str,
+    words: &[String],
+) -> Result<Verdict, Refused> {
+    match verb {
+        "run" | "measure" => run_task(alloc, case, verb, words),
+        "each-byte" => each_byte(alloc, case, words),
+        "each-room" | "each-read" | "each-short" | "each-cut" => sweep(alloc, case, verb, words),
+        "binlogfeed" => answer_words(alloc, case, words),
+        "words" => show_words(alloc, case, words),
+        _ => Err(Refused::UnknownWord),
+    }
+}
