@@ -37,7 +37,7 @@ impl Task {
 }
 
 /// The files of a case.
-fn files_of(alloc: Global, case: &Case) -> Result<Vec<Named>, Refused> {
+pub fn files_of(alloc: Global, case: &Case) -> Result<Vec<Named>, Refused> {
     let mut files = Vec::new(alloc);
     for file in &case.files {
         files.push(copy_of(alloc, file)?)?;
