@@ -4,14 +4,25 @@
 mod bench;
 mod bent;
 mod case;
+mod cells;
+mod filters;
+mod images;
+mod json_lines;
 mod lines;
+mod maps;
 mod orders;
 mod outcome;
 mod pieces;
+mod rows;
 mod runs;
+mod sets;
 mod settings;
+mod shown;
 mod sweeps;
+mod tokens;
+mod values;
 mod verbs;
+mod wide;
 mod writer;
 
 use bench::Bench;

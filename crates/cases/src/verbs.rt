@@ -1,10 +1,12 @@
 //! The verbs: what a line does with a case.
 use crate::bent::each_byte;
 use crate::case::Case;
+use crate::json_lines::judge_lines;
 use crate::lines::Refused;
 use crate::orders::{answer_words, show_words};
 use crate::pieces::Pieces;
 use crate::runs::run_task;
+use crate::shown::shown;
 use crate::sweeps::sweep;
 use std::alloc::Global;
 
@@ -31,7 +33,7 @@ impl Verdict {
 /// Carries out a verb, with the words behind it.
 pub fn carry_out(
     alloc: Global,
-    _pieces: &Pieces,
+    pieces: &Pieces,
     case: &Case,
     verb: &str,
     words: &[String],
@@ -42,6 +44,10 @@ pub fn carry_out(
         "each-room" | "each-read" | "each-short" | "each-cut" => sweep(alloc, case, verb, words),
         "binlogfeed" => answer_words(alloc, case, words),
         "words" => show_words(alloc, case, words),
-        _ => Err(Refused::UnknownWord),
+        "lines" => judge_lines(alloc, case),
+        _ => match shown(alloc, pieces, verb, words)? {
+            Some(came) => Ok(Verdict::of(case, came)),
+            None => Err(Refused::UnknownWord),
+        },
     }
 }

@@ -1,0 +1,73 @@
+//! A table map and a rows event, put into a log, and the images of their changes as JSON.
+use crate::case::Reads;
+use crate::json_lines::lines_text;
+use crate::lines::Refused;
+use crate::pieces::Pieces;
+use std::alloc::{AllocError, Global};
+
+/// An event of server 1, at the second 1,700,000,000.
+fn push_event(log: &mut Vec<u8>, kind: u8, body: &[u8]) -> Result<(), AllocError> {
+    let length = u32::try_from(body.len().saturating_add(19)).unwrap_or(u32::MAX);
+    log.extend_from_slice(&[0x00, 0xf1, 0x53, 0x65, kind, 1, 0, 0, 0])?;
+    log.extend_from_slice(length.to_le_bytes().as_slice())?;
+    log.extend_from_slice(&[0; 6])?;
+    log.extend_from_slice(body)
+}
+
+/// A log of a transaction with a table map and a rows event: the pieces `front` and `begin` stand before them, and `xid` behind them.
+fn log_of(
+    alloc: Global,
+    pieces: &Pieces,
+    map: &[u8],
+    kind: u8,
+    rows: &[u8],
+) -> Result<Vec<u8>, Refused> {
+    let mut log = Vec::from_slice(alloc, pieces.named("front")?)?;
+    log.extend_from_slice(pieces.named("begin")?)?;
+    push_event(&mut log, 19, map)?;
+    push_event(&mut log, kind, rows)?;
+    log.extend_from_slice(pieces.named("xid")?)?;
+    Ok(log)
+}
+
+/// The lines of the log, whole.
+fn whole_lines(alloc: Global, log: Vec<u8>) -> Result<String, Refused> {
+    let name = String::from_str(alloc, "log")?;
+    let reads = Reads {
+        failing: 0,
+        most: 0,
+    };
+    lines_text(alloc, vec![in alloc; (name, log)]?, reads, 4096)
+}
+
+/// The members `after` and `before` of a line.
+fn images_in(line: &str) -> Option<(&str, &str)> {
+    let images = line.strip_prefix("{\"after\":")?;
+    let (after, rest) = images.split_once(",\"before\":")?;
+    let (before, _) = rest.split_once(",\"gtid\":null,")?;
+    Some((after, before))
+}
+
+/// The images of each change that a table map and a rows event give, as JSON: the one before, ` -> `, and the one after.
+pub fn images_text(
+    alloc: Global,
+    pieces: &Pieces,
+    map: &[u8],
+    kind: u8,
+    rows: &[u8],
+) -> Result<String, Refused> {
+    let lines = whole_lines(alloc, log_of(alloc, pieces, map, kind, rows)?)?;
+    let mut text = String::new(alloc);
+    for line in lines.as_str().lines() {
+        match images_in(line) {
+            Some((after, before)) => {
+                text.push_str(before)?;
+                text.push_str(" -> ")?;
+                text.push_str(after)?;
+            }
+            None => text.push_str(line)?,
+        }
+        text.push('\n')?;
+    }
+    Ok(text)
+}
