@@ -139,6 +139,12 @@ def is_of_the_gate(crate):
     return all(it.stat().st_mtime < built.stat().st_mtime for it in sources(crate))
 
 
+def is_built(crate, crates):
+    """Returns whether the crate has its library, built by rt from its sources as they are."""
+    file = ROOT / "crates" / crate.name / "out/rlib/stamp"
+    return file.is_file() and file.read_text() == stamp(crate, crates)
+
+
 def build_libraries(chosen, crates):
     """Sees to it that each library below the crates is built, and returns the name of one that can't be."""
     libraries = []
@@ -148,8 +154,8 @@ def build_libraries(chosen, crates):
         return None
     for crate in libraries:
         folder = ROOT / "crates" / crate.name
-        if is_of_the_gate(crate):
-            shutil.rmtree(folder / "out/rlib")
+        if is_built(crate, crates):
+            continue
         if subprocess.run(["rt", "lib", "--jobs", "1"], cwd=folder, stdin=subprocess.DEVNULL, stdout=subprocess.DEVNULL).returncode:
             return crate.name
     return None
@@ -470,7 +476,7 @@ def main():
     base.mkdir(exist_ok=True)
     with open(base / "lock", "w") as lock:
         fcntl.flock(lock, fcntl.LOCK_EX)
-        library = build_libraries(chosen, crates)
+        library = build_libraries([it for it in chosen if it.edits], crates)
         if library:
             print(f"the library {library} isn't proved, so no edit was tried")
             failed += max(1, sum(len(it.edits) for it in chosen))
