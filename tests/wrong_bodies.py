@@ -1,0 +1,497 @@
+#!/usr/bin/env python3
+"""Tries the wrong bodies of crates/NAME/wrong-bodies/*.edit, many of them in one check.
+
+usage: tests/wrong_bodies.py [--only TEXT] [CRATE ..]
+
+A check judges each function by itself, since a proof cites only the contracts of what it calls. So edits of different
+functions are planted together in a copy of the crate, and `rt check` must refuse each edit's own function by a goal of
+its own. An edit whose function is only unproved with something that it calls, or which was planted beside one that
+doesn't compile, is tried again with fewer others, and at last alone. An edit that isn't refused fails the run, and so
+does one that can't be applied, whose function can't be found, or that doesn't compile.
+
+An edit is a file with a line 'file: src/NAME.rt' and pairs of lines 'old: TEXT' and 'new: TEXT'. Each TEXT stands in
+that file exactly once, inside one function. The crate itself is checked first, without any edit: it must be proved.
+
+The copies lie in .git/wrong-bodies, with what the checks of the clean crates kept. Checks run side by side, one a
+processor or as many as RT_JOBS says. --only tries the edits whose name has TEXT. The last line is 'N passed, M failed'.
+"""
+import argparse
+import fcntl
+import hashlib
+import os
+import re
+import shutil
+import subprocess
+import sys
+import tempfile
+import time
+from concurrent.futures import FIRST_COMPLETED, ThreadPoolExecutor, wait
+from dataclasses import dataclass, field
+from pathlib import Path
+
+ROOT = Path(__file__).resolve().parent.parent
+FOLDER = "wrong-bodies"
+PARTS = ("src", "specs", "proofs")
+# So many edits in one check: more would make the last checks of a run wait for one long one.
+MOST_IN_A_ROUND = 24
+LONGEST_CHECK = 1800
+
+HEAD = re.compile(r"^( *)(?:pub(?:\([^)]*\))? )?(?:const )?fn (\w+)")
+IMPL = re.compile(r"^impl\b(?P<rest>.*)")
+SAID = re.compile(r"^fn (\S+): (.*)$", re.M)
+ERROR = re.compile(r"^(?:\./)?proofs/(\S+?):\d+:\d+: error: (.*)$", re.M)
+# What antt says where a proof file names what an edit took away, or cites such a proof.
+NAMES_WENT = re.compile(r"has no field|is not in scope|has no `|was not admitted")
+
+
+@dataclass(frozen=True)
+class Function:
+    """A function of a crate: its module, the words of the type and trait that it belongs to, its name, and its lines."""
+
+    module: str
+    owner: str
+    name: str
+    first: int
+    last: int
+
+
+@dataclass(frozen=True)
+class Edit:
+    crate: str
+    name: str
+    path: str
+    pairs: tuple
+    function: Function
+
+    def label(self):
+        return f"{self.crate}/{FOLDER}/{self.name}"
+
+
+@dataclass
+class Crate:
+    name: str
+    deps: list
+    edits: list = field(default_factory=list)
+    # Why edits fail, by their name.
+    failed: dict = field(default_factory=dict)
+    refused: int = 0
+    only_as_names_went: int = 0
+    rounds: int = 0
+    clean_seconds: float = 0
+    seconds: float = 0
+    # Checks that are still to come.
+    open: int = 0
+
+
+class BadEdit(Exception):
+    """An edit that says nothing of a contract, and why."""
+
+
+# The repository
+
+
+def read_crates():
+    """Returns the repository's crates by their names, each with its line's words of crates.txt."""
+    crates = {}
+    for line in (ROOT / "crates.txt").read_text().splitlines():
+        name, _, uses = line.partition("#")[0].strip().partition(":")
+        if name.strip():
+            crates[name.split()[0]] = Crate(name.split()[0], re.split(r"[\s,]+", uses.strip()))
+    return crates
+
+
+def below(crate, crates):
+    """Returns the repository's libraries below a crate, each after those that it uses."""
+    found = []
+    for name in crate.deps:
+        if name in crates:
+            found += [it for it in [*below(crates[name], crates), crates[name]] if it not in found]
+    return found
+
+
+def sources(crate):
+    """Yields the crate's files in the order in which rt sums them."""
+    for part in PARTS:
+        for at, folders, names in os.walk(ROOT / "crates" / crate.name / part):
+            folders.sort()
+            yield from (Path(at) / name for name in sorted(names))
+
+
+def stamp(crate, crates):
+    """Returns the sum by which rt knows that a built library is that of these sources. If rt ever sums otherwise, it builds the library again in the copy."""
+    folder = ROOT / "crates" / crate.name
+    kit = Path(shutil.which("rt")).resolve().parent.parent
+    label = lambda it: f"//crates/{it}" if it in crates else f"@rattle//{it}"
+    said = {"name": crate.name, "deps": [label(it) for it in crate.deps if it]}
+    made = hashlib.sha256(repr((said, False)).encode())
+    made.update((kit / "WHAT").read_bytes())
+    for file in sources(crate):
+        made.update(repr((str(file).replace(str(folder), ""), file.read_bytes())).encode())
+    made.update(repr([stamp(crates[it], crates) for it in crate.deps if it in crates]).encode())
+    return made.hexdigest()
+
+
+def is_of_the_gate(crate):
+    """Returns whether the crate has the library that `rt ci` proved and built from its sources as they are. It has no stamp, since it holds statements alone."""
+    built = ROOT / "crates" / crate.name / "out/rlib" / f"{crate.name}.rlib/format"
+    if not built.is_file() or (built.parent.parent / "stamp").exists():
+        return False
+    return all(it.stat().st_mtime < built.stat().st_mtime for it in sources(crate))
+
+
+def is_built(crate, crates):
+    """Returns whether the crate has its library, built by rt from its sources as they are."""
+    file = ROOT / "crates" / crate.name / "out/rlib/stamp"
+    return file.is_file() and file.read_text() == stamp(crate, crates)
+
+
+def build_libraries(chosen, crates):
+    """Sees to it that each library below the crates is built, and returns the name of one that can't be."""
+    libraries = []
+    for crate in chosen:
+        libraries += [it for it in below(crate, crates) if it not in libraries]
+    if all(map(is_of_the_gate, libraries)):
+        return None
+    for crate in libraries:
+        folder = ROOT / "crates" / crate.name
+        if is_built(crate, crates):
+            continue
+        if subprocess.run(["rt", "lib", "--jobs", "1"], cwd=folder, stdin=subprocess.DEVNULL, stdout=subprocess.DEVNULL).returncode:
+            return crate.name
+    return None
+
+
+# The edits
+
+
+def owner_of(head):
+    """Returns the words of an impl's head as rattle joins them to a name: its type, then its trait and what that takes."""
+    parameters, text = re.fullmatch(r"(<(?:[^<>]|<[^<>]*>)*>)?(.*)", head.rstrip("{ ")).groups()
+    taken = re.findall(r"[<,] *(\w+)", parameters or "")
+    given, _, taker = text.rpartition(" for ")
+    type_words, trait_words = ([it for it in re.findall(r"[A-Z]\w*", words) if it not in taken] for words in (taker, given))
+    return "".join([*type_words[:1], *trait_words])
+
+
+def functions_of(path, text):
+    """Returns the functions of a formatted file, from the line of each one's head to the next line with a bracket as far to the left."""
+    module = re.sub(r"(^|::)(lib|main)$", "", path[len("src/") : -len(".rt")].replace("/", "::"))
+    found, owner, lines = [], "", text.split("\n")
+    for number, line in enumerate(lines):
+        block, head = IMPL.match(line), HEAD.match(line)
+        if block:
+            owner = owner_of(block["rest"])
+        elif line.startswith("}"):
+            owner = ""
+        if head:
+            ends = rf"{head[1]}\}}|{head[1]}(?:pub(?:\([^)]*\))? )?(?:const )?fn \w"
+            last = next((at for at in range(number + 1, len(lines)) if re.match(ends, lines[at])), len(lines) - 1)
+            is_short = line.rstrip().endswith(("}", ";"))
+            found.append(Function(module, owner, head[2], number, number if is_short else last))
+    return found
+
+
+def function_at(functions, text, old):
+    """Returns the function that the text to replace stands in."""
+    start = text.index(old)
+    first, last = text.count("\n", 0, start), text.count("\n", 0, start + len(old))
+    around = [it for it in functions if it.first <= first and last <= it.last]
+    if not around:
+        raise BadEdit(f"it changes what no function holds: {old.strip()[:80]!r}")
+    return around[-1]
+
+
+def read_edit(crate, file):
+    """Reads an edit of one function, and sees to it that it can be applied."""
+    if not re.fullmatch(r"[a-z0-9_]+\.edit", file.name) or not file.is_file():
+        raise BadEdit("an edit's name is of small letters, digits and _, and ends in .edit")
+    lines = file.read_text().splitlines()
+    paths = [it[len("file: ") :].strip() for it in lines if it.startswith("file: ")]
+    olds = [it[len("old: ") :] for it in lines if it.startswith("old: ")]
+    news = [it[len("new:") :].removeprefix(" ") for it in lines if it.startswith("new:")]
+    if len(paths) != 1 or not re.fullmatch(r"src/[\w/]+\.rt", paths[0]) or not olds or len(olds) != len(news):
+        raise BadEdit("an edit is one line 'file: src/NAME.rt' and then pairs of lines 'old: TEXT' and 'new: TEXT'")
+    try:
+        text = (ROOT / "crates" / crate.name / paths[0]).read_text()
+    except OSError:
+        raise BadEdit(f"it is stale: there is no file {paths[0]}") from None
+    functions, changed, found = functions_of(paths[0], text), text, set()
+    for old, new in zip(olds, news):
+        times = changed.count(old)
+        if times != 1 or text.count(old) != 1:
+            raise BadEdit(f"it is stale: {paths[0]} has its old text {times} times, and not once: {old.strip()[:80]!r}")
+        found.add(function_at(functions, text, old))
+        changed = changed.replace(old, new)
+    if len(found) != 1:
+        raise BadEdit("it changes more than one function")
+    return Edit(crate.name, file.name, paths[0], tuple(zip(olds, news)), found.pop())
+
+
+def read_edits(crate, only):
+    """Fills in the crate's edits; those that can't be applied have failed."""
+    folder = ROOT / "crates" / crate.name / FOLDER
+    files = sorted(it for it in folder.iterdir() if it.suffix != ".md") if folder.is_dir() else []
+    if not files:
+        crate.failed[f"{FOLDER}/"] = "there is no edit in it"
+    for file in files:
+        try:
+            if only in file.name:
+                crate.edits.append(read_edit(crate, file))
+        except (BadEdit, UnicodeDecodeError) as why:
+            crate.failed[file.name] = f"BAD EDIT: {why}"
+
+
+def first_rounds(edits):
+    """Returns the edits in lists in which no function stands twice, each list short."""
+    by_function = {}
+    for edit in edits:
+        by_function.setdefault((edit.path, edit.function), []).append(edit)
+    rounds = []
+    for place in range(max(map(len, by_function.values()), default=0)):
+        layer = [it[place] for it in by_function.values() if place < len(it)]
+        parts = -(-len(layer) // MOST_IN_A_ROUND)
+        rounds += [layer[part::parts] for part in range(parts)]
+    return rounds
+
+
+# The copies
+
+
+def link_tree(source, target):
+    """Copies a folder by linking its files: whoever writes one anew leaves the other as it is."""
+    try:
+        shutil.copytree(source, target, copy_function=os.link)
+    except shutil.Error:
+        shutil.rmtree(target)
+        shutil.copytree(source, target)
+
+
+def make_room(room, crate, crates, kept):
+    """Lays out a copy of the repository: the crate, with kept work of its check, and the built libraries below it."""
+    shutil.rmtree(room, ignore_errors=True)
+    (room / "crates").mkdir(parents=True)
+    shutil.copy(ROOT / "crates.txt", room)
+    for it in crates.values():
+        (room / "crates" / it.name / "src").mkdir(parents=True)
+    for it in [crate, *below(crate, crates)]:
+        folder, to = ROOT / "crates" / it.name, room / "crates" / it.name
+        shutil.rmtree(to)
+        for part in PARTS:
+            if (folder / part).is_dir():
+                link_tree(folder / part, to / part)
+        if it is not crate:
+            link_tree(folder / "out/rlib", to / "out/rlib")
+            if not (to / "out/rlib/stamp").exists():
+                (to / "out/rlib/stamp").write_text(stamp(it, crates))
+    if kept.is_dir():
+        link_tree(kept, room / "crates" / crate.name / "out/incremental")
+
+
+def check(room, crate):
+    """Returns what a check of the crate in a copy says, and its status."""
+    words = ["rt", "check", "--jobs", "1"]
+    how = {"stdin": subprocess.DEVNULL, "stdout": subprocess.PIPE, "stderr": subprocess.STDOUT, "errors": "replace"}
+    try:
+        ran = subprocess.run(words, cwd=room / "crates" / crate.name, timeout=LONGEST_CHECK, **how)
+    except subprocess.TimeoutExpired:
+        return f"the check hadn't ended after {LONGEST_CHECK} seconds", 2
+    return ran.stdout, ran.returncode
+
+
+def check_clean(base, crate, crates):
+    """Checks the crate as it is, and leaves what the check kept for the rounds. Returns whether it is proved, and what was said."""
+    start, room, kept = time.time(), base / f"clean-{crate.name}", base / f"kept-{crate.name}"
+    own = ROOT / "crates" / crate.name / "out/incremental"
+    make_room(room, crate, crates, own if own.is_dir() else kept)
+    said, status = check(room, crate)
+    is_proved = not status and re.search(r"^logic=proved ", said, re.M) is not None
+    if is_proved:
+        shutil.rmtree(kept, ignore_errors=True)
+        os.rename(room / "crates" / crate.name / "out/incremental", kept)
+    shutil.rmtree(room)
+    crate.clean_seconds = time.time() - start
+    return is_proved, said
+
+
+def check_round(base, crate, crates, edits):
+    """Checks the crate with the edits planted, and returns what was said and the seconds that it took."""
+    start, room = time.time(), Path(tempfile.mkdtemp(prefix=f"{crate.name}-", dir=base))
+    make_room(room, crate, crates, base / f"kept-{crate.name}")
+    for edit in edits:
+        file = room / "crates" / crate.name / edit.path
+        text = file.read_text()
+        for old, new in edit.pairs:
+            text = text.replace(old, new)
+        file.unlink()
+        file.write_text(text)
+    said, _ = check(room, crate)
+    shutil.rmtree(room)
+    return said, time.time() - start
+
+
+# The verdicts
+
+REFUSED, NAMES, PASSED, CALLEE, UNKNOWN = "refused", "names", "passed", "callee", "unknown"
+
+
+def keys_of(edit, said):
+    """Returns the names by which a check tells of the edit's function: its own first, then those of its closures."""
+    function = edit.function
+    inside = "::".join(it for it in (edit.crate, function.module) if it)
+    name = "::".join(it for it in (function.owner, function.name) if it)
+    own = f"{inside}::{name}"
+    closures = [it for it in said if it.startswith(f"{inside}::fn::{name}::")]
+    return [it for it in (own, *closures) if it in said]
+
+
+def errors_of(key, errors):
+    """Returns the errors in a function's own proof files."""
+    folder = key.partition("::")[2].replace("::", "/")
+    return [text for file, text in errors if file.startswith(f"{folder}/")]
+
+
+def verdict_on(key, said, errors):
+    """Judges one function by what a check said of it."""
+    text, own = said[key], errors_of(key, errors)
+    if text == "proved":
+        return PASSED
+    if "`search` did not prove" in text or any(not NAMES_WENT.search(it) for it in own):
+        return REFUSED
+    if own:
+        return NAMES
+    return CALLEE
+
+
+def judge(edits, out):
+    """Returns each edit's verdict in a round, and whether something else than the edited functions failed."""
+    said, errors = dict(SAID.findall(out)), ERROR.findall(out)
+    own, verdicts = set(), {}
+    for edit in edits:
+        keys = keys_of(edit, said)
+        own.update(keys)
+        each = [verdict_on(it, said, errors) for it in keys]
+        is_named = keys and "::fn::" not in keys[0]
+        verdicts[edit] = next((it for it in (REFUSED, NAMES, CALLEE, PASSED) if it in each), UNKNOWN) if is_named else UNKNOWN
+    strangers = [it for it in said if it not in own and verdict_on(it, said, errors) in (REFUSED, NAMES)]
+    return verdicts, bool(strangers)
+
+
+def first_error(out):
+    """Returns the line that tells why a check came to no verdict."""
+    lines = [it for it in out.splitlines() if it.strip()]
+    return next((it for it in lines if it.startswith("error") or ": error" in it), lines[-1] if lines else "nothing was said")[:200]
+
+
+def settle(crate, edits, out):
+    """Takes down the verdicts of a round, and returns the lists of edits to try again."""
+    is_alone = len(edits) == 1
+    if not re.search(r"^logic=(not-)?proved", out, re.M):
+        if is_alone:
+            crate.failed[edits[0].name] = f"BAD EDIT: no contract was tried, since it doesn't compile: {first_error(out)}"
+            return []
+        return [edits[: len(edits) // 2], edits[len(edits) // 2 :]]
+    verdicts, is_muddied = judge(edits, out)
+    again = []
+    for edit, verdict in verdicts.items():
+        if verdict == UNKNOWN:
+            crate.failed[edit.name] = f"BAD EDIT: the check tells of no function {edit.function.name} of {edit.path}"
+        elif not is_alone and (is_muddied or verdict in (PASSED, CALLEE)):
+            again.append(edit)
+        elif verdict == PASSED:
+            crate.failed[edit.name] = f"NOT REFUSED: {edit.function.name} is still proved with this edit"
+        elif verdict == CALLEE:
+            crate.failed[edit.name] = f"NOT REFUSED by a goal of its own: {edit.function.name} is only unproved with what it calls"
+        else:
+            crate.refused += 1
+            crate.only_as_names_went += verdict == NAMES
+            if verdict == NAMES:
+                print(f"{edit.label()}: refused only as names went away, which says little: change a value and keep the names", flush=True)
+    if is_muddied or len(again) == len(edits):
+        return [[it] for it in again]
+    return [again] if again else []
+
+
+# The run
+
+
+def try_all(base, chosen, crates, jobs):
+    """Checks the clean crates, then rounds of edits until each has its verdict, side by side."""
+    by_size = sorted((it for it in chosen if it.edits), key=lambda it: -sum(file.stat().st_size for file in sources(it)))
+    with ThreadPoolExecutor(jobs) as pool:
+        running = {pool.submit(check_clean, base, it, crates): (it, None) for it in by_size}
+        while running:
+            for done in wait(running, return_when=FIRST_COMPLETED).done:
+                crate, edits = running.pop(done)
+                rounds = after_clean(crate, *done.result()) if edits is None else after_round(crate, edits, *done.result())
+                crate.open += len(rounds) - (edits is not None)
+                crate.rounds += len(rounds)
+                for it in rounds:
+                    running[pool.submit(check_round, base, crate, crates, it)] = crate, it
+                if not crate.open:
+                    tell(crate)
+
+
+def after_clean(crate, is_proved, said):
+    """Returns the first rounds of a crate that is proved without any edit."""
+    if is_proved:
+        return first_rounds(crate.edits)
+    for edit in crate.edits:
+        crate.failed[edit.name] = f"not tried, since the crate itself isn't proved: {first_error(said)}"
+    return []
+
+
+def after_round(crate, edits, said, seconds):
+    """Returns the rounds that follow on a round."""
+    crate.seconds += seconds
+    return settle(crate, edits, said)
+
+
+def tell(crate):
+    """Says how a crate's edits came out."""
+    for name, why in sorted(crate.failed.items()):
+        print(f"{crate.name}/{name if name.startswith(FOLDER) else f'{FOLDER}/{name}'}: {why}")
+    names = f" ({crate.only_as_names_went} only as names went away)" if crate.only_as_names_went else ""
+    spent = f"{crate.rounds} rounds in {crate.seconds:.0f} s, the clean crate in {crate.clean_seconds:.0f} s"
+    print(f"{crate.name}: {crate.refused} refused{names}, {len(crate.failed)} not; {spent}", flush=True)
+
+
+def main():
+    reader = argparse.ArgumentParser(description="Tries the wrong bodies of the crates.")
+    reader.add_argument("--only", default="", metavar="TEXT", help="the edits whose name has this")
+    reader.add_argument("names", nargs="*", metavar="CRATE")
+    given = reader.parse_args()
+    crates = read_crates()
+    names = given.names or sorted(it.parent.name for it in ROOT.glob(f"crates/*/{FOLDER}"))
+    unknown = [it for it in names if it not in crates]
+    for name in unknown:
+        print(f"{name}: crates.txt names no such crate")
+    chosen = [crates[it] for it in dict.fromkeys(names) if it in crates]
+    start = time.time()
+    for crate in chosen:
+        read_edits(crate, given.only)
+        if not crate.edits:
+            tell(crate)
+    failed = len(unknown) + (not names)
+    base = ROOT / ".git" / FOLDER if (ROOT / ".git").is_dir() else Path(tempfile.mkdtemp(prefix=f"{FOLDER}-"))
+    base.mkdir(exist_ok=True)
+    with open(base / "lock", "w") as lock:
+        fcntl.flock(lock, fcntl.LOCK_EX)
+        library = build_libraries([it for it in chosen if it.edits], crates)
+        if library:
+            print(f"the library {library} isn't proved, so no edit was tried")
+            failed += max(1, sum(len(it.edits) for it in chosen))
+        else:
+            number = os.environ.get("RT_JOBS", "")
+            try_all(base, chosen, crates, int(number) if number.isdigit() and int(number) else len(os.sched_getaffinity(0)))
+        for it in base.iterdir():
+            if it.is_dir() and not it.name.startswith("kept-"):
+                shutil.rmtree(it)
+    passed = sum(it.refused for it in chosen)
+    failed += sum(len(it.failed) for it in chosen)
+    print(f"wrong bodies: {sum(it.rounds for it in chosen)} rounds, {time.time() - start:.0f} s")
+    print(f"{passed} passed, {failed} failed")
+    return 1 if failed or not passed else 0
+
+
+if __name__ == "__main__":
+    sys.exit(main())
