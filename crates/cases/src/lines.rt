@@ -14,9 +14,9 @@ pub enum Refused {
     UnknownName,
     /// There is a piece or a file of that name.
     NameTaken,
-    /// A verb stands in front of each `want`.
+    /// No `want` stands in front of the verb.
     NothingWanted,
-    /// No verb stands behind a `want`.
+    /// No verb stands behind the last `want`.
     WantLeft,
     /// No verb stands in the case.
     NoVerb,
