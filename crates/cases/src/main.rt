@@ -2,6 +2,7 @@
 #![tactic(auto)]
 
 mod bench;
+mod bent;
 mod case;
 mod cells;
 mod filters;
@@ -40,7 +41,10 @@ fn take_line(
     match bench.take(rt.alloc(), line) {
         Ok(None) => Ok(()),
         Ok(Some(said)) => println!(rt; "{said}"),
-        Err(why) => println!(rt; "BAD LINE {file}:{number}: {why}: {line}"),
+        Err(why) => {
+            let reason = why.reason();
+            println!(rt; "BAD LINE {file}:{number}: {reason}: {line}")
+        }
     }
 }
 
@@ -56,7 +60,10 @@ fn take_file(
     }
     match bench.end_file() {
         Ok(()) => Ok(()),
-        Err(why) => println!(rt; "BAD LINE {file}: the last: {why}"),
+        Err(why) => {
+            let reason = why.reason();
+            println!(rt; "BAD LINE {file}, the last: {reason}")
+        }
     }
 }
 

@@ -1,6 +1,7 @@
 //! The verbs: what a line does with a case.
+use crate::bent::each_byte;
 use crate::case::Case;
-use crate::json_lines::judge_lines;
+use crate::json_lines::{judge_lines, judge_lines_again};
 use crate::lines::Refused;
 use crate::orders::{answer_words, show_words};
 use crate::pieces::Pieces;
@@ -38,11 +39,13 @@ pub fn carry_out(
     words: &[String],
 ) -> Result<Verdict, Refused> {
     match verb {
-        "run" => run_task(alloc, case, words),
+        "run" | "measure" => run_task(alloc, case, verb, words),
+        "each-byte" => each_byte(alloc, case, words),
         "each-room" | "each-read" | "each-short" | "each-cut" => sweep(alloc, case, verb, words),
         "binlogfeed" => answer_words(alloc, case, words),
         "words" => show_words(alloc, case, words),
         "lines" => judge_lines(alloc, case),
+        "lines-again" => judge_lines_again(alloc, case),
         _ => match shown(alloc, pieces, verb, words)? {
             Some(came) => Ok(Verdict::of(case, came)),
             None => Err(Refused::UnknownWord),
