@@ -14,6 +14,3 @@ mod writer;
 
 pub use tree::line;
 pub use writer::LineWriter;
-
-#[cfg(test)]
-mod tests;

@@ -25,6 +25,3 @@ pub use laws::{one_source, one_token};
 pub use names::Names;
 pub use set_fault::SetFault;
 pub use token::{Token, TokenFault, TokenRef};
-
-#[cfg(test)]
-mod tests;

@@ -38,6 +38,3 @@ pub use row_view::{Cells, RowView, Side};
 pub use rows::{RowSpan, next_row};
 pub use rows_head::{Part, RowsHead, rows_table_id};
 pub use table_map::TableMap;
-
-#[cfg(test)]
-mod tests;

@@ -1,6 +1,6 @@
 //! A table map and a rows event, put into a log, and the images of their changes as JSON.
 use crate::case::Reads;
-use crate::json_lines::lines_text;
+use crate::json_lines::lines_of;
 use crate::lines::Refused;
 use crate::pieces::Pieces;
 use std::alloc::{AllocError, Global};
@@ -37,7 +37,7 @@ fn whole_lines(alloc: Global, log: Vec<u8>) -> Result<String, Refused> {
         failing: 0,
         most: 0,
     };
-    lines_text(alloc, vec![in alloc; (name, log)]?, reads, 4096)
+    Ok(lines_of(alloc, vec![in alloc; (name, log)]?, reads, 4096)?.text)
 }
 
 /// The members `after` and `before` of a line.

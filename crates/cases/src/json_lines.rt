@@ -1,5 +1,5 @@
 //! The JSON lines of a case's files, by both calls that write them.
-use crate::case::{Case, Named, Reads};
+use crate::case::{Case, Named, Reads, SMALL_WINDOW};
 use crate::lines::Refused;
 use crate::outcome::source;
 use crate::runs::files_of;
@@ -52,64 +52,94 @@ fn push_other(text: &mut String, one: &str, other: &[u8]) -> Result<(), Refused>
     Ok(())
 }
 
-/// Takes what a feed gives next, and says whether more may come.
-fn push_next(
+/// The lines so far, and how many reads failed on the way.
+#[derive(Drop)]
+pub struct Lines {
+    pub text: String,
+    pub failed_reads: u64,
+}
+
+/// Takes what a feed gives next, and says whether to ask it again.
+fn take_next(
     alloc: Global,
-    text: &mut String,
+    lines: &mut Lines,
     feed: &mut Feed<MemoryLogs>,
     writer: &mut LineWriter,
 ) -> Result<bool, Refused> {
     match feed.next() {
-        Ok(None) => text.push_str("end\n")?,
-        Ok(Some(change)) => {
-            push_line(alloc, text, writer, &change)?;
-            return Ok(true);
+        Ok(None) => {
+            lines.text.push_str("end\n")?;
+            return Ok(false);
         }
+        Ok(Some(change)) => push_line(alloc, &mut lines.text, writer, &change)?,
         Err(FeedFault::Log(fault)) => {
             let what = fault.what;
-            write!(text, "{what:?}\n")?;
+            write!(&mut lines.text, "{what:?}\n")?;
+            return Ok(false);
         }
         Err(FeedFault::WindowTooSmall { needed }) => {
             let _ = feed.replace_window(vec![in alloc; 0u8; needed as usize]?);
-            return Ok(true);
         }
-        Err(FeedFault::Read { .. }) => text.push_str("Read\n")?,
+        Err(FeedFault::Read { .. }) => lines.failed_reads = lines.failed_reads.saturating_add(1),
         Err(FeedFault::OutOfMemory) => return Err(Refused::OutOfMemory),
     }
-    Ok(false)
+    Ok(true)
 }
 
-/// The lines of files, and behind them `end` or what the fault is.
-pub fn lines_text(
+/// The lines of files, and behind them `end` or what the fault is. After a read that failed the feed is asked again.
+pub fn lines_of(
     alloc: Global,
     files: Vec<Named>,
     reads: Reads,
     window: usize,
-) -> Result<String, Refused> {
+) -> Result<Lines, Refused> {
     let logs = source(files, reads)?;
     let window = vec![in alloc; 0u8; window]?;
     let Ok(mut feed) = Feed::open(alloc, logs, Filter::new(), Start::Beginning, window) else {
         return Err(Refused::NameTaken);
     };
-    let mut text = String::new(alloc);
+    let mut lines = Lines {
+        text: String::new(alloc),
+        failed_reads: 0,
+    };
     let mut writer = LineWriter::new(alloc);
     for _ in 0..u32::MAX {
-        if !push_next(alloc, &mut text, &mut feed, &mut writer)? {
+        if !take_next(alloc, &mut lines, &mut feed, &mut writer)? {
             break;
         }
     }
-    Ok(text)
+    Ok(lines)
 }
 
-/// The lines of a case's files, with each of its windows.
+/// `lines`: those of the case's files, with each of its windows.
 pub fn judge_lines(alloc: Global, case: &Case) -> Result<Verdict, Refused> {
     let mut runs = 0u64;
     for window in &case.windows {
-        let came = lines_text(alloc, files_of(alloc, case)?, case.reads, *window)?;
+        let came = lines_of(alloc, files_of(alloc, case)?, case.reads, *window)?.text;
         if came.as_str() != case.wanted.as_str() {
             return Ok(Verdict::Differs { came });
         }
         runs = runs.saturating_add(1);
     }
     Ok(Verdict::Well { runs })
+}
+
+/// `lines-again`: the same lines come where each read in turn fails once.
+pub fn judge_lines_again(alloc: Global, case: &Case) -> Result<Verdict, Refused> {
+    for failing in 1..100_000u64 {
+        let reads = Reads {
+            failing,
+            ..case.reads
+        };
+        let came = lines_of(alloc, files_of(alloc, case)?, reads, SMALL_WINDOW)?;
+        if came.text.as_str() != case.wanted.as_str() {
+            return Ok(Verdict::Differs { came: came.text });
+        }
+        if came.failed_reads == 0 {
+            return Ok(Verdict::Well { runs: failing });
+        }
+    }
+    Ok(Verdict::Differs {
+        came: String::from_str(alloc, "reads without end\n")?,
+    })
 }

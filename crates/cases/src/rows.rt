@@ -151,30 +151,6 @@ fn push_row(
     Ok(())
 }
 
-/// The rows behind a head, to the end or to the first place where none stands.
-fn push_rows(
-    alloc: Global,
-    text: &mut String,
-    map: &TableMap,
-    head: &RowsHead,
-    body: &[u8],
-) -> Result<(), AllocError>
-    requires { LiesIn head.now body.now }
-{
-    let mut at = head.start;
-    for _ in 0..=body.len() {
-        match next_row(head, map, body, at) {
-            Ok(None) => return text.push_str("end\n"),
-            Err(BadRows) => return text.push_str("BadRows\n"),
-            Ok(Some((span, after))) => {
-                push_row(alloc, text, map, head, body, span)?;
-                at = after;
-            }
-        }
-    }
-    text.push_str("rows without end\n")
-}
-
 /// The table that a rows event names, where that is not the map's.
 fn push_table(text: &mut String, map: &TableMap, body: &[u8]) -> Result<(), AllocError> {
     match rows_table_id(body) {
@@ -184,7 +160,7 @@ fn push_table(text: &mut String, map: &TableMap, body: &[u8]) -> Result<(), Allo
     }
 }
 
-/// What a body gives as a rows event of a kind under a map: its rows, or that it has no reading.
+/// What a body gives as a rows event of a kind under a map: its rows, to the end or to the first place where none stands.
 fn push_event(
     alloc: Global,
     text: &mut String,
@@ -196,10 +172,21 @@ fn push_event(
     requires high { kind ≤ 32 }
 {
     push_table(text, map, body)?;
-    match RowsHead::read(kind, body, map) {
-        Err(BadRows) => text.push_str("BadRows\n"),
-        Ok(head) => push_rows(alloc, text, map, &head, body),
+    let Ok(head) = RowsHead::read(kind, body, map) else {
+        return text.push_str("BadRows\n");
+    };
+    let mut at = head.start;
+    for _ in 0..=body.len() {
+        match next_row(&head, map, body, at) {
+            Ok(None) => return text.push_str("end\n"),
+            Err(BadRows) => return text.push_str("BadRows\n"),
+            Ok(Some((span, after))) => {
+                push_row(alloc, text, map, &head, body, span)?;
+                at = after;
+            }
+        }
     }
+    text.push_str("rows without end\n")
 }
 
 /// What a body gives as a rows event of a kind, 30 to 32, under the table map of another body.

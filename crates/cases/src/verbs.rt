@@ -1,7 +1,7 @@
 //! The verbs: what a line does with a case.
 use crate::bent::each_byte;
 use crate::case::Case;
-use crate::json_lines::judge_lines;
+use crate::json_lines::{judge_lines, judge_lines_again};
 use crate::lines::Refused;
 use crate::orders::{answer_words, show_words};
 use crate::pieces::Pieces;
@@ -45,6 +45,7 @@ pub fn carry_out(
         "binlogfeed" => answer_words(alloc, case, words),
         "words" => show_words(alloc, case, words),
         "lines" => judge_lines(alloc, case),
+        "lines-again" => judge_lines_again(alloc, case),
         _ => match shown(alloc, pieces, verb, words)? {
             Some(came) => Ok(Verdict::of(case, came)),
             None => Err(Refused::UnknownWord),
