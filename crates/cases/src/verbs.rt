@@ -1,8 +1,12 @@
 //! The verbs: what a line does with a case.
+use crate::bodies::{judge_body, judge_header, judge_kinds, judge_lengths};
 use crate::case::Case;
+use crate::layers::read_layer;
 use crate::lines::Refused;
 use crate::orders::{answer_words, show_words};
+use crate::parts::judge_parts;
 use crate::pieces::Pieces;
+use crate::reads::{judge_names, judge_reads};
 use crate::runs::run_task;
 use crate::sweeps::sweep;
 use std::alloc::Global;
@@ -30,7 +34,7 @@ impl Verdict {
 /// Carries out a verb, with the words behind it.
 pub fn carry_out(
     alloc: Global,
-    _pieces: &Pieces,
+    pieces: &Pieces,
     case: &Case,
     verb: &str,
     words: &[String],
@@ -40,6 +44,14 @@ pub fn carry_out(
         "each-room" | "each-read" | "each-short" | "each-cut" => sweep(alloc, case, verb, words),
         "binlogfeed" => answer_words(alloc, case, words),
         "words" => show_words(alloc, case, words),
+        "header" => judge_header(alloc, pieces, case, words),
+        "body" => judge_body(alloc, pieces, case, words),
+        "lengths" => judge_lengths(alloc, pieces, case, words),
+        "kinds" => judge_kinds(alloc, case, words),
+        "names" => judge_names(alloc, case),
+        "reads" => judge_reads(alloc, case, words),
+        "parts" => judge_parts(alloc, case, words),
+        "frames" | "events" | "units" | "feed" => read_layer(alloc, case, verb, words),
         _ => Err(Refused::UnknownWord),
     }
 }
