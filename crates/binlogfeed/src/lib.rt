@@ -9,8 +9,6 @@ mod names;
 mod options;
 pub mod program;
 pub mod run;
-#[cfg(test)]
-mod tests;
 pub mod transactions;
 mod unit_line;
 mod window;

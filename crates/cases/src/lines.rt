@@ -1,6 +1,5 @@
 //! The words of a line of cases, and why a line can't be carried out.
 use std::alloc::{AllocError, AllocFailed, Global};
-use std::fmt;
 
 /// Why a line of the cases can't be carried out.
 #[derive(Clone, Copy, Debug, PartialEq, Eq)]
@@ -15,9 +14,9 @@ pub enum Refused {
     UnknownName,
     /// There is a piece or a file of that name.
     NameTaken,
-    /// A verb stands in front of each `want`.
+    /// No `want` stands in front of the verb.
     NothingWanted,
-    /// No verb stands behind a `want`.
+    /// No verb stands behind the last `want`.
     WantLeft,
     /// No verb stands in the case.
     NoVerb,
@@ -26,19 +25,20 @@ pub enum Refused {
     OutOfMemory,
 }
 
-impl fmt::Display for Refused {
-    fn fmt<W: fmt::Write>(&self, f: &mut fmt::Formatter<W>) -> fmt::Result {
+impl Refused {
+    /// What is wrong with the line.
+    pub fn reason(self) -> &'static str {
         match self {
-            Refused::UnknownWord => write!(f, "unknown word"),
-            Refused::NoCase => write!(f, "no case"),
-            Refused::BadPart => write!(f, "bad part"),
-            Refused::UnknownName => write!(f, "unknown name"),
-            Refused::NameTaken => write!(f, "name taken"),
-            Refused::NothingWanted => write!(f, "nothing wanted"),
-            Refused::WantLeft => write!(f, "want without a verb"),
-            Refused::NoVerb => write!(f, "case without a verb"),
-            Refused::NoText => write!(f, "no text"),
-            Refused::OutOfMemory => write!(f, "out of memory"),
+            Refused::UnknownWord => "unknown word",
+            Refused::NoCase => "no case",
+            Refused::BadPart => "bad part",
+            Refused::UnknownName => "unknown name",
+            Refused::NameTaken => "name taken",
+            Refused::NothingWanted => "nothing wanted",
+            Refused::WantLeft => "want without a verb",
+            Refused::NoVerb => "case without a verb",
+            Refused::NoText => "no text",
+            Refused::OutOfMemory => "out of memory",
         }
     }
 }

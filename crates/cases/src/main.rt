@@ -2,6 +2,7 @@
 #![tactic(auto)]
 
 mod bench;
+mod bent;
 mod bodies;
 mod case;
 mod feed;
@@ -46,7 +47,10 @@ fn take_line(
     match bench.counted(taken) {
         Ok(None) => Ok(()),
         Ok(Some(said)) => println!(rt; "{said}"),
-        Err(why) => println!(rt; "BAD LINE {file}:{number}: {why}: {line}"),
+        Err(why) => {
+            let reason = why.reason();
+            println!(rt; "BAD LINE {file}:{number}: {reason}: {line}")
+        }
     }
 }
 
@@ -67,7 +71,10 @@ fn take_file(
 fn end_file(rt: &(impl Print + AllocGlobal), bench: &mut Bench, file: &str) -> io::Result<()> {
     match bench.end_file() {
         Ok(()) => Ok(()),
-        Err(why) => println!(rt; "BAD LINE {file}: the last: {why}"),
+        Err(why) => {
+            let reason = why.reason();
+            println!(rt; "BAD LINE {file}, the last: {reason}")
+        }
     }
 }
 

@@ -4,7 +4,7 @@ use crate::lines::Refused;
 use crate::outcome::{Job, run_files};
 use crate::verbs::Verdict;
 use binlog_feed::Start;
-use binlog_select::{Filter, Names};
+use binlog_select::{Filter, GtidSet, Kinds, Names};
 use binlogfeed::words::{Order, read_words};
 use binlogfeed::words_fault::{WordsFault, words_line, words_status};
 use std::alloc::Global;
@@ -116,15 +116,34 @@ fn order_text(alloc: Global, order: Order<'_>) -> Result<String, Refused> {
 
 /// A line for each list that a filter has.
 fn show_filter(text: &mut String, filter: Filter) -> Result<(), Refused> {
-    if let Some(kinds) = filter.only_events {
+    let Filter {
+        only_events,
+        only_tables,
+        ignored_tables,
+        only_schemas,
+        ignored_schemas,
+        auto_position,
+    } = filter;
+    show_kinds(text, only_events)?;
+    show_names(text, "only-tables", only_tables)?;
+    show_names(text, "ignored-tables", ignored_tables)?;
+    show_names(text, "only-schemas", only_schemas)?;
+    show_names(text, "ignored-schemas", ignored_schemas)?;
+    show_set(text, auto_position)
+}
+
+/// The kinds of a list that is given, in its order.
+fn show_kinds(text: &mut String, kinds: Option<Kinds>) -> Result<(), Refused> {
+    if let Some(kinds) = kinds {
         let kinds = kinds.into_vec();
         write!(text, "only-events {kinds:?}\n")?;
     }
-    show_names(text, "only-tables", filter.only_tables)?;
-    show_names(text, "ignored-tables", filter.ignored_tables)?;
-    show_names(text, "only-schemas", filter.only_schemas)?;
-    show_names(text, "ignored-schemas", filter.ignored_schemas)?;
-    if let Some(set) = filter.auto_position {
+    Ok(())
+}
+
+/// A set that is given, in its written form.
+fn show_set(text: &mut String, set: Option<GtidSet>) -> Result<(), Refused> {
+    if let Some(set) = set {
         text.push_str("auto-position ")?;
         set.write(text)?;
         text.push('\n')?;

@@ -14,6 +14,12 @@ use binlogfeed::run::run;
 use binlogfeed::transactions::run_transactions;
 use std::alloc::Global;
 
+/// So many bytes of a long line's beginning are shown.
+const HEAD: usize = 40;
+
+/// So many bytes of a long line's end are shown.
+const TAIL: usize = 200;
+
 /// What is run.
 #[derive(Drop)]
 pub enum Job {
@@ -29,6 +35,7 @@ pub struct Outcome {
     pub status: u8,
     /// The line on standard error, or the number of lines.
     pub end: String,
+    pub fault: Option<RunFault>,
 }
 
 /// A copy of a file.
@@ -66,6 +73,7 @@ pub fn run_files(alloc: Global, files: Vec<Named>, job: Job, how: How) -> Result
         flushes: out.flushes,
         status,
         end,
+        fault: answer.err(),
     })
 }
 
@@ -87,13 +95,40 @@ fn ended(
     }
 }
 
+/// A line, of which the middle is left out where it is long.
+fn shortened(alloc: Global, line: &str) -> Result<String, Refused> {
+    let head = line.get(..HEAD);
+    let tail = line.get(line.len().saturating_sub(TAIL)..);
+    match (head, tail) {
+        (Some(head), Some(tail)) if line.len() > HEAD + TAIL => {
+            Ok(format!(in alloc; "{head} .. {tail}")?)
+        }
+        _ => Ok(String::from_str(alloc, line)?),
+    }
+}
+
 impl Outcome {
+    fn lines(&self) -> Result<&str, Refused> {
+        match str::from_utf8(self.received.as_slice()) {
+            Ok(lines) => Ok(lines),
+            Err(_) => Err(Refused::NoText),
+        }
+    }
+
     /// The lines, and behind them a line that tells the end.
     pub fn text(&self, alloc: Global) -> Result<String, Refused> {
-        let Ok(lines) = str::from_utf8(self.received.as_slice()) else {
-            return Err(Refused::NoText);
-        };
+        let lines = self.lines()?;
         let (status, flushes, end) = (self.status, self.flushes, self.end.as_str());
         Ok(format!(in alloc; "{lines}end {status}, flushes {flushes}, {end}\n")?)
+    }
+
+    /// How many bytes there are, the last line, and the line that tells the end.
+    pub fn measure(&self, alloc: Global) -> Result<String, Refused> {
+        let bytes = self.received.len();
+        let last = shortened(alloc, self.lines()?.lines().last().unwrap_or(""))?;
+        let (status, flushes, end) = (self.status, self.flushes, self.end.as_str());
+        Ok(format!(in alloc;
+            "bytes {bytes}\nlast {last}\nend {status}, flushes {flushes}, {end}\n"
+        )?)
     }
 }

@@ -37,7 +37,7 @@ impl Task {
 }
 
 /// The files of a case.
-fn files_of(alloc: Global, case: &Case) -> Result<Vec<Named>, Refused> {
+pub fn files_of(alloc: Global, case: &Case) -> Result<Vec<Named>, Refused> {
     let mut files = Vec::new(alloc);
     for file in &case.files {
         files.push(copy_of(alloc, file)?)?;
@@ -50,8 +50,21 @@ pub fn run_once(alloc: Global, case: &Case, task: Task, how: How) -> Result<Outc
     run_files(alloc, files_of(alloc, case)?, task.job(), how)
 }
 
-/// `run TASK`: with each of the case's windows.
-pub fn run_task(alloc: Global, case: &Case, words: &[String]) -> Result<Verdict, Refused> {
+/// What came of a run: all of it, or its measure alone.
+fn text_of(alloc: Global, verb: &str, outcome: &Outcome) -> Result<String, Refused> {
+    match verb {
+        "run" => outcome.text(alloc),
+        _ => outcome.measure(alloc),
+    }
+}
+
+/// `run TASK` and `measure TASK`: with each of the case's windows.
+pub fn run_task(
+    alloc: Global,
+    case: &Case,
+    verb: &str,
+    words: &[String],
+) -> Result<Verdict, Refused> {
     let task = Task::read(only_word(words)?)?;
     let mut runs = 0u64;
     for window in &case.windows {
@@ -59,7 +72,7 @@ pub fn run_task(alloc: Global, case: &Case, words: &[String]) -> Result<Verdict,
             window: *window,
             ..case.how()
         };
-        let came = run_once(alloc, case, task, how)?.text(alloc)?;
+        let came = text_of(alloc, verb, &run_once(alloc, case, task, how)?)?;
         if came.as_str() != case.wanted.as_str() {
             return Ok(Verdict::Differs { came });
         }

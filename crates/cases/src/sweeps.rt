@@ -1,8 +1,8 @@
 //! Sweeps: runs in which the writer's room, the reads or a file's length go through all values.
 use crate::case::{Case, Full, How, Reads, Room};
 use crate::lines::{Refused, number};
-use crate::outcome::{Outcome, copy_of, run_files};
-use crate::runs::{Task, run_once};
+use crate::outcome::{Outcome, run_files};
+use crate::runs::{Task, files_of, run_once};
 use crate::verbs::Verdict;
 use std::alloc::Global;
 
@@ -35,7 +35,7 @@ pub fn sweep(alloc: Global, case: &Case, verb: &str, words: &[String]) -> Result
 }
 
 /// What came of a run of a sweep, and which run it was.
-fn differs(alloc: Global, which: &str, at: usize, came: &Outcome) -> Result<Verdict, Refused> {
+pub fn differs(alloc: Global, which: &str, at: usize, came: &Outcome) -> Result<Verdict, Refused> {
     let text = came.text(alloc)?;
     let came = format!(in alloc; "{which} {at}:\n{text}")?;
     Ok(Verdict::Differs { came })
@@ -132,10 +132,7 @@ fn each_short(alloc: Global, case: &Case, task: Task) -> Result<Verdict, Refused
 
 /// Runs over the beginning of a case's last file.
 fn run_cut(alloc: Global, case: &Case, task: Task, length: usize) -> Result<Outcome, Refused> {
-    let mut files = Vec::new(alloc);
-    for file in &case.files {
-        files.push(copy_of(alloc, file)?)?;
-    }
+    let mut files = files_of(alloc, case)?;
     if let Some(last) = files.last_mut() {
         last.1.truncate(length);
     }

@@ -1,4 +1,5 @@
 //! The verbs: what a line does with a case.
+use crate::bent::each_byte;
 use crate::bodies::{judge_body, judge_header, judge_kinds, judge_lengths};
 use crate::case::Case;
 use crate::layers::read_layer;
@@ -40,7 +41,8 @@ pub fn carry_out(
     words: &[String],
 ) -> Result<Verdict, Refused> {
     match verb {
-        "run" => run_task(alloc, case, words),
+        "run" | "measure" => run_task(alloc, case, verb, words),
+        "each-byte" => each_byte(alloc, case, words),
         "each-room" | "each-read" | "each-short" | "each-cut" => sweep(alloc, case, verb, words),
         "binlogfeed" => answer_words(alloc, case, words),
         "words" => show_words(alloc, case, words),

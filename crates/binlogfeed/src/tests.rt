@@ -1,9 +1,0 @@
-mod change_faults;
-mod changes;
-mod faults;
-mod files;
-mod outcome;
-mod shop_logs;
-mod units;
-mod words;
-mod writers;
