@@ -64,16 +64,19 @@ impl Bench {
         self.count
     }
 
-    /// Takes a line in, and gives what there is to say of it.
-    pub fn take(&mut self, alloc: Global, line: &str) -> Result<Option<String>, Refused> {
-        let taken = self.take_line(alloc, line);
+    /// What came of a line. One that couldn't be carried out is counted.
+    pub fn counted(
+        &mut self,
+        taken: Result<Option<String>, Refused>,
+    ) -> Result<Option<String>, Refused> {
         if taken.is_err() {
             self.count.bad_lines = self.count.bad_lines.saturating_add(1);
         }
         taken
     }
 
-    fn take_line(&mut self, alloc: Global, line: &str) -> Result<Option<String>, Refused> {
+    /// Takes a line in, and gives what there is to say of it.
+    pub fn take(&mut self, alloc: Global, line: &str) -> Result<Option<String>, Refused> {
         let (word, rest) = line.split_once(' ').unwrap_or((line, ""));
         match word {
             "" | "#" => {}
@@ -181,11 +184,29 @@ impl Bench {
             return Ok(None);
         }
         let verdict = carry_out(alloc, &self.pieces, case, word, words)?;
+        self.judged(alloc, line, verdict)
+    }
+
+    /// The case that stands.
+    pub fn case(&self) -> Result<&Case, Refused> {
+        match &self.case {
+            Some(case) => Ok(case),
+            None => Err(Refused::NoCase),
+        }
+    }
+
+    /// Takes in what came of a verb.
+    pub fn judged(
+        &mut self,
+        alloc: Global,
+        line: &str,
+        verdict: Verdict,
+    ) -> Result<Option<String>, Refused> {
         if self.wants == Wants::Missing {
             return Err(Refused::NothingWanted);
         }
         self.wants = Wants::Judged;
-        let name = String::from_str(alloc, case.name.as_str())?;
+        let name = String::from_str(alloc, self.case()?.name.as_str())?;
         self.say(alloc, name.as_str(), line, verdict)
     }
 

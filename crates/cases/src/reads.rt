@@ -1,0 +1,94 @@
+//! Files in memory: their names and lengths, and reads of them.
+use crate::case::Case;
+use crate::layers::files_of;
+use crate::lines::{Refused, number};
+use crate::outcome::source;
+use crate::verbs::Verdict;
+use binlog_frame::{Logs, MemoryLogs};
+use std::alloc::Global;
+use std::fmt::Write;
+
+/// The names and the lengths of a source's files.
+pub fn show_names<L: Logs>(text: &mut String, logs: &L) -> Result<(), Refused> {
+    for file in 0..logs.count() {
+        write!(
+            text,
+            "{file} {}, {} bytes\n",
+            logs.name(file),
+            logs.len(file)
+        )?;
+    }
+    let count = logs.count();
+    write!(text, "{count} files\n")?;
+    Ok(())
+}
+
+/// `names`: the names and lengths of the case's files, or that they are refused.
+pub fn judge_names(alloc: Global, case: &Case) -> Result<Verdict, Refused> {
+    let mut text = String::new(alloc);
+    match MemoryLogs::new(files_of(alloc, &case.files)?) {
+        Ok(logs) => show_names(&mut text, &logs)?,
+        Err(fault) => write!(&mut text, "{fault:?}\n")?,
+    }
+    Ok(Verdict::of(case, text))
+}
+
+/// A read, and the bytes that it gave. The file must be there.
+fn read_once(
+    alloc: Global,
+    logs: &mut MemoryLogs,
+    read: (usize, u64, usize),
+    text: &mut String,
+) -> Result<(), Refused> {
+    let (file, offset, count) = read;
+    if file >= logs.count() {
+        return Err(Refused::UnknownName);
+    }
+    let mut buf = vec![in alloc; 0u8; count]?;
+    match logs.read_at(file, offset, &mut buf) {
+        Err(fault) => write!(text, "{fault:?}")?,
+        Ok(count) => {
+            write!(text, "{count}:")?;
+            for byte in &buf[..count] {
+                write!(text, " {byte:02x}")?;
+            }
+        }
+    }
+    let (file, offset) = logs.reach();
+    write!(text, "; reach {file}:{offset}\n")?;
+    Ok(())
+}
+
+/// Whether the reads to come fail or are short, or one read: `fail:NUMBER`, `short:NUMBER` or `FILE:OFFSET:COUNT`.
+fn take_step(
+    alloc: Global,
+    logs: &mut MemoryLogs,
+    step: &str,
+    text: &mut String,
+) -> Result<(), Refused> {
+    let Some((word, rest)) = step.split_once(':') else {
+        return Err(Refused::BadPart);
+    };
+    match word {
+        "fail" => logs.fail_read(number(rest)? as u64),
+        "short" => logs.short_reads(number(rest)?.max(1)),
+        _ => {
+            let Some((offset, count)) = rest.split_once(':') else {
+                return Err(Refused::BadPart);
+            };
+            let read = (number(word)?, number(offset)? as u64, number(count)?);
+            read_once(alloc, logs, read, text)?;
+        }
+    }
+    Ok(())
+}
+
+/// `reads STEP..`: reads of the case's files, one after the other.
+pub fn judge_reads(alloc: Global, case: &Case, words: &[String]) -> Result<Verdict, Refused> {
+    let mut logs = source(files_of(alloc, &case.files)?, case.reads)?;
+    let mut text = String::new(alloc);
+    for step in words {
+        take_step(alloc, &mut logs, step.as_str(), &mut text)?;
+    }
+    Ok(Verdict::of(case, text))
+}
