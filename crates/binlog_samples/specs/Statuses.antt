@@ -1,5 +1,6 @@
 -- The program's lines on standard error, and its statuses.
-use Rattle.std.specs.Prelude.{◌≡◌, ℕ, List, [], ◌∷◌, Ok, Err, codes}
+use Rattle.std.specs.Prelude.{◌≡◌, ℕ, List, [], ◌∷◌, ◌++◌, Ok, Err, String, string_bytes, codes}
+use Rattle.std.specs.declared.alloc.Global.{Global}
 use Rattle.binlog_frame.specs.declared.open_fault.OpenFault.TheVariants as opening
 use Rattle.binlog_feed.specs.declared.fault.OpenFeedFault.TheVariants as open_feed
 use Rattle.binlog_feed.specs.declared.unit.UnitEnding.TheVariants.{Xid, Commit, Rollback, Statement}
@@ -43,11 +44,12 @@ RunTexts =
     × (fault_text two_names run.Write ≡ codes "binlogfeed: write fault") × (fault_text two_names run.OutOfMemory ≡ codes "binlogfeed: out of memory")
     × (fault_of_opening (open_feed.DuplicateFile 1) ≡ run.DuplicateFile 1)
 
--- of words that aren't those of a command line, and of a set whose element has no reading
+-- of words that aren't those of a command line, of a word that names no kind of change, and of a set whose element has no reading
 abbrev pub WordsTexts : Type 0
 WordsTexts =
     (words_text words.CommandLine ≡ codes "binlogfeed: command line refused") × (words_text (words.Set 1) ≡ codes "binlogfeed: bad --auto-position: element 1")
     × (words_text words.OutOfMemory ≡ codes "binlogfeed: out of memory")
+    × ((word : String Global) → words_text (words.EventName word) ≡ codes "binlogfeed: bad --only-events: " ++ string_bytes word)
 
 abbrev pub Endings : Type 0
 Endings =
@@ -62,7 +64,9 @@ RunStatuses =
     × (run_status_of (Err (run.Read 0)) ≡ 4) × (run_status_of (Err run.Write) ≡ 4) × (run_status_of (Err run.OutOfMemory) ≡ 5)
 
 abbrev pub WordsStatuses : Type 0
-WordsStatuses = (words_status_of words.CommandLine ≡ 2) × (words_status_of (words.Set 0) ≡ 2) × (words_status_of words.OutOfMemory ≡ 5)
+WordsStatuses =
+    (words_status_of words.CommandLine ≡ 2) × (words_status_of (words.Set 0) ≡ 2) × ((word : String Global) → words_status_of (words.EventName word) ≡ 2)
+    × (words_status_of words.OutOfMemory ≡ 5)
 
 abbrev pub OpenStatuses : Type 0
 OpenStatuses =
