@@ -13,6 +13,9 @@ from built.logs import IGNORABLE, change_lines, front, header, insert, put, unit
 MANY = 12_000
 WRITE_FAULT = Wanted(4, None, said("write fault"))
 
+# The lines of a short log and of a long one.
+BOTH = unit_lines(1, "first") + unit_lines(MANY, "log")
+
 
 def judge_closed_output(subcommand: str, count: int, program: Path, folder: Path) -> list[str]:
     """The reader of the output is gone: the run ends by itself, and no signal ends it."""
@@ -66,10 +69,6 @@ def run_changed(program: Path, folder: Path, change: Callable[[Path], None]) -> 
             return Outcome(running.returncode, stdout, stderr)
         finally:
             running.kill()
-
-
-# The lines of both logs.
-BOTH = unit_lines(1, "first") + unit_lines(MANY, "log")
 
 
 def grow(log: Path) -> None:
