@@ -53,14 +53,15 @@ def judge_first_not_opened(program: Path, folder: Path) -> list[str]:
     return differs(came, Wanted(4, b"", said("cannot open gone/first")))
 
 
-def judge_pipe(program: Path, folder: Path) -> list[str]:
-    """A named pipe that has a writer is no file."""
+def judge_pipe(has_writer: bool, program: Path, folder: Path) -> list[str]:
+    """A named pipe is no file, and nobody waits for its writer."""
     os.mkfifo(folder / "pipe")
-    writer = os.open(folder / "pipe", os.O_RDWR)
+    writer = os.open(folder / "pipe", os.O_RDWR) if has_writer else None
     try:
         came = run(program, ["read", "pipe"], folder)
     finally:
-        os.close(writer)
+        if writer is not None:
+            os.close(writer)
     return differs(came, Wanted(4, b"", said("cannot open pipe")))
 
 
@@ -94,5 +95,6 @@ def checks() -> list[Check]:
         *words,
         *paths,
         Check("two paths that can't be opened", judge_first_not_opened),
-        Check("a named pipe", judge_pipe),
+        Check("a named pipe", partial(judge_pipe, True)),
+        Check("a named pipe without a writer", partial(judge_pipe, False)),
     ]

@@ -13,6 +13,9 @@ from built.logs import IGNORABLE, change_lines, front, header, insert, put, unit
 MANY = 12_000
 WRITE_FAULT = Wanted(4, None, said("write fault"))
 
+# The lines of a short log and of a long one.
+BOTH = unit_lines(1, "first") + unit_lines(MANY, "log")
+
 
 def judge_closed_output(subcommand: str, count: int, program: Path, folder: Path) -> list[str]:
     """The reader of the output is gone: the run ends by itself, and no signal ends it."""
@@ -50,10 +53,11 @@ SHELL = (
 
 
 def run_changed(program: Path, folder: Path, change: Callable[[Path], None]) -> Outcome:
-    """Runs `transactions` over a long log that is changed while the run waits: it has read the beginning, and nobody takes
-    its lines."""
+    """Runs `transactions` over a short log and a long one, which is changed while the run waits: it has read its beginning, and
+    nobody takes the lines."""
+    put(folder, ["first"], worked_log())
     put(folder, ["log"], worked_log(MANY))
-    words = command(["transactions", "log"])
+    words = command(["transactions", "first", "log"])
     with subprocess.Popen(
         words, executable=program, cwd=folder, stdin=subprocess.DEVNULL, stdout=subprocess.PIPE, stderr=subprocess.PIPE
     ) as running:
@@ -76,13 +80,13 @@ def grow(log: Path) -> None:
 
 def judge_changed(change: Callable[[Path], None], program: Path, folder: Path) -> list[str]:
     """What was there at opening is read."""
-    return differs(run_changed(program, folder, change), Wanted(0, unit_lines(MANY, "log")))
+    return differs(run_changed(program, folder, change), Wanted(0, BOTH))
 
 
 def judge_cut(program: Path, folder: Path) -> list[str]:
     """A log that gets shorter while it is read is a read fault, behind lines that hold."""
     came = run_changed(program, folder, lambda log: os.truncate(log, 153))
-    begun = came.stdout.endswith(b"\n") and unit_lines(MANY, "log").startswith(came.stdout)
+    begun = came.stdout.endswith(b"\n") and BOTH.startswith(came.stdout)
     reasons = [] if begun else ["what was written is no beginning of the log's lines"]
     return reasons + differs(came, Wanted(4, None, said("read fault: log")))
 
