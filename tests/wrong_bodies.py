@@ -442,8 +442,12 @@ def after_clean(crate, is_proved, said):
 
 def after_round(crate, edits, said, seconds):
     """Returns the rounds that follow on a round."""
+    before, failed = crate.refused, len(crate.failed)
+    again = settle(crate, edits, said)
     crate.seconds += seconds
-    return settle(crate, edits, said)
+    came_out = f"{crate.refused - before} refused, {len(crate.failed) - failed} not, {sum(map(len, again))} to try again"
+    print(f"{crate.name}: {len(edits)} edits in one check, {seconds:.0f} s: {came_out}", flush=True)
+    return again
 
 
 def tell(crate):
