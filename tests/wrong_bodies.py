@@ -118,7 +118,10 @@ def sources(crate):
 
 
 def stamp(crate, crates):
-    """Returns the sum by which rt knows that a built library is that of these sources. If rt ever sums otherwise, it builds the library again in the copy."""
+    """Returns the sum by which rt knows that a built library is that of these sources.
+
+    If rt ever sums otherwise, it builds the library again, in the copy.
+    """
     folder = ROOT / "crates" / crate.name
     kit = Path(shutil.which("rt")).resolve().parent.parent
     label = lambda it: f"//crates/{it}" if it in crates else f"@rattle//{it}"
@@ -132,7 +135,10 @@ def stamp(crate, crates):
 
 
 def is_of_the_gate(crate):
-    """Returns whether the crate has the library that `rt ci` proved and built from its sources as they are. It has no stamp, since it holds statements alone."""
+    """Returns whether the crate has the library that `rt ci` proved and built from its sources as they are.
+
+    It has no stamp, since it holds statements alone: it fits the libraries of the same run, and all are copied together.
+    """
     built = ROOT / "crates" / crate.name / "out/rlib" / f"{crate.name}.rlib/format"
     if not built.is_file() or (built.parent.parent / "stamp").exists():
         return False
@@ -299,7 +305,10 @@ def check(room, crate):
 
 
 def check_clean(base, crate, crates):
-    """Checks the crate as it is, and leaves what the check kept for the rounds. Returns whether it is proved, and what was said."""
+    """Checks the crate as it is, and leaves what the check kept for the rounds.
+
+    Returns whether it is proved, and what was said.
+    """
     start, room, kept = time.time(), base / f"clean-{crate.name}", base / f"kept-{crate.name}"
     own = ROOT / "crates" / crate.name / "out/incremental"
     make_room(room, crate, crates, own if own.is_dir() else kept)
@@ -416,7 +425,7 @@ def settle(crate, edits, out):
 
 def try_all(base, chosen, crates, jobs):
     """Checks the clean crates, then rounds of edits until each has its verdict, side by side."""
-    by_size = sorted((it for it in chosen if it.edits), key=lambda it: -sum(file.stat().st_size for file in sources(it)))
+    by_size = sorted(chosen, key=lambda it: -sum(file.stat().st_size for file in sources(it)))
     with ThreadPoolExecutor(jobs) as pool:
         running = {pool.submit(check_clean, base, it, crates): (it, None) for it in by_size}
         while running:
@@ -442,8 +451,12 @@ def after_clean(crate, is_proved, said):
 
 def after_round(crate, edits, said, seconds):
     """Returns the rounds that follow on a round."""
+    before, failed = crate.refused, len(crate.failed)
+    again = settle(crate, edits, said)
     crate.seconds += seconds
-    return settle(crate, edits, said)
+    came_out = f"{crate.refused - before} refused, {len(crate.failed) - failed} not, {sum(map(len, again))} to try again"
+    print(f"{crate.name}: {len(edits)} edits in one check, {seconds:.0f} s: {came_out}", flush=True)
+    return again
 
 
 def tell(crate):
@@ -455,40 +468,58 @@ def tell(crate):
     print(f"{crate.name}: {crate.refused} refused{names}, {len(crate.failed)} not; {spent}", flush=True)
 
 
+def clear(base):
+    """Removes the copies, and leaves what the checks of the clean crates kept."""
+    for it in base.iterdir():
+        if it.is_dir() and not it.name.startswith("kept-"):
+            shutil.rmtree(it)
+
+
+def try_in(base, chosen, crates):
+    """Tries the crates' edits in copies below a folder that no other run uses. Returns how many failed for want of a library."""
+    with open(base / "lock", "w") as lock:
+        fcntl.flock(lock, fcntl.LOCK_EX)
+        clear(base)
+        with_edits = [it for it in chosen if it.edits]
+        library = build_libraries(with_edits, crates)
+        if library:
+            print(f"the library {library} isn't proved, so no edit was tried")
+            return sum(len(it.edits) for it in with_edits)
+        number = os.environ.get("RT_JOBS", "")
+        try_all(base, with_edits, crates, int(number) if number.isdigit() and int(number) else len(os.sched_getaffinity(0)))
+        clear(base)
+    return 0
+
+
+def try_somewhere(chosen, crates):
+    """The same, in .git where that is a folder, so that what was kept is there for the next run."""
+    if (ROOT / ".git").is_dir():
+        base = ROOT / ".git" / FOLDER
+        base.mkdir(exist_ok=True)
+        return try_in(base, chosen, crates)
+    with tempfile.TemporaryDirectory(prefix=f"{FOLDER}-") as base:
+        return try_in(Path(base), chosen, crates)
+
+
 def main():
     reader = argparse.ArgumentParser(description="Tries the wrong bodies of the crates.")
     reader.add_argument("--only", default="", metavar="TEXT", help="the edits whose name has this")
     reader.add_argument("names", nargs="*", metavar="CRATE")
     given = reader.parse_args()
-    crates = read_crates()
+    start, crates = time.time(), read_crates()
     names = given.names or sorted(it.parent.name for it in ROOT.glob(f"crates/*/{FOLDER}"))
     unknown = [it for it in names if it not in crates]
     for name in unknown:
         print(f"{name}: crates.txt names no such crate")
     chosen = [crates[it] for it in dict.fromkeys(names) if it in crates]
-    start = time.time()
     for crate in chosen:
         read_edits(crate, given.only)
         if not crate.edits:
             tell(crate)
-    failed = len(unknown) + (not names)
-    base = ROOT / ".git" / FOLDER if (ROOT / ".git").is_dir() else Path(tempfile.mkdtemp(prefix=f"{FOLDER}-"))
-    base.mkdir(exist_ok=True)
-    with open(base / "lock", "w") as lock:
-        fcntl.flock(lock, fcntl.LOCK_EX)
-        library = build_libraries([it for it in chosen if it.edits], crates)
-        if library:
-            print(f"the library {library} isn't proved, so no edit was tried")
-            failed += max(1, sum(len(it.edits) for it in chosen))
-        else:
-            number = os.environ.get("RT_JOBS", "")
-            try_all(base, chosen, crates, int(number) if number.isdigit() and int(number) else len(os.sched_getaffinity(0)))
-        for it in base.iterdir():
-            if it.is_dir() and not it.name.startswith("kept-"):
-                shutil.rmtree(it)
+    failed = len(unknown) + (not names) + try_somewhere(chosen, crates)
     passed = sum(it.refused for it in chosen)
     failed += sum(len(it.failed) for it in chosen)
-    print(f"wrong bodies: {sum(it.rounds for it in chosen)} rounds, {time.time() - start:.0f} s")
+    print(f"wrong bodies: {sum(it.rounds for it in chosen)} checks of edits, {time.time() - start:.0f} s")
     print(f"{passed} passed, {failed} failed")
     return 1 if failed or not passed else 0
 
