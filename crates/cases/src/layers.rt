@@ -165,6 +165,9 @@ pub fn read_layer(
 ) -> Result<Verdict, Refused> {
     let layer = Layer::of(verb)?;
     let (way, options) = way_of(words);
+    if !is_offered(layer, way, options) {
+        return Err(Refused::UnknownWord);
+    }
     let reading = Reading {
         layer,
         options,
@@ -180,8 +183,17 @@ pub fn read_layer(
     }
 }
 
+/// Whether a layer can be read in a way, with options.
+fn is_offered(layer: Layer, way: &str, options: &[String]) -> bool {
+    match layer {
+        Layer::Frames(_) => options.is_empty() && way != "each-turn",
+        Layer::Units => options.is_empty() && way != "back" && way != "each-turn",
+        Layer::Feed => way != "back",
+    }
+}
+
 /// The word for the way of reading, if there is one, and the options behind it.
-pub fn way_of(words: &[String]) -> (&str, &[String]) {
+fn way_of(words: &[String]) -> (&str, &[String]) {
     match words {
         [way, options @ ..] if !way.as_str().starts_with("--") => (way.as_str(), options),
         _ => ("", words),
