@@ -7,7 +7,7 @@ use std::alloc::Global;
 use std::fmt;
 
 /// Whether a case's `want` lines were judged by a verb.
-#[derive(Clone, Copy, Debug, PartialEq, Eq)]
+#[derive(Clone, Copy)]
 enum Wants {
     /// There are none yet.
     Missing,
@@ -18,7 +18,7 @@ enum Wants {
 }
 
 /// How many lines there were, and how they came out.
-#[derive(Clone, Copy, Debug, PartialEq, Eq)]
+#[derive(Clone, Copy)]
 pub struct Count {
     cases: u64,
     verbs: u64,
@@ -148,7 +148,7 @@ impl Bench {
         let Some(case) = &mut self.case else {
             return Err(Refused::NoCase);
         };
-        if self.wants != Wants::Open {
+        if !matches!(&self.wants, Wants::Open) {
             case.wanted.clear();
         }
         case.wanted.push_str(line)?;
@@ -202,7 +202,7 @@ impl Bench {
         line: &str,
         verdict: Verdict,
     ) -> Result<Option<String>, Refused> {
-        if self.wants == Wants::Missing {
+        if matches!(&self.wants, Wants::Missing) {
             return Err(Refused::NothingWanted);
         }
         self.wants = Wants::Judged;
@@ -225,7 +225,10 @@ impl Bench {
             )?)),
             Verdict::Differs { came } => {
                 self.count.differing = self.count.differing.saturating_add(1);
-                let wanted = self.case.as_ref().map_or("", |case| case.wanted.as_str());
+                let wanted = match &self.case {
+                    Some(case) => case.wanted.as_str(),
+                    None => "",
+                };
                 Ok(Some(format!(in alloc;
                     "DIFFERS {name}: {line}\ncame:\n{came}wanted:\n{wanted}"
                 )?))

@@ -9,7 +9,7 @@ use binlogfeed::fault::RunFault;
 use std::alloc::Global;
 
 /// How a byte is changed.
-#[derive(Clone, Copy, Debug, PartialEq, Eq)]
+#[derive(Clone, Copy)]
 enum Bend {
     Zero,
     Full,
@@ -21,7 +21,7 @@ impl Bend {
         match self {
             Bend::Zero => 0,
             Bend::Full => 0xff,
-            Bend::TopBit => byte ^ 0x80,
+            Bend::TopBit => byte.wrapping_add(0x80),
         }
     }
 }
@@ -68,10 +68,9 @@ pub fn each_byte(alloc: Global, case: &Case, words: &[String]) -> Result<Verdict
 }
 
 fn bend_each(alloc: Global, case: &Case) -> Result<Verdict, Refused> {
-    let length = case.files.last().map_or(0, |file| file.1.len());
     let mut runs = 0u64;
     for bend in [Bend::Zero, Bend::Full, Bend::TopBit] {
-        for at in 0..length {
+        for at in 0..case.last_length() {
             let units = run_bent(alloc, case, Task::Transactions.job(), at, bend)?;
             let changes = run_bent(alloc, case, Task::Changes.job(), at, bend)?;
             if !end_in_order(units.fault, changes.fault) {

@@ -1,6 +1,6 @@
 //! Headers, and the bodies that are read without a table map.
 use crate::case::Case;
-use crate::lines::{Refused, number};
+use crate::lines::{Refused, number, only_word};
 use crate::pieces::Pieces;
 use crate::verbs::Verdict;
 use binlog_frame::{Class, Header, kind, read_gtid, read_query, read_rotate, read_xid};
@@ -92,7 +92,10 @@ pub fn show_body(line: &mut String, kind: u8, body: &[u8]) -> Result<(), Refused
 
 /// The kind that a word names.
 fn kind_of(word: &str) -> Result<u8, Refused> {
-    Ok(u8::try_from(number(word)?).unwrap_or(0))
+    match u8::try_from(number(word)?) {
+        Ok(kind) => Ok(kind),
+        Err(_) => Err(Refused::BadPart),
+    }
 }
 
 /// `header PART..`: the parts of a header, and its class.
@@ -191,9 +194,8 @@ fn class_of(kind: u8, flags: u16) -> Class {
 
 /// `kinds FLAGS`: the kinds of each class, where a header has these flags.
 pub fn judge_kinds(alloc: Global, case: &Case, words: &[String]) -> Result<Verdict, Refused> {
-    let flags = match words {
-        [flags] => u16::try_from(number(flags.as_str())?).unwrap_or(0),
-        _ => return Err(Refused::BadPart),
+    let Ok(flags) = u16::try_from(number(only_word(words)?)?) else {
+        return Err(Refused::BadPart);
     };
     let mut text = String::new(alloc);
     for class in [

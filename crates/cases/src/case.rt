@@ -2,37 +2,39 @@
 use std::alloc::Global;
 
 /// What a writer does once it has no room.
-#[derive(Clone, Copy, Debug, PartialEq, Eq)]
+#[derive(Clone, Copy)]
 pub enum Full {
     TakesNothing,
     Fails,
 }
 
-/// How much a writer takes at a call, and in all, and whether it can be flushed.
-#[derive(Clone, Copy, Debug, PartialEq, Eq)]
+/// How much a writer takes at a call, and in all, which call fails, and whether it can be flushed.
+#[derive(Clone, Copy)]
 pub struct Room {
     pub most: usize,
     pub room: usize,
     pub full: Full,
+    /// The write with this number fails, counted from 1 (0: none).
+    pub failing: u64,
     pub flushes: bool,
 }
 
 /// Which read fails, counted from 1 (0: none), and how much a read gives at most (0: all).
-#[derive(Clone, Copy, Debug, PartialEq, Eq)]
+#[derive(Clone, Copy)]
 pub struct Reads {
     pub failing: u64,
     pub most: usize,
 }
 
 /// How one run is carried out.
-#[derive(Clone, Copy, Debug, PartialEq, Eq)]
+#[derive(Clone, Copy)]
 pub struct How {
     pub reads: Reads,
     pub room: Room,
     pub window: usize,
 }
 
-/// A file by its name and its bytes.
+/// A file or a piece, by its name and its bytes.
 pub type Named = (String, Vec<u8>);
 
 /// The window of sweeps: a format description with nothing to spare fits.
@@ -62,6 +64,7 @@ impl Case {
                 most: usize::MAX,
                 room: usize::MAX,
                 full: Full::Fails,
+                failing: 0,
                 flushes: true,
             },
             windows: vec![in alloc; 0, SMALL_WINDOW, 65_536]?,
@@ -78,8 +81,25 @@ impl Case {
         }
     }
 
-    pub fn file(&self, name: &str) -> Option<&[u8]> {
-        let file = self.files.iter().find(|file| file.0.as_str() == name)?;
-        Some(file.1.as_slice())
+    /// The length of the last file.
+    pub fn last_length(&self) -> usize {
+        match self.files.last() {
+            Some(file) => file.1.len(),
+            None => 0,
+        }
     }
+
+    pub fn file(&self, name: &str) -> Option<&[u8]> {
+        bytes_named(&self.files, name)
+    }
+}
+
+/// The bytes with a name, among some.
+pub fn bytes_named<'a>(named: &'a [Named], name: &str) -> Option<&'a [u8]> {
+    for one in named {
+        if one.0.as_str() == name {
+            return Some(one.1.as_slice());
+        }
+    }
+    None
 }

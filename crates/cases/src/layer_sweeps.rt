@@ -144,6 +144,9 @@ fn each_cut(
     whole: &Told,
 ) -> Result<Verdict, Refused> {
     let (last, length) = last_of(&case.files);
+    if last > 0 && matches!(reading.layer, Layer::Frames(_)) {
+        return Err(Refused::BadPart);
+    }
     let mut runs = 0u64;
     for length in 0..=length {
         let files = cut_files(alloc, &case.files, length)?;

@@ -67,34 +67,36 @@ pub fn tell(alloc: Global, files: &[Named], reading: Reading<'_>) -> Result<Told
         seen: &seen,
         turning: reading.turning,
     };
-    tell_source(alloc, logs, files, reading)
+    tell_source(alloc, logs, &seen, files, reading)
 }
 
-/// What a layer tells of a source that holds these files.
+/// What a layer tells of a source that holds these files, and whose reads are seen.
 pub fn tell_source<L: Logs + Drop>(
     alloc: Global,
-    logs: Watched<'_, L>,
+    logs: L,
+    seen: &Cell<Seen>,
     held: &[Named],
     reading: Reading<'_>,
 ) -> Result<Told, Refused> {
     let mut told = Told::new(alloc, reading.shows_refusals);
     match reading.layer {
-        Layer::Frames(shown) => tell_frames(alloc, logs, held, shown, reading, &mut told)?,
-        Layer::Units => tell_units(alloc, logs, reading.window, &mut told)?,
-        Layer::Feed => tell_feed(alloc, logs, reading.options, reading.window, &mut told)?,
+        Layer::Frames(shown) => tell_frames(alloc, logs, seen, held, shown, reading, &mut told)?,
+        Layer::Units => tell_units(alloc, logs, seen, reading.window, &mut told)?,
+        Layer::Feed => tell_feed(alloc, logs, seen, reading, &mut told)?,
     }
     Ok(told)
 }
 
 fn tell_frames<L: Logs + Drop>(
     alloc: Global,
-    logs: Watched<'_, L>,
+    logs: L,
+    seen: &Cell<Seen>,
     held: &[Named],
     shown: Shown,
     reading: Reading<'_>,
     told: &mut Told,
 ) -> Result<(), Refused> {
-    let (count, seen) = (logs.count(), logs.seen);
+    let count = logs.count();
     let window = vec![in alloc; 0u8; reading.window]?;
     let Some(mut pass) = Pass::begin(logs, window, held, shown, reading.goes_back) else {
         return Ok(());
@@ -111,11 +113,11 @@ fn tell_frames<L: Logs + Drop>(
 
 fn tell_units<L: Logs + Drop>(
     alloc: Global,
-    logs: Watched<'_, L>,
+    logs: L,
+    seen: &Cell<Seen>,
     window: usize,
     told: &mut Told,
 ) -> Result<(), Refused> {
-    let seen = logs.seen;
     match Units::open(alloc, logs, vec![in alloc; 0u8; window]?) {
         Ok(mut units) => tell_all(alloc, &mut units, seen, told)?,
         Err((fault, _, back)) => show_refusal(told, fault, window, back.len())?,
@@ -126,17 +128,16 @@ fn tell_units<L: Logs + Drop>(
 
 fn tell_feed<L: Logs + Drop>(
     alloc: Global,
-    logs: Watched<'_, L>,
-    options: &[String],
-    window: usize,
+    logs: L,
+    seen: &Cell<Seen>,
+    reading: Reading<'_>,
     told: &mut Told,
 ) -> Result<(), Refused> {
-    let seen = logs.seen;
-    let filter = filter_of(alloc, options)?;
-    let bytes = vec![in alloc; 0u8; window]?;
+    let filter = filter_of(alloc, reading.options)?;
+    let bytes = vec![in alloc; 0u8; reading.window]?;
     match Feed::open(alloc, logs, filter, Start::Beginning, bytes) {
         Ok(mut feed) => tell_all(alloc, &mut feed, seen, told)?,
-        Err((fault, _, _, _, back)) => show_refusal(told, fault, window, back.len())?,
+        Err((fault, _, _, _, back)) => show_refusal(told, fault, reading.window, back.len())?,
     }
     told.note_reads(seen);
     Ok(())
@@ -165,6 +166,9 @@ pub fn read_layer(
 ) -> Result<Verdict, Refused> {
     let layer = Layer::of(verb)?;
     let (way, options) = way_of(words);
+    if !is_offered(layer, way, options) {
+        return Err(Refused::UnknownWord);
+    }
     let reading = Reading {
         layer,
         options,
@@ -180,8 +184,17 @@ pub fn read_layer(
     }
 }
 
+/// Whether a layer can be read in a way, with options.
+fn is_offered(layer: Layer, way: &str, options: &[String]) -> bool {
+    match layer {
+        Layer::Frames(_) => options.is_empty() && way != "each-turn",
+        Layer::Units => options.is_empty() && way != "back" && way != "each-turn",
+        Layer::Feed => way != "back",
+    }
+}
+
 /// The word for the way of reading, if there is one, and the options behind it.
-pub fn way_of(words: &[String]) -> (&str, &[String]) {
+fn way_of(words: &[String]) -> (&str, &[String]) {
     match words {
         [way, options @ ..] if !way.as_str().starts_with("--") => (way.as_str(), options),
         _ => ("", words),

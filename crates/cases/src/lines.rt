@@ -2,7 +2,7 @@
 use std::alloc::{AllocError, AllocFailed, Global};
 
 /// Why a line of the cases can't be carried out.
-#[derive(Clone, Copy, Debug, PartialEq, Eq)]
+#[derive(Clone, Copy)]
 pub enum Refused {
     /// The line's first word is none that there is, or can't stand there.
     UnknownWord,

@@ -6,7 +6,8 @@ use crate::lines::{Refused, words_of};
 use crate::reads::show_names;
 use crate::verbs::Verdict;
 use crate::watched::{Seen, Turning, Watched};
-use binlog_frame::FileLogs;
+use binlog_frame::{FileLogs, OpenFault};
+use std::alloc::Global;
 use std::cell::Cell;
 use std::fmt::Write;
 use std::fs;
@@ -42,10 +43,15 @@ fn judge_open<R: Files + AllocGlobal>(
     }
 }
 
+/// Opens files. What they hold is not known.
+fn opened<R: Files>(rt: &R, alloc: Global, paths: &[&str]) -> Result<FileLogs<R::File>, OpenFault> {
+    FileLogs::open(rt, alloc, paths)
+}
+
 /// The names and lengths of files, or why they weren't opened.
 fn names_at<R: Files + AllocGlobal>(rt: &R, paths: &[&str]) -> Result<String, Refused> {
     let mut text = String::new(rt.alloc());
-    match FileLogs::open(rt, rt.alloc(), paths) {
+    match opened(rt, rt.alloc(), paths) {
         Ok(logs) => show_names(&mut text, &logs)?,
         Err(fault) => write!(&mut text, "{fault:?}\n")?,
     }
@@ -100,7 +106,7 @@ fn tell_at<R: Files + AllocGlobal>(
     reading: Reading<'_>,
 ) -> Result<String, Refused> {
     let seen = Cell::new(Seen::NOTHING);
-    match FileLogs::open(rt, rt.alloc(), paths) {
+    match opened(rt, rt.alloc(), paths) {
         Err(_) => Err(Refused::UnknownName),
         Ok(files) => {
             let logs = Watched {
@@ -108,7 +114,7 @@ fn tell_at<R: Files + AllocGlobal>(
                 seen: &seen,
                 turning: reading.turning,
             };
-            Ok(tell_source(rt.alloc(), logs, held, reading)?.text)
+            Ok(tell_source(rt.alloc(), logs, &seen, held, reading)?.text)
         }
     }
 }

@@ -4,7 +4,7 @@ use crate::lines::Refused;
 use crate::outcome::{Job, run_files};
 use crate::verbs::Verdict;
 use binlog_feed::Start;
-use binlog_select::{Filter, GtidSet, Kinds, Names};
+use binlog_select::{ChangeKind, Filter, GtidSet, Kinds, Names};
 use binlogfeed::words::{Order, read_words};
 use binlogfeed::words_fault::{WordsFault, words_line, words_status};
 use std::alloc::Global;
@@ -99,7 +99,11 @@ fn fault_text(alloc: Global, fault: &WordsFault) -> Result<String, Refused> {
 /// An order with a line for each list that is given, and one for the files.
 fn order_text(alloc: Global, order: Order<'_>) -> Result<String, Refused> {
     match order {
-        Order::Transactions { files } => Ok(format!(in alloc; "transactions {files:?}\n")?),
+        Order::Transactions { files } => {
+            let mut text = String::from_str(alloc, "transactions")?;
+            show_files(&mut text, &files)?;
+            Ok(text)
+        }
         Order::Read {
             filter,
             start,
@@ -108,7 +112,8 @@ fn order_text(alloc: Global, order: Order<'_>) -> Result<String, Refused> {
             let Start::Beginning = start;
             let mut text = String::from_str(alloc, "read from the beginning\n")?;
             show_filter(&mut text, filter)?;
-            write!(&mut text, "files {files:?}\n")?;
+            text.push_str("files")?;
+            show_files(&mut text, &files)?;
             Ok(text)
         }
     }
@@ -132,11 +137,39 @@ fn show_filter(text: &mut String, filter: Filter) -> Result<(), Refused> {
     show_set(text, auto_position)
 }
 
+/// A name behind a blank, in quotes.
+fn show_quoted(text: &mut String, name: &str) -> Result<(), Refused> {
+    text.push_str(" \"")?;
+    text.push_str(name)?;
+    text.push('"')?;
+    Ok(())
+}
+
+/// The names of files, and a line feed.
+fn show_files(text: &mut String, files: &[&str]) -> Result<(), Refused> {
+    for file in files {
+        show_quoted(text, file)?;
+    }
+    text.push('\n')?;
+    Ok(())
+}
+
+fn kind_name(kind: ChangeKind) -> &'static str {
+    match kind {
+        ChangeKind::Insert => " insert",
+        ChangeKind::Update => " update",
+        ChangeKind::Delete => " delete",
+    }
+}
+
 /// The kinds of a list that is given, in its order.
 fn show_kinds(text: &mut String, kinds: Option<Kinds>) -> Result<(), Refused> {
     if let Some(kinds) = kinds {
-        let kinds = kinds.into_vec();
-        write!(text, "only-events {kinds:?}\n")?;
+        text.push_str("only-events")?;
+        for kind in &kinds.into_vec() {
+            text.push_str(kind_name(*kind))?;
+        }
+        text.push('\n')?;
     }
     Ok(())
 }
@@ -154,8 +187,11 @@ fn show_set(text: &mut String, set: Option<GtidSet>) -> Result<(), Refused> {
 /// The names of a list that is given, in the order of their bytes.
 fn show_names(text: &mut String, option: &str, names: Option<Names>) -> Result<(), Refused> {
     if let Some(names) = names {
-        let names = names.into_vec();
-        write!(text, "{option} {names:?}\n")?;
+        text.push_str(option)?;
+        for name in &names.into_vec() {
+            show_quoted(text, name.as_str())?;
+        }
+        text.push('\n')?;
     }
     Ok(())
 }

@@ -108,7 +108,7 @@ fn shortened(alloc: Global, line: &str) -> Result<String, Refused> {
 }
 
 impl Outcome {
-    fn lines(&self) -> Result<&str, Refused> {
+    pub fn lines(&self) -> Result<&str, Refused> {
         match str::from_utf8(self.received.as_slice()) {
             Ok(lines) => Ok(lines),
             Err(_) => Err(Refused::NoText),

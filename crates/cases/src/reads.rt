@@ -59,6 +59,15 @@ fn read_once(
     Ok(())
 }
 
+/// Lets the reads to come give so many bytes at most.
+fn let_short(logs: &mut MemoryLogs, most: usize) -> Result<(), Refused> {
+    if most == 0 {
+        return Err(Refused::BadPart);
+    }
+    logs.short_reads(most);
+    Ok(())
+}
+
 /// Whether the reads to come fail or are short, or one read: `fail:NUMBER`, `short:NUMBER` or `FILE:OFFSET:COUNT`.
 fn take_step(
     alloc: Global,
@@ -71,7 +80,7 @@ fn take_step(
     };
     match word {
         "fail" => logs.fail_read(number(rest)? as u64),
-        "short" => logs.short_reads(number(rest)?.max(1)),
+        "short" => let_short(logs, number(rest)?)?,
         _ => {
             let Some((offset, count)) = rest.split_once(':') else {
                 return Err(Refused::BadPart);

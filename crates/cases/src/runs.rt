@@ -8,7 +8,7 @@ use binlog_select::Filter;
 use std::alloc::Global;
 
 /// What is run.
-#[derive(Clone, Copy, Debug, PartialEq, Eq)]
+#[derive(Clone, Copy)]
 pub enum Task {
     /// A line for each unit.
     Transactions,

@@ -9,6 +9,7 @@ impl Case {
             "windows" => self.set_windows(words)?,
             "fail-read" => self.reads.failing = number(only_word(words)?)? as u64,
             "short-reads" => self.reads.most = number(only_word(words)?)?,
+            "fail-write" => self.room.failing = number(only_word(words)?)? as u64,
             "takes" => self.room.most = number(only_word(words)?)?,
             "room" => self.room.room = number(only_word(words)?)?,
             "full-takes-nothing" => self.room.full = Full::TakesNothing,

@@ -4,6 +4,7 @@ use crate::lines::{Refused, number};
 use crate::outcome::{Outcome, run_files};
 use crate::runs::{Task, files_of, run_once};
 use crate::verbs::Verdict;
+use binlogfeed::fault::RunFault;
 use std::alloc::Global;
 
 /// Reads of at most so many bytes are tried.
@@ -74,13 +75,31 @@ fn each_room(alloc: Global, case: &Case, task: Task, whole: &Outcome) -> Result<
     Ok(Verdict::Well { runs })
 }
 
-/// Whether a run was cut by a read that failed: some of the whole's lines were received and flushed.
-fn is_cut_by_read(cut: &Outcome, whole: &Outcome) -> bool {
-    cut.status == 4
-        && cut.end.as_str().starts_with("binlogfeed: read fault: ")
-        && cut.flushes == 1
-        && is_whole_lines(cut.received.as_slice())
-        && whole.received.starts_with(cut.received.as_slice())
+/// Whether a run was cut by a read that failed: some of the whole's lines were received and flushed, all those of earlier files among
+/// them.
+fn is_cut_by_read(case: &Case, cut: &Outcome, whole: &Outcome) -> Result<bool, Refused> {
+    let Some(RunFault::Read(file)) = cut.fault else {
+        return Ok(false);
+    };
+    let missing = whole.lines()?.get(cut.received.len()..).unwrap_or("");
+    Ok(
+        cut.status == 4
+            && cut.end.as_str().starts_with("binlogfeed: read fault: ")
+            && cut.flushes == 1
+            && is_whole_lines(cut.received.as_slice())
+            && whole.received.starts_with(cut.received.as_slice())
+            && !names_earlier(case, file, missing),
+    )
+}
+
+/// Whether a text has the name of a file in front of one.
+fn names_earlier(case: &Case, file: usize, text: &str) -> bool {
+    for earlier in case.files.iter().take(file) {
+        if text.contains(earlier.0.as_str()) {
+            return true;
+        }
+    }
+    false
 }
 
 fn is_whole_lines(text: &[u8]) -> bool {
@@ -105,7 +124,7 @@ fn each_read(alloc: Global, case: &Case, task: Task, whole: &Outcome) -> Result<
         if cut.status == whole.status && cut.received == whole.received {
             return Ok(Verdict::Well { runs: failing - 1 });
         }
-        if !is_cut_by_read(&cut, whole) {
+        if !is_cut_by_read(case, &cut, whole)? {
             return differs(alloc, "read", failing as usize, &cut);
         }
     }
@@ -164,9 +183,8 @@ fn each_cut(alloc: Global, case: &Case, task: Task, ends: &[String]) -> Result<V
     if ends.len().saturating_add(1) != case.wanted.as_str().lines().count() {
         return Err(Refused::BadPart);
     }
-    let length = case.files.last().map_or(0, |file| file.1.len());
     let mut runs = 0u64;
-    for length in 0..=length {
+    for length in 0..=case.last_length() {
         let came = run_cut(alloc, case, task, length)?;
         let wanted = wanted_of_cut(alloc, case, ends, length)?;
         if came.text(alloc)?.as_str() != wanted.as_str() {

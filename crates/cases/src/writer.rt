@@ -1,4 +1,4 @@
-//! A writer that takes little, runs full, or can't be flushed.
+//! A writer that takes little, runs full, fails once, or can't be flushed.
 use crate::case::{Full, Room};
 use std::alloc::Global;
 use std::io;
@@ -8,6 +8,7 @@ use std::io::{ErrorKind, Write};
 pub struct Narrow {
     pub received: Vec<u8>,
     pub flushes: u32,
+    writes: u64,
     room: Room,
 }
 
@@ -16,6 +17,7 @@ impl Narrow {
         Narrow {
             received: Vec::new(alloc),
             flushes: 0,
+            writes: 0,
             room,
         }
     }
@@ -27,6 +29,10 @@ fn failed() -> io::Error {
 
 impl Write for Narrow {
     fn write(&mut self, buf: &[u8]) -> io::Result<usize> {
+        self.writes = self.writes.saturating_add(1);
+        if self.writes == self.room.failing {
+            return Err(failed());
+        }
         let count = buf.len().min(self.room.most).min(self.room.room);
         if count == 0 {
             return match self.room.full {
