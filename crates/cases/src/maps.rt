@@ -156,13 +156,15 @@ pub fn map_cuts_text(alloc: Global, body: &[u8]) -> Result<String, Refused> {
     Ok(text)
 }
 
-/// How many columns a map has, in all, in the order of their names and in the key, and the last one's name.
+/// How many columns a map has, in all, in the order of their names and in the key, whether the key has that order, and the last one's
+/// name.
 fn push_size_line(text: &mut String, map: &TableMap) -> Result<(), AllocError> {
-    let (count, ordered, keyed) = (map.column_count(), map.name_order().len(), map.key().len());
-    write!(
-        text,
-        "columns {count}, in order {ordered}, in key {keyed}, the last "
-    )?;
+    let count = map.column_count();
+    let (order, key) = (map.name_order(), map.key());
+    let (ordered, keyed) = (order.len(), key.len());
+    write!(text, "columns {count}, in order {ordered}, in key {keyed}")?;
+    text.push_str(if key == order { " in that order" } else { "" })?;
+    text.push_str(", the last ")?;
     if count > 0 {
         text.push_str(map.column_name(count - 1))?;
     }
