@@ -27,7 +27,7 @@ pub fn shown(
         "set" | "token" => named_text(alloc, pieces, verb, words)?,
         "holds" => membership_text(alloc, pieces, words)?,
         "passes" => passes_text(alloc, words)?,
-        "names" => names_text(alloc, words)?,
+        "name-set" => names_text(alloc, words)?,
         _ => return Ok(None),
     };
     Ok(Some(text))
