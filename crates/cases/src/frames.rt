@@ -10,7 +10,7 @@ use binlog_frame::{FrameFault, Frames, Header, Logs, Step};
 use std::fmt::Write;
 
 /// What a line tells of an event.
-#[derive(Clone, Copy, Debug, PartialEq, Eq)]
+#[derive(Clone, Copy)]
 pub enum Shown {
     /// How it is cut out of its file.
     Frame,

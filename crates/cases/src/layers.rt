@@ -15,7 +15,7 @@ use std::cell::Cell;
 use std::fmt::Write;
 
 /// What is read of files.
-#[derive(Clone, Copy, Debug, PartialEq, Eq)]
+#[derive(Clone, Copy)]
 pub enum Layer {
     Frames(Shown),
     Units,
