@@ -118,9 +118,10 @@ fn tell_units<L: Logs + Drop>(
     window: usize,
     told: &mut Told,
 ) -> Result<(), Refused> {
-    match Units::open(alloc, logs, vec![in alloc; 0u8; window]?) {
+    let bytes = vec![in alloc; 0u8; window]?;
+    match Units::open(alloc, logs, bytes) {
+        Err((fault, _logs, back)) => show_refusal(told, fault, window, back.len())?,
         Ok(mut units) => tell_all(alloc, &mut units, seen, told)?,
-        Err((fault, _, back)) => show_refusal(told, fault, window, back.len())?,
     }
     told.note_reads(seen);
     Ok(())
@@ -136,8 +137,10 @@ fn tell_feed<L: Logs + Drop>(
     let filter = filter_of(alloc, reading.options)?;
     let bytes = vec![in alloc; 0u8; reading.window]?;
     match Feed::open(alloc, logs, filter, Start::Beginning, bytes) {
+        Err((fault, _logs, _filter, _start, back)) => {
+            show_refusal(told, fault, reading.window, back.len())?;
+        }
         Ok(mut feed) => tell_all(alloc, &mut feed, seen, told)?,
-        Err((fault, _, _, _, back)) => show_refusal(told, fault, reading.window, back.len())?,
     }
     told.note_reads(seen);
     Ok(())
