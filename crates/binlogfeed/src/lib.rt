@@ -6,9 +6,11 @@ mod commands;
 mod ending;
 pub mod fault;
 mod names;
+mod opening;
 mod options;
 pub mod program;
 pub mod run;
+mod start_words;
 #[cfg(test)]
 mod tests;
 pub mod transactions;
