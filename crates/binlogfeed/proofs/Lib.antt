@@ -7,3 +7,5 @@ pub mod Ends
 pub mod Naming
 pub mod Answering
 pub mod Listing
+pub mod Beginning
+pub mod GoingOn

@@ -71,3 +71,8 @@ an_option_twice = refl
 a_file_to_read_is_wanted : fault_of program_app (codes "b" ∷ codes "read" ∷ codes "--only-events" ∷ codes "drop" ∷ []) ≡ kind.MissingRequiredArgument ∷ []
 unfolding clap_on_literals
 a_file_to_read_is_wanted = refl
+
+-- a token behind its option
+a_token_is_taken : option_map (λ found. first_of (codes "from") found.1) (subcommand_of program_app (codes "b" ∷ codes "read" ∷ codes "--from" ∷ codes "4.1@x" ∷ codes "x" ∷ [])) ≡ Some (Some (codes "4.1@x"))
+unfolding clap_on_literals
+a_token_is_taken = refl

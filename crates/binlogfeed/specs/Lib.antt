@@ -1,8 +1,10 @@
 pub mod Faults
 pub mod Options
+pub mod StartWords
 pub mod Words
 pub mod Lines
 pub mod Sending
 pub mod Runs
+pub mod GoingOn
 pub mod Coming
 pub mod Statuses

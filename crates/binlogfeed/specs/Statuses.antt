@@ -1,13 +1,17 @@
 -- The status with which the program ends.
-use Rattle.std.specs.Prelude.{◌≡◌, ◌⊎◌, ℕ, List, Option, None, Result, Ok, Err, IsTrue, IfSome}
+use Rattle.std.specs.Prelude.{◌≡◌, ◌⊎◌, ℕ, Bool, List, Option, None, Result, Ok, Err, IsTrue, IfSome, IfErr}
 use Rattle.clap.specs.Words.{Text}
 use Rattle.binlog_frame.specs.declared.open_fault.OpenFault.{OpenFault}
 use Rattle.binlog_frame.specs.declared.open_fault.OpenFault.TheVariants as open_faults
 use Rattle.binlog_frame.specs.declared.files.FileLogs.{FileLogs}
-use Rattle.binlog_frame.specs.FileLogs.{names_of, contents_of, is_honest}
+use Rattle.binlog_frame.specs.FileLogs.{names_of, contents_of, is_honest, failures_of}
 use Rattle.binlog_frame.specs.Files.{AreLastParts, RefusesOne}
-use Rattle.binlogfeed.specs.Faults.{status_of}
-use Rattle.binlogfeed.specs.Runs.{Output, AnswersIfBegun, units_output, changes_output}
+use Rattle.binlog_feed.specs.Starts.{judge_start}
+use Rattle.binlog_feed.specs.Story.{files_of}
+use Rattle.binlog_feed.specs.Tokens.{Judgement}
+use Rattle.binlog_feed.specs.Tokens.Judgement.{Fits}
+use Rattle.binlogfeed.specs.Faults.{status_of, IsNamed}
+use Rattle.binlogfeed.specs.Runs.{Output, AnswersIfBegun, ReadsFailed, units_output, begun_output}
 use Rattle.binlogfeed.specs.Words.{AnswersWords, texts, words_status_of}
 use Rattle.binlogfeed.specs.declared.fault.RunFault.{RunFault}
 use Rattle.binlogfeed.specs.declared.program.Task.{Task}
@@ -24,12 +28,19 @@ run_status_of (Err fault) = status_of fault
 -- what a task has to write of files with these names and contents
 abbrev pub output_of : Task → List (List ℕ) → List (List ℕ) → Output
 output_of Transactions names contents = units_output names contents
-output_of (Read filter start) names contents = changes_output names contents filter
+output_of (Read filter start) names contents = begun_output names contents filter start
 
--- the status of a run that has this to write is that of what it answers
-abbrev pub EndsRun : List (List ℕ) → Output → Option (List ℕ) → Option (List ℕ) → ℕ → Type 0
-EndsRun names output old new status =
-    (result : Result ℕ RunFault) × AnswersIfBegun names output old new result × (status ≡ run_status_of result)
+-- how the start of a task is judged over them
+abbrev pub judgement_of : Task → List (List ℕ) → List (List ℕ) → Judgement
+judgement_of Transactions names contents = Fits
+judgement_of (Read filter start) names contents = judge_start (files_of names contents) start
+
+-- The status of a run that has this to write, from a start that is judged so, is that of what it answers, where the source was honest.
+-- Over any source it names a file only of the list, and the device only where a read has failed.
+abbrev pub EndsRun : List (List ℕ) → ℕ → ℕ → Bool → Judgement → Output → Option (List ℕ) → Option (List ℕ) → ℕ → Type 0
+EndsRun names old_failures new_failures honest judgement output old new status =
+    (result : Result ℕ RunFault) × (IsTrue honest → AnswersIfBegun names judgement output old new result)
+    × IfErr result (IsNamed names) × IfErr result (ReadsFailed old_failures new_failures) × (status ≡ run_status_of result)
 
 abbrev pub open_status_of : OpenFault → ℕ
 open_status_of (open_faults.BadName path) = 4
@@ -42,7 +53,7 @@ EndsUnopened paths status = (fault : OpenFault) × RefusesOne paths fault × (st
 
 -- the statuses that there are
 abbrev pub IsStatus : ℕ → Type 0
-IsStatus status = (status ≡ 0) ⊎ ((status ≡ 1) ⊎ ((status ≡ 2) ⊎ ((status ≡ 4) ⊎ (status ≡ 5))))
+IsStatus status = (status ≡ 0) ⊎ ((status ≡ 1) ⊎ ((status ≡ 2) ⊎ ((status ≡ 3) ⊎ ((status ≡ 4) ⊎ (status ≡ 5)))))
 
 -- what an order has done with its files
 abbrev pub task_of : Order → Task
@@ -60,8 +71,8 @@ pub record EndsOrder {F : Type 0} (order : Order) (contents : List (List ℕ)) (
     (status : ℕ) : Type 0 where
   pub names : IfSome logs (λ logs. AreLastParts (paths_of order) (names_of logs))
   pub held : IfSome logs (λ logs. contents_of logs ≡ contents)
-  pub ends : IfSome logs (λ logs. IsTrue (is_honest logs)
-      → EndsRun (names_of logs) (output_of (task_of order) (names_of logs) contents) old new status)
+  pub ends : IfSome logs (λ logs. EndsRun (names_of logs) 0 (failures_of logs) (is_honest logs)
+      (judgement_of (task_of order) (names_of logs) contents) (output_of (task_of order) (names_of logs) contents) old new status)
   pub refused : logs ≡ None → EndsUnopened (paths_of order) status × (new ≡ old)
   pub is_status : IsStatus status
 

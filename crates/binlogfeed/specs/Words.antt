@@ -7,12 +7,13 @@ use Rattle.clap.specs.declared.builder.action.ArgAction.TheVariants as action
 use Rattle.clap.specs.declared.error.Error.{Error}
 use Rattle.clap.specs.declared.error.kind.ErrorKind.{ErrorKind}
 use Rattle.clap.specs.declared.error.kind.ErrorKind.TheVariants as kind
-use Rattle.binlog_feed.specs.declared.feed.Start.TheVariants.{Beginning}
+use Rattle.binlog_select.specs.declared.filter.Filter.{Filter}
 use Rattle.binlogfeed.specs.Options.{IsFilterOf, AnswersOptions}
+use Rattle.binlogfeed.specs.StartWords.{IsStart, IsTokenFault, token_text}
 use Rattle.binlogfeed.specs.declared.words.Order.{Order}
 use Rattle.binlogfeed.specs.declared.words.Order.TheVariants.{Transactions, Read}
 use Rattle.binlogfeed.specs.declared.words_fault.WordsFault.{WordsFault}
-use Rattle.binlogfeed.specs.declared.words_fault.WordsFault.TheVariants.{Help, CommandLine, EventName, Set, OutOfMemory}
+use Rattle.binlogfeed.specs.declared.words_fault.WordsFault.TheVariants.{Help, CommandLine, EventName, Set, Token, OutOfMemory}
 
 -- one file or more
 abbrev pub file_rule : Rule
@@ -34,9 +35,9 @@ transactions_app = with_rule (new_app (codes "transactions")) file_rule
 
 abbrev pub read_app : App
 read_app = with_rule
-    (with_option (with_option (with_option (with_option (with_option (with_option (new_app (codes "read"))
+    (with_option (with_option (with_option (with_option (with_option (with_option (with_option (new_app (codes "read"))
     (codes "only-events")) (codes "only-tables")) (codes "ignored-tables")) (codes "only-schemas")) (codes "ignored-schemas"))
-    (codes "auto-position"))
+    (codes "auto-position")) (codes "from"))
     file_rule
 
 abbrev pub program_app : App
@@ -55,7 +56,7 @@ IsOrder (Transactions files) found =
     (rows : List Row) × (found ≡ Some (codes "transactions", rows)) × (texts files.items ≡ files_given rows)
 IsOrder (Read filter start files) found =
     (rows : List Row) × (found ≡ Some (codes "read", rows))
-    × IsFilterOf rows filter × (start ≡ Beginning) × (texts files.items ≡ files_given rows)
+    × IsFilterOf rows filter × IsStart (token_text rows) start × (texts files.items ≡ files_given rows)
 
 -- the words name no subcommand that the program has
 abbrev pub NamesNone : Option (Text × List Row) → Type 0
@@ -65,6 +66,11 @@ NamesNone found = (rows : List Row) → (found ≢ Some (codes "transactions", r
 abbrev pub HasOptionFault : Option (Text × List Row) → WordsFault → Type 0
 HasOptionFault found fault = (rows : List Row) × (found ≡ Some (codes "read", rows)) × AnswersOptions rows (Err fault)
 
+-- the words name the subcommand `read`, whose other options name a filter, and whose token has this fault
+abbrev pub HasTokenFault : Option (Text × List Row) → WordsFault → Type 0
+HasTokenFault found fault =
+    (rows : List Row) × (found ≡ Some (codes "read", rows)) × ((filter : Filter) × IsFilterOf rows filter) × IsTokenFault (token_text rows) fault
+
 -- what a subcommand found comes to; memory may be wanting for any
 abbrev pub AnswersFound : Option (Text × List Row) → Result Order WordsFault → Type 0
 AnswersFound found (Ok order) = IsOrder order found
@@ -72,6 +78,7 @@ AnswersFound found (Err (Help error)) = ⊥
 AnswersFound found (Err CommandLine) = NamesNone found
 AnswersFound found (Err (EventName word)) = HasOptionFault found (EventName word)
 AnswersFound found (Err (Set at)) = HasOptionFault found (Set at)
+AnswersFound found (Err Token) = HasTokenFault found Token
 AnswersFound found (Err OutOfMemory) = Unit {0}
 
 -- what an error of the parser comes to
@@ -80,6 +87,7 @@ IsFaultOf given (Help error) = (error ≡ given) × (kind_of given ≡ kind.Disp
 IsFaultOf given CommandLine = (kind_of given ≢ kind.DisplayHelp) × (kind_of given ≢ kind.OutOfMemory)
 IsFaultOf given (EventName word) = ⊥
 IsFaultOf given (Set at) = ⊥
+IsFaultOf given Token = ⊥
 IsFaultOf given OutOfMemory = kind_of given ≡ kind.OutOfMemory
 
 -- a fault that is no call for help
@@ -93,6 +101,7 @@ AnswersParse faults found (Err (Help error)) = IsAmong kind.DisplayHelp faults �
 AnswersParse faults found (Err CommandLine) = HasMistake faults ⊎ ((faults ≡ []) × NamesNone found)
 AnswersParse faults found (Err (EventName word)) = (faults ≡ []) × HasOptionFault found (EventName word)
 AnswersParse faults found (Err (Set at)) = (faults ≡ []) × HasOptionFault found (Set at)
+AnswersParse faults found (Err Token) = (faults ≡ []) × HasTokenFault found Token
 AnswersParse faults found (Err OutOfMemory) = Unit {0}
 
 abbrev pub AnswersWords : List Text → Result Order WordsFault → Type 0
@@ -103,6 +112,7 @@ words_status_of (Help error) = 0
 words_status_of CommandLine = 2
 words_status_of (EventName word) = 2
 words_status_of (Set at) = 2
+words_status_of Token = 3
 words_status_of OutOfMemory = 5
 
 -- the line of a fault, without its line feed
@@ -111,4 +121,5 @@ words_text (Help error) = []
 words_text CommandLine = codes "binlogfeed: command line refused"
 words_text (EventName word) = codes "binlogfeed: bad --only-events: " ++ string_bytes word
 words_text (Set at) = codes "binlogfeed: bad --auto-position: element " ++ decimal at
+words_text Token = codes "binlogfeed: token refused: BadToken"
 words_text OutOfMemory = codes "binlogfeed: out of memory"

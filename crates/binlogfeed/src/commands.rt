@@ -14,6 +14,7 @@ Exit status:
   0  the files were read to their end; a last transaction that is cut short is left out
   1  something in a file can't be taken in: the line on standard error says where and what
   2  the command line, a value of an option, or two files with one name
+  3  a token that is none, or that fits no place of the files
   4  a file can't be opened or read, or the output can't be written
   5  out of memory";
 
@@ -59,10 +60,15 @@ count, and upper and lower case differ. A SET is a GTID set as MySQL writes it: 
 and its numbers, and further sources behind commas. Write a value that begins with `-` as
 --option=value.
 
+After a stop, --from TOKEN goes on: with the token of the last line that was kept, the
+lines behind it follow, over the same files or over files that continue them. The token's
+own file must be among the files; those before it may be left out. The filters may differ.
+
 Examples:
   binlogfeed read --only-schemas shop --ignored-tables cart,visit binlog.000001 binlog.000002
   binlogfeed read --only-events insert,update binlog.000001
-  binlogfeed read --auto-position 3e11fa47-71ca-11e1-9e33-c80aa9429562:1-5:7 binlog.000001";
+  binlogfeed read --auto-position 3e11fa47-71ca-11e1-9e33-c80aa9429562:1-5:7 binlog.000001
+  binlogfeed read --from 3406.1@binlog.000001 binlog.000001 binlog.000002";
 
 const ONLY_EVENTS_HELP: &str = "Only changes of these kinds: insert, update, delete";
 
@@ -75,6 +81,8 @@ const ONLY_SCHEMAS_HELP: &str = "Only changes of tables in these schemas";
 const IGNORED_SCHEMAS_HELP: &str = "No changes of tables in these schemas";
 
 const AUTO_POSITION_HELP: &str = "No changes of transactions with these GTIDs";
+
+const FROM_HELP: &str = "Only changes behind the one that has this token";
 
 /// One file or more.
 fn file_argument<'a>(alloc: Global) -> Arg<'a>
@@ -123,6 +131,7 @@ fn read_command<'a>(alloc: Global) -> Result<Command<'a>, AllocError>
         .arg(option(alloc, "only-schemas", "LIST", ONLY_SCHEMAS_HELP))?
         .arg(option(alloc, "ignored-schemas", "LIST", IGNORED_SCHEMAS_HELP))?
         .arg(option(alloc, "auto-position", "SET", AUTO_POSITION_HELP))?
+        .arg(option(alloc, "from", "TOKEN", FROM_HELP))?
         .arg(file_argument(alloc))
 }
 

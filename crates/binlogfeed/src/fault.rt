@@ -1,6 +1,6 @@
 //! Why a run ended early: its line on standard error, and the program's status.
 ghost use Rattle.std.specs.Prelude.{◌≡◌, ◌++◌, OnOk, string_bytes};
-ghost use Rattle.binlogfeed.specs.Faults.{what_text, fault_text, status_of, IsNamed};
+ghost use Rattle.binlogfeed.specs.Faults.{what_text, refusal_text, fault_text, status_of, IsNamed};
 
 use binlog_feed::{LogFault, OpenFeedFault, What};
 use binlog_frame::Logs;
@@ -12,6 +12,8 @@ use std::fmt;
 pub enum RunFault {
     /// The file with this number is the first that has the name of an earlier one.
     DuplicateFile(usize),
+    /// The token behind which the run was to begin is refused.
+    Token(TokenRefusal),
     /// An event can't be taken in.
     Log(LogFault),
     /// The device failed in the file with this number.
@@ -22,6 +24,17 @@ pub enum RunFault {
     OutOfMemory,
 }
 
+/// Why a token is refused.
+#[derive(Clone, Copy, Debug, PartialEq, Eq)]
+pub enum TokenRefusal {
+    /// No file has its name.
+    NoFile,
+    /// No whole transaction or statement of its file begins at its position.
+    NoTransaction,
+    /// The one that begins there gives fewer changes.
+    NoChange,
+}
+
 impl From<OpenFeedFault> for RunFault {
     ghost use Rattle.binlogfeed.specs.Faults.{fault_of_opening};
 
@@ -30,6 +43,14 @@ impl From<OpenFeedFault> for RunFault {
     fn from(opening: OpenFeedFault) -> RunFault {
         match opening {
             OpenFeedFault::DuplicateFile(file) => RunFault::DuplicateFile(file),
+            OpenFeedFault::TokenNoFile => RunFault::Token(TokenRefusal::NoFile),
+            OpenFeedFault::TokenNoTransaction => RunFault::Token(TokenRefusal::NoTransaction),
+            OpenFeedFault::TokenNoChange => RunFault::Token(TokenRefusal::NoChange),
+            OpenFeedFault::Log(fault) => RunFault::Log(fault),
+            OpenFeedFault::Read { file } => RunFault::Read(file),
+            // No run leaves it at a window that is too small: there was no memory for a larger one.
+            OpenFeedFault::WindowTooSmall { .. } => RunFault::OutOfMemory,
+            OpenFeedFault::OutOfMemory => RunFault::OutOfMemory,
         }
     }
 }
@@ -68,6 +89,17 @@ impl fmt::Display for Shown {
     }
 }
 
+/// The name by which a token is refused.
+fn refusal_name(refusal: TokenRefusal) -> &'static str
+    ensures { result.now ≡ refusal_text refusal }
+{
+    match refusal {
+        TokenRefusal::NoFile => "TokenNoFile",
+        TokenRefusal::NoTransaction => "TokenNoTransaction",
+        TokenRefusal::NoChange => "TokenNoChange",
+    }
+}
+
 /// Appends the line of a fault, without its line feed. Where it finds no memory, nothing is said of what was appended.
 pub fn fault_line<L: Logs>(fault: &RunFault, logs: &L, line: &mut String) -> Result<(), AllocError>
     requires { IsNamed (L.names logs.now) fault.now }
@@ -77,6 +109,10 @@ pub fn fault_line<L: Logs>(fault: &RunFault, logs: &L, line: &mut String) -> Res
         RunFault::DuplicateFile(file) => {
             let name = file_name(logs, *file);
             write!(line, "binlogfeed: duplicate file {name}")
+        }
+        RunFault::Token(refusal) => {
+            let name = refusal_name(*refusal);
+            write!(line, "binlogfeed: token refused: {name}")
         }
         RunFault::Log(fault) => {
             let name = file_name(logs, fault.file);
@@ -111,6 +147,7 @@ pub fn status(fault: &RunFault) -> u8
     match fault {
         RunFault::Log(_) => 1,
         RunFault::DuplicateFile(_) => 2,
+        RunFault::Token(_) => 3,
         RunFault::Read(_) | RunFault::Write => 4,
         RunFault::OutOfMemory => 5,
     }

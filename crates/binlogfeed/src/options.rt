@@ -27,7 +27,7 @@ pub(crate) fn filter_given(alloc: Global, matches: &ArgMatches<'_>) -> Result<Fi
 }
 
 /// The value of an option.
-fn text_given<'a>(matches: &ArgMatches<'a>, id: &str) -> Option<&'a str>
+pub(crate) fn text_given<'a>(matches: &ArgMatches<'a>, id: &str) -> Option<&'a str>
     ensures { option_map (λ text. text.now) result ≡ first_of id.now (rows_of (found_of matches.now)) }
 {
     matches.get_str(id)

@@ -4,7 +4,8 @@ ghost use Rattle.clap.specs.Words.{rows_of, found_of, subcommand_of, subcommand_
 ghost use Rattle.binlogfeed.specs.Words.{program_app, IsFaultOf, AnswersFound, AnswersWords, texts, files_given};
 
 use crate::commands::program;
-use crate::options::filter_given;
+use crate::options::{filter_given, text_given};
+use crate::start_words::start_given;
 use crate::words_fault::WordsFault;
 use binlog_feed::Start;
 use binlog_select::Filter;
@@ -19,7 +20,7 @@ pub enum Order<'a> {
     Transactions {
         files: Vec<&'a str>,
     },
-    /// A line for each row change of these files that passes the filter.
+    /// A line for each row change of these files behind the start that passes the filter.
     Read {
         filter: Filter,
         start: Start,
@@ -77,10 +78,11 @@ fn read<'a>(alloc: Global, matches: &ArgMatches<'a>) -> Result<Order<'a>, WordsF
     ensures { AnswersFound (Some (codes "read", rows_of (found_of matches.now))) result }
 {
     let filter = filter_given(alloc, matches)?;
+    let start = start_given(alloc, text_given(matches, "from"))?;
     let files = files(alloc, matches)?;
     Ok(Order::Read {
         filter,
-        start: Start::Beginning,
+        start,
         files,
     })
 }

@@ -16,6 +16,8 @@ pub enum WordsFault {
     EventName(String),
     /// The element of `--auto-position` with this number, from 0, is the first that can't be read.
     Set(usize),
+    /// The text of `--from` is no token.
+    Token,
     /// A growth was refused.
     OutOfMemory,
 }
@@ -47,6 +49,7 @@ pub fn words_status(fault: &WordsFault) -> u8
     match fault {
         WordsFault::Help(_) => 0,
         WordsFault::CommandLine | WordsFault::EventName(_) | WordsFault::Set(_) => 2,
+        WordsFault::Token => 3,
         WordsFault::OutOfMemory => 5,
     }
 }
@@ -61,6 +64,7 @@ pub fn words_line(fault: &WordsFault, line: &mut String) -> Result<(), AllocErro
         WordsFault::CommandLine => write!(line, "binlogfeed: command line refused"),
         WordsFault::EventName(word) => write!(line, "binlogfeed: bad --only-events: {word}"),
         WordsFault::Set(at) => write!(line, "binlogfeed: bad --auto-position: element {at}"),
+        WordsFault::Token => write!(line, "binlogfeed: token refused: BadToken"),
         WordsFault::OutOfMemory => write!(line, "binlogfeed: out of memory"),
     }
 }

@@ -15,7 +15,8 @@ returns-clause-app c =
     let four = adds _ _ _ _ _ c.in_ok-arg-4.ensures c.option-4.ensures.local three c.option-4.ensures.rule in
     let five = adds _ _ _ _ _ c.in_ok-arg-5.ensures c.option-5.ensures.local four c.option-5.ensures.rule in
     let six = adds _ _ _ _ _ c.in_ok-arg-6.ensures c.option-6.ensures.local five c.option-6.ensures.rule in
-    IfOk-weaker c.arg-7.result _ _ (λ x h. adds _ _ _ _ _ h c.file_argument.ensures.local six c.file_argument.ensures.rule) c.arg-7.ensures
+    let seven = adds _ _ _ _ _ c.in_ok-arg-7.ensures c.option-7.ensures.local six c.option-7.ensures.rule in
+    IfOk-weaker c.arg-8.result _ _ (λ x h. adds _ _ _ _ _ h c.file_argument.ensures.local seven c.file_argument.ensures.rule) c.arg-8.ensures
 
 pub returns-clause-local : goal.returns-clause-local
 returns-clause-local c =
@@ -27,4 +28,5 @@ returns-clause-local c =
     let four = adds_local _ _ _ c.in_ok-arg-4.ensures c.option-4.ensures.local three in
     let five = adds_local _ _ _ c.in_ok-arg-5.ensures c.option-5.ensures.local four in
     let six = adds_local _ _ _ c.in_ok-arg-6.ensures c.option-6.ensures.local five in
-    IfOk-weaker c.arg-7.result _ _ (λ x h. adds_local _ _ _ h c.file_argument.ensures.local six) c.arg-7.ensures
+    let seven = adds_local _ _ _ c.in_ok-arg-7.ensures c.option-7.ensures.local six in
+    IfOk-weaker c.arg-8.result _ _ (λ x h. adds_local _ _ _ h c.file_argument.ensures.local seven) c.arg-8.ensures

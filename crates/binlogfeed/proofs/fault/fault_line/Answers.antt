@@ -14,3 +14,6 @@ returns-in-Read g c = rw c.in-Read.is (rw c.file_name-name-in-Read.ensures at c.
 
 pub returns-in-Log : goal.returns-in-Log
 returns-in-Log g c = rw c.in-Log.is (rw c.file_name-name-in-Log.ensures at c.write-in-Log.ensures.bytes)
+
+pub returns-in-Token : goal.returns-in-Token
+returns-in-Token g c = rw c.in-Token.is (rw c.refusal_name-name.ensures at c.write-in-Token.ensures.bytes)

@@ -3,4 +3,4 @@ use Rattle.binlogfeed.specs.declared.fault.RunFault.TheVariants.{OutOfMemory}
 use Rattle.binlogfeed.proofs.program.write_lines.Goals as goal
 
 pub returns-in_default-clause-ends : goal.returns-in_default-clause-ends
-returns-in_default-clause-ends g c = λ honest. (Err OutOfMemory, inl (refl, refl), c.refuse.ensures)
+returns-in_default-clause-ends g c = (Err OutOfMemory, λ honest. inl (refl, refl), tt, tt, c.refuse.ensures)
