@@ -1,6 +1,6 @@
 //! Frames, units and the feed over a case's files, step by step.
 use crate::case::{Case, Named, Reads};
-use crate::feed_filter::filter_of;
+use crate::feed_start::begun;
 use crate::frames::{Pass, Shown};
 use crate::layer_sweeps::sweep;
 use crate::lines::Refused;
@@ -8,7 +8,7 @@ use crate::outcome::{copy_of, source};
 use crate::steps::{Told, tell_all};
 use crate::verbs::Verdict;
 use crate::watched::{Seen, Turning, Watched};
-use binlog_feed::{Feed, OpenFeedFault, Start, Units};
+use binlog_feed::{Feed, OpenFeedFault, Units};
 use binlog_frame::Logs;
 use std::alloc::Global;
 use std::cell::Cell;
@@ -134,9 +134,9 @@ fn tell_feed<L: Logs + Drop>(
     reading: Reading<'_>,
     told: &mut Told,
 ) -> Result<(), Refused> {
-    let filter = filter_of(alloc, reading.options)?;
+    let (filter, start) = begun(alloc, reading.options)?;
     let bytes = vec![in alloc; 0u8; reading.window]?;
-    match Feed::open(alloc, logs, filter, Start::Beginning, bytes) {
+    match Feed::open(alloc, logs, filter, start, bytes) {
         Err((fault, _logs, _filter, _start, back)) => {
             show_refusal(told, fault, reading.window, back.len())?;
         }

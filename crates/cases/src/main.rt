@@ -7,7 +7,7 @@ mod bodies;
 mod case;
 mod cells;
 mod feed;
-mod feed_filter;
+mod feed_start;
 mod filters;
 mod frames;
 mod images;

@@ -109,14 +109,27 @@ fn order_text(alloc: Global, order: Order<'_>) -> Result<String, Refused> {
             start,
             files,
         } => {
-            let Start::Beginning = start;
-            let mut text = String::from_str(alloc, "read from the beginning\n")?;
+            let mut text = String::from_str(alloc, "read")?;
+            show_start(&mut text, start)?;
             show_filter(&mut text, filter)?;
             text.push_str("files")?;
             show_files(&mut text, &files)?;
             Ok(text)
         }
     }
+}
+
+/// Where a run begins, and a line feed.
+fn show_start(text: &mut String, start: Start) -> Result<(), Refused> {
+    match start {
+        Start::Beginning => text.push_str(" from the beginning\n")?,
+        Start::After(token) => {
+            text.push_str(" behind ")?;
+            token.as_ref().write(text)?;
+            text.push('\n')?;
+        }
+    }
+    Ok(())
 }
 
 /// A line for each list that a filter has.

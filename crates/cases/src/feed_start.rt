@@ -1,14 +1,14 @@
-//! A feed's filter, by words of the command line.
+//! A feed's filter and its start, by words of the command line.
 use crate::lines::Refused;
 use binlog_feed::Start;
 use binlog_select::Filter;
 use binlogfeed::words::{Order, read_words};
 use std::alloc::Global;
 
-/// The filter of options of the program's `read`.
-pub fn filter_of(alloc: Global, options: &[String]) -> Result<Filter, Refused> {
+/// The filter and the start of options of the program's `read`.
+pub fn begun(alloc: Global, options: &[String]) -> Result<(Filter, Start), Refused> {
     if options.is_empty() {
-        return Ok(Filter::new());
+        return Ok((Filter::new(), Start::Beginning));
     }
     let mut words: Vec<&str> = Vec::new(alloc);
     words.extend_from_slice(&["binlogfeed", "read"])?;
@@ -16,18 +16,18 @@ pub fn filter_of(alloc: Global, options: &[String]) -> Result<Filter, Refused> {
         words.push(option.as_str())?;
     }
     words.push("FILE")?;
-    filter_read(alloc, &words)
+    begun_by(alloc, &words)
 }
 
-fn filter_read(alloc: Global, words: &[&str]) -> Result<Filter, Refused> {
+fn begun_by(alloc: Global, words: &[&str]) -> Result<(Filter, Start), Refused> {
     match read_words(alloc, words) {
         Ok(
             Order::Read {
                 filter,
-                start: Start::Beginning,
+                start,
                 files: _,
             },
-        ) => Ok(filter),
+        ) => Ok((filter, start)),
         _ => Err(Refused::BadPart),
     }
 }
