@@ -11,6 +11,7 @@ use Rattle.binlogfeed.specs.Statuses.{run_status_of, open_status_of}
 use Rattle.binlogfeed.specs.Words.{words_status_of, words_text}
 use Rattle.binlogfeed.specs.declared.fault.RunFault.{RunFault}
 use Rattle.binlogfeed.specs.declared.fault.RunFault.TheVariants as run
+use Rattle.binlogfeed.specs.declared.fault.TokenRefusal.TheVariants.{NoFile, NoTransaction, NoChange}
 use Rattle.binlogfeed.specs.declared.words_fault.WordsFault.TheVariants as words
 
 -- ---- texts
@@ -42,13 +43,22 @@ RunTexts =
     × (fault_text two_names (run.DuplicateFile 1) ≡ codes "binlogfeed: duplicate file binlog.000002")
     × (fault_text two_names (run.Read 1) ≡ codes "binlogfeed: read fault: binlog.000002")
     × (fault_text two_names run.Write ≡ codes "binlogfeed: write fault") × (fault_text two_names run.OutOfMemory ≡ codes "binlogfeed: out of memory")
-    × (fault_of_opening (open_feed.DuplicateFile 1) ≡ run.DuplicateFile 1)
+    × (fault_text two_names (run.Token NoFile) ≡ codes "binlogfeed: token refused: TokenNoFile")
+    × (fault_text two_names (run.Token NoTransaction) ≡ codes "binlogfeed: token refused: TokenNoTransaction")
+    × (fault_text two_names (run.Token NoChange) ≡ codes "binlogfeed: token refused: TokenNoChange")
+
+-- what keeps a feed from opening ends the run under the same name
+abbrev pub OpenFaults : Type 0
+OpenFaults =
+    (fault_of_opening (open_feed.DuplicateFile 1) ≡ run.DuplicateFile 1) × (fault_of_opening open_feed.TokenNoFile ≡ run.Token NoFile)
+    × (fault_of_opening open_feed.TokenNoTransaction ≡ run.Token NoTransaction) × (fault_of_opening open_feed.TokenNoChange ≡ run.Token NoChange)
+    × (fault_of_opening (open_feed.Read 1) ≡ run.Read 1) × (fault_of_opening open_feed.OutOfMemory ≡ run.OutOfMemory)
 
 -- of words that aren't those of a command line, of a word that names no kind of change, and of a set whose element has no reading
 abbrev pub WordsTexts : Type 0
 WordsTexts =
     (words_text words.CommandLine ≡ codes "binlogfeed: command line refused") × (words_text (words.Set 1) ≡ codes "binlogfeed: bad --auto-position: element 1")
-    × (words_text words.OutOfMemory ≡ codes "binlogfeed: out of memory")
+    × (words_text words.Token ≡ codes "binlogfeed: token refused: BadToken") × (words_text words.OutOfMemory ≡ codes "binlogfeed: out of memory")
     × ((word : String Global) → words_text (words.EventName word) ≡ codes "binlogfeed: bad --only-events: " ++ string_bytes word)
 
 abbrev pub Endings : Type 0
@@ -57,16 +67,17 @@ Endings =
 
 -- ---- statuses
 
--- the end of the logs, a log fault, equal names, a device, memory
+-- the end of the logs, a log fault, equal names, a token, a device, memory
 abbrev pub RunStatuses : Type 0
 RunStatuses =
     (run_status_of (Ok 0) ≡ 0) × (run_status_of (Ok 7) ≡ 0) × (run_status_of (Err second_is_bad) ≡ 1) × (run_status_of (Err (run.DuplicateFile 1)) ≡ 2)
+    × (run_status_of (Err (run.Token NoFile)) ≡ 3) × (run_status_of (Err (run.Token NoTransaction)) ≡ 3) × (run_status_of (Err (run.Token NoChange)) ≡ 3)
     × (run_status_of (Err (run.Read 0)) ≡ 4) × (run_status_of (Err run.Write) ≡ 4) × (run_status_of (Err run.OutOfMemory) ≡ 5)
 
 abbrev pub WordsStatuses : Type 0
 WordsStatuses =
     (words_status_of words.CommandLine ≡ 2) × (words_status_of (words.Set 0) ≡ 2) × ((word : String Global) → words_status_of (words.EventName word) ≡ 2)
-    × (words_status_of words.OutOfMemory ≡ 5)
+    × (words_status_of words.Token ≡ 3) × (words_status_of words.OutOfMemory ≡ 5)
 
 abbrev pub OpenStatuses : Type 0
 OpenStatuses =

@@ -1,5 +1,5 @@
 //! The definitions of the program's lines on standard error and of its statuses.
-ghost use Rattle.binlog_samples.specs.Statuses.{Whats, FurtherWhats, RunTexts, WordsTexts, Endings};
+ghost use Rattle.binlog_samples.specs.Statuses.{Whats, FurtherWhats, RunTexts, OpenFaults, WordsTexts, Endings};
 ghost use Rattle.binlog_samples.specs.Statuses.{RunStatuses, WordsStatuses, OpenStatuses};
 
 /// How faults are told.
@@ -7,6 +7,7 @@ pub fn sample_texts()
     ensures whats { Whats }
     ensures further_whats { FurtherWhats }
     ensures run_texts { RunTexts }
+    ensures open_faults { OpenFaults }
     ensures words_texts { WordsTexts }
     ensures endings { Endings }
 {}
