@@ -33,7 +33,7 @@ ROOT = Path(__file__).resolve().parent.parent
 FOLDER = "wrong-bodies"
 PARTS = ("src", "specs", "proofs")
 # So many edits in one check: more would make the last checks of a run wait for one long one.
-MOST_IN_A_ROUND = 24
+MOST_IN_A_ROUND = 48
 LONGEST_CHECK = 1800
 
 HEAD = re.compile(r"^( *)(?:pub(?:\([^)]*\))? )?(?:const )?fn (\w+)")
@@ -349,8 +349,12 @@ def keys_of(edit, said):
     inside = "::".join(it for it in (edit.crate, function.module) if it)
     name = "::".join(it for it in (function.owner, function.name) if it)
     own = f"{inside}::{name}"
-    closures = [it for it in said if it.startswith(f"{inside}::fn::{name}::")]
-    return [it for it in (own, *closures) if it in said]
+    if own not in said and function.owner:
+        # A method goes by the module of its type, wherever its impl stands.
+        elsewhere = [it for it in said if it.endswith(f"::{name}") and "::fn::" not in it]
+        own = elsewhere[0] if len(elsewhere) == 1 else own
+    closures = [it for it in said if re.fullmatch(rf"{edit.crate}::(\w+::)*fn::{name}::.*", it)]
+    return [own, *closures] if own in said else []
 
 
 def errors_of(key, errors):
@@ -379,8 +383,7 @@ def judge(edits, out):
         keys = keys_of(edit, said)
         own.update(keys)
         each = [verdict_on(it, said, errors) for it in keys]
-        is_named = keys and "::fn::" not in keys[0]
-        verdicts[edit] = next((it for it in (REFUSED, NAMES, CALLEE, PASSED) if it in each), UNKNOWN) if is_named else UNKNOWN
+        verdicts[edit] = next((it for it in (REFUSED, NAMES, CALLEE, PASSED) if it in each), UNKNOWN)
     strangers = [it for it in said if it not in own and verdict_on(it, said, errors) in (REFUSED, NAMES)]
     return verdicts, bool(strangers)
 
@@ -415,9 +418,9 @@ def settle(crate, edits, out):
             crate.only_as_names_went += verdict == NAMES
             if verdict == NAMES:
                 print(f"{edit.label()}: refused only as names went away, which says little: change a value and keep the names", flush=True)
-    if is_muddied or len(again) == len(edits):
-        return [[it] for it in again]
-    return [again] if again else []
+    if not again or len(again) < len(edits):
+        return [again] if again else []
+    return [again[: len(again) // 2], again[len(again) // 2 :]]
 
 
 # The run
@@ -443,6 +446,7 @@ def try_all(base, chosen, crates, jobs):
 def after_clean(crate, is_proved, said):
     """Returns the first rounds of a crate that is proved without any edit."""
     if is_proved:
+        print(f"{crate.name}: proved as it is, {crate.clean_seconds:.0f} s", flush=True)
         return first_rounds(crate.edits)
     for edit in crate.edits:
         crate.failed[edit.name] = f"not tried, since the crate itself isn't proved: {first_error(said)}"
@@ -454,6 +458,8 @@ def after_round(crate, edits, said, seconds):
     before, failed = crate.refused, len(crate.failed)
     again = settle(crate, edits, said)
     crate.seconds += seconds
+    for name in list(crate.failed)[failed:]:
+        print(f"{crate.name}/{FOLDER}/{name}: {crate.failed[name]}")
     came_out = f"{crate.refused - before} refused, {len(crate.failed) - failed} not, {sum(map(len, again))} to try again"
     print(f"{crate.name}: {len(edits)} edits in one check, {seconds:.0f} s: {came_out}", flush=True)
     return again
