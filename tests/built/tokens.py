@@ -19,7 +19,7 @@ Logs = dict[str, bytes]
 REASONS = 4
 
 # Of the bank's lines every one is gone on from over its own files, and one of so many over other lists and with filters.
-STEP = 5
+STEP = 8
 
 # Where a transaction is cut in two: behind its first events.
 BEGUN = 150
@@ -260,7 +260,7 @@ def worked_checks() -> list[Check]:
     half = {"one": worked_log(2), "two": worked_log(3)[:-50]}
     other = {"two": worked_log(2) + insert(589, 9), "three": worked_log(2), "four": front(), "five": worked_log()}
     rest = change_line(589, 9, "two").encode() + change_lines(2, "three") + change_lines(1, "five")
-    long = {name: worked_log(20) for name in ("one", "two", "three")}
+    long = {name: worked_log(8) for name in ("one", "two", "three")}
     return [
         Check("a cut transaction gives way to another", partial(judge_continued, Continued(half, other))),
         Check("what follows where another came", partial(judge_worked, other, "371.1@two", Wanted(0, rest))),
@@ -272,14 +272,18 @@ def worked_checks() -> list[Check]:
 
 
 def continued(logs: Logs, step: int) -> list[Continued]:
-    """Of each number of files lists that continue them: the last file grows, and loses its last transaction's beginning."""
+    """Of each number of files, the last of which ends in a transaction that is cut, lists that continue them: the transaction is
+    there as a whole or is gone, so are first files, and further files follow."""
     lists = []
-    for count, name in enumerate(logs, 1):
-        unit = last_unit(logs[name])
+    for count, (name, log) in enumerate(logs.items(), 1):
+        unit = last_unit(log)
         earlier = beginning(logs, count, unit + BEGUN)
-        later = (logs, {**logs, name: logs[name][:unit]})
-        own = count - 1 if unit < len(logs[name]) else 0
-        lists += [Continued(earlier, behind(whole, gone), step=step) for gone in {0, own // 2, own} for whole in later]
+        if unit == len(log):
+            lists.append(Continued(earlier, logs, step=step))
+            continue
+        later = (logs, {**logs, name: log[:unit]})
+        gone = sorted({0, (count - 1) // 2, count - 1})
+        lists += [Continued(earlier, behind(whole, first), step=step) for first in gone for whole in later]
     return lists
 
 
@@ -287,7 +291,7 @@ def server_checks(what: str, logs: Logs, step: int, filters: tuple[tuple[str, ..
     """The checks over a server's logs. Some of them have no transaction."""
     told = [name for name, log in logs.items() if last_unit(log) < len(log)]
     same = [Continued(logs, logs, chosen=name) for name in told]
-    own = [Continued(logs, behind(logs, list(logs).index(name)), chosen=name, step=step) for name in told]
+    own = [Continued(logs, behind(logs, gone), chosen=name, step=step) for gone, name in enumerate(logs) if gone and name in told]
     filtered = [Continued(logs, logs, step=2 * step, options=options) for options in filters]
     lists = [*same, *own, *filtered, *continued(logs, 1 + step * len(logs) // 2)]
     return [
