@@ -14,12 +14,12 @@ from typing import NamedTuple
 
 sys.dont_write_bytecode = True
 
-from built import cases, faults, help_text, rows, server_logs, system, words, wrapper  # noqa: E402
+from built import cases, faults, help_text, rows, server_logs, system, tokens, words, wrapper  # noqa: E402
 from built.check import Check  # noqa: E402
 
 TOP = Path(__file__).resolve().parent.parent
 PROGRAMS = [TOP / "crates/program/out/program", TOP / "crates/program/out/program.by-rattle"]
-PARTS = (system, rows, words, faults, help_text, server_logs)
+PARTS = (system, rows, words, faults, help_text, server_logs, tokens)
 
 
 class Task(NamedTuple):

@@ -10,6 +10,7 @@ STATUSES = {
     0: "the files were read to their end; a last transaction that is cut short is left out",
     1: "something in a file can't be taken in: the line on standard error says where and what",
     2: "the command line, a value of an option, or two files with one name",
+    3: "a token that is none, or that fits no place of the files",
     4: "a file can't be opened or read, or the output can't be written",
     5: "out of memory",
 }
@@ -27,6 +28,7 @@ NAMED = {
         "      --only-schemas <LIST>",
         "      --ignored-schemas <LIST>",
         "      --auto-position <SET>",
+        "      --from <TOKEN>",
         "  before, after",
         "  gtid",
         "  kind",
