@@ -5,21 +5,26 @@ usage: tests/wrong_bodies.py [--only TEXT] [CRATE ..]
 
 A check judges each function by itself, since a proof cites only the contracts of what it calls. So edits of different
 functions are planted together in a copy of the crate, and `rt check` must refuse each edit's own function by a goal of
-its own. An edit whose function is only unproved with something that it calls, or which was planted beside one that
-doesn't compile, is tried again with fewer others, and at last alone. An edit that isn't refused fails the run, and so
-does one that can't be applied, whose function can't be found, or that doesn't compile.
+its own. An edit whose function is only unproved with something that it calls, or only as names went away, or which was
+planted beside one that doesn't compile, is tried again with fewer others, and at last alone. An edit that isn't refused
+fails the run, and so does one that can't be applied, whose function can't be found, or that doesn't compile.
 
 An edit is a file with a line 'file: src/NAME.rt' and pairs of lines 'old: TEXT' and 'new: TEXT'. Each TEXT stands in
-that file exactly once, inside one function. The crate itself is checked first, without any edit: it must be proved.
+that file exactly once, inside one function.
 
-The copies lie in .git/wrong-bodies, with what the checks of the clean crates kept. Checks run side by side, one a
-processor or as many as RT_JOBS says. --only tries the edits whose name has TEXT. The last line is 'N passed, M failed'.
+The crate itself must be proved. Where its library shows that, as behind `rt ci`, and no earlier check has left work in
+out/, the first check has an edit of each function, and the further rounds stand on what it kept. Every function that no
+edit touches must then be proved, or be unproved only with what it calls. Else the crate is checked first as it is.
+
+The copies lie in .git/wrong-bodies, with what the first checks kept. Checks run side by side, one a processor or as
+many as RT_JOBS says. --only tries the edits whose name has TEXT. The last line is 'N passed, M failed'.
 """
 import argparse
 import fcntl
 import hashlib
 import os
 import re
+import resource
 import shutil
 import subprocess
 import sys
@@ -32,14 +37,17 @@ from pathlib import Path
 ROOT = Path(__file__).resolve().parent.parent
 FOLDER = "wrong-bodies"
 PARTS = ("src", "specs", "proofs")
-# So many edits in one check: more would make the last checks of a run wait for one long one.
+# So many edits in one check over kept work: more would make the last checks of a run wait for one long one.
 MOST_IN_A_ROUND = 48
-LONGEST_CHECK = 1800
+LONGEST_CHECK = 3600
 
 HEAD = re.compile(r"^( *)(?:pub(?:\([^)]*\))? )?(?:const )?fn (\w+)")
 IMPL = re.compile(r"^impl\b(?P<rest>.*)")
 SAID = re.compile(r"^fn (\S+): (.*)$", re.M)
-ERROR = re.compile(r"^(?:\./)?proofs/(\S+?):\d+:\d+: error: (.*)$", re.M)
+# An error's file, and what it says; a record without a field is told of on the second line.
+ERROR = re.compile(r"^(?:\./)?(\S+?):\d+:\d+: error: (.*(?:\n  .*)?)$", re.M)
+CALLS = re.compile(r"it calls (.*), which (?:is|are) not proved")
+CAME_TO_A_VERDICT = re.compile(r"^(?:logic=(?:not-)?proved|only=\d+ proved=)", re.M)
 # What antt says where a proof file names what an edit took away, or cites such a proof.
 NAMES_WENT = re.compile(r"has no field|is not in scope|has no `|was not admitted")
 
@@ -67,6 +75,17 @@ class Edit:
         return f"{self.crate}/{FOLDER}/{self.name}"
 
 
+@dataclass(frozen=True)
+class Round:
+    """A check: of the crate as it is where it has no edits, and else of these, planted together."""
+
+    edits: tuple = ()
+    # It stands on no proof of the crate, and is the base of the rounds that follow.
+    is_first: bool = False
+    # The functions that are checked with what they call; all where none is named.
+    only: tuple = ()
+
+
 @dataclass
 class Crate:
     name: str
@@ -74,10 +93,11 @@ class Crate:
     edits: list = field(default_factory=list)
     # Why edits fail, by their name.
     failed: dict = field(default_factory=dict)
+    # The names by which a check tells of the edits' functions, where the rounds stand on a first check.
+    keys: dict = field(default_factory=dict)
     refused: int = 0
     only_as_names_went: int = 0
     rounds: int = 0
-    clean_seconds: float = 0
     seconds: float = 0
     # Checks that are still to come.
     open: int = 0
@@ -204,6 +224,8 @@ def function_at(functions, text, old):
     around = [it for it in functions if it.first <= first and last <= it.last]
     if not around:
         raise BadEdit(f"it changes what no function holds: {old.strip()[:80]!r}")
+    if re.match(r"\s*(?:requires|ensures|ghost)\b", text.split("\n")[first]):
+        raise BadEdit(f"it changes a clause, which shows nothing: {old.strip()[:80]!r}")
     return around[-1]
 
 
@@ -247,17 +269,27 @@ def read_edits(crate, only):
             crate.failed[file.name] = f"BAD EDIT: {why}"
 
 
-def first_rounds(edits):
-    """Returns the edits in lists in which no function stands twice, each list short."""
+def layers(edits):
+    """Returns the edits in lists in which no function stands twice; the first has one of each function."""
     by_function = {}
     for edit in edits:
         by_function.setdefault((edit.path, edit.function), []).append(edit)
-    rounds = []
-    for place in range(max(map(len, by_function.values()), default=0)):
-        layer = [it[place] for it in by_function.values() if place < len(it)]
-        parts = -(-len(layer) // MOST_IN_A_ROUND)
-        rounds += [layer[part::parts] for part in range(parts)]
-    return rounds
+    longest = max(map(len, by_function.values()), default=0)
+    return [[it[place] for it in by_function.values() if place < len(it)] for place in range(longest)]
+
+
+def parts_of(layer):
+    """Returns a layer in short lists."""
+    parts = -(-len(layer) // MOST_IN_A_ROUND)
+    return [layer[part::parts] for part in range(parts)]
+
+
+def planted(text, edits):
+    """Returns a file's text with edits of different functions in it, each at its own place."""
+    places = [(text.index(old), old, new) for edit in edits for old, new in edit.pairs]
+    for start, old, new in sorted(places, reverse=True):
+        text = text[:start] + new + text[start + len(old) :]
+    return text
 
 
 # The copies
@@ -293,47 +325,35 @@ def make_room(room, crate, crates, kept):
         link_tree(kept, room / "crates" / crate.name / "out/incremental")
 
 
-def check(room, crate):
-    """Returns what a check of the crate in a copy says, and its status."""
-    words = ["rt", "check", "--jobs", "1"]
+def check(room, crate, only):
+    """Returns what a check of the crate in a copy says."""
+    words = ["rt", "check", "--jobs", "1", *(word for it in only for word in ("--only", it))]
     how = {"stdin": subprocess.DEVNULL, "stdout": subprocess.PIPE, "stderr": subprocess.STDOUT, "errors": "replace"}
     try:
-        ran = subprocess.run(words, cwd=room / "crates" / crate.name, timeout=LONGEST_CHECK, **how)
+        return subprocess.run(words, cwd=room / "crates" / crate.name, timeout=LONGEST_CHECK, **how).stdout
     except subprocess.TimeoutExpired:
-        return f"the check hadn't ended after {LONGEST_CHECK} seconds", 2
-    return ran.stdout, ran.returncode
+        return f"the check hadn't ended after {LONGEST_CHECK} seconds"
 
 
-def check_clean(base, crate, crates):
-    """Checks the crate as it is, and leaves what the check kept for the rounds.
+def check_round(base, crate, crates, given):
+    """Checks the crate with a round's edits planted, and returns what was said and the seconds that it took.
 
-    Returns whether it is proved, and what was said.
+    What a check of the clean crate or a first check kept is left for the rounds that follow.
     """
-    start, room, kept = time.time(), base / f"clean-{crate.name}", base / f"kept-{crate.name}"
-    own = ROOT / "crates" / crate.name / "out/incremental"
-    make_room(room, crate, crates, own if own.is_dir() else kept)
-    said, status = check(room, crate)
-    is_proved = not status and re.search(r"^logic=proved ", said, re.M) is not None
-    if is_proved:
-        shutil.rmtree(kept, ignore_errors=True)
-        os.rename(room / "crates" / crate.name / "out/incremental", kept)
-    shutil.rmtree(room)
-    crate.clean_seconds = time.time() - start
-    return is_proved, said
-
-
-def check_round(base, crate, crates, edits):
-    """Checks the crate with the edits planted, and returns what was said and the seconds that it took."""
     start, room = time.time(), Path(tempfile.mkdtemp(prefix=f"{crate.name}-", dir=base))
-    make_room(room, crate, crates, base / f"kept-{crate.name}")
-    for edit in edits:
-        file = room / "crates" / crate.name / edit.path
-        text = file.read_text()
-        for old, new in edit.pairs:
-            text = text.replace(old, new)
+    kept, own = base / f"kept-{crate.name}", ROOT / "crates" / crate.name / "out/incremental"
+    is_base = given.is_first or not given.edits
+    make_room(room, crate, crates, own if is_base and own.is_dir() else kept)
+    for path in {it.path for it in given.edits}:
+        file = room / "crates" / crate.name / path
+        text = planted(file.read_text(), [it for it in given.edits if it.path == path])
         file.unlink()
         file.write_text(text)
-    said, _ = check(room, crate)
+    said = check(room, crate, given.only)
+    made = room / "crates" / crate.name / "out/incremental"
+    if is_base and CAME_TO_A_VERDICT.search(said) and made.is_dir():
+        shutil.rmtree(kept, ignore_errors=True)
+        os.rename(made, kept)
     shutil.rmtree(room)
     return said, time.time() - start
 
@@ -353,19 +373,18 @@ def keys_of(edit, said):
         # A method goes by the module of its type, wherever its impl stands.
         elsewhere = [it for it in said if it.endswith(f"::{name}") and "::fn::" not in it]
         own = elsewhere[0] if len(elsewhere) == 1 else own
-    closures = [it for it in said if re.fullmatch(rf"{edit.crate}::(\w+::)*fn::{name}::.*", it)]
-    return [own, *closures] if own in said else []
+    homes = [f"{it}::fn::{name}::" for it in {inside, own.removesuffix(f"::{name}")}]
+    return [own, *(it for it in said if it.startswith(tuple(homes)))] if own in said else []
 
 
-def errors_of(key, errors):
-    """Returns the errors in a function's own proof files."""
-    folder = key.partition("::")[2].replace("::", "/")
-    return [text for file, text in errors if file.startswith(f"{folder}/")]
+def folder_of(key):
+    """Returns the folder of a function's own proof files."""
+    return f"proofs/{key.partition('::')[2].replace('::', '/')}/"
 
 
 def verdict_on(key, said, errors):
     """Judges one function by what a check said of it."""
-    text, own = said[key], errors_of(key, errors)
+    text, own = said[key], [it for file, it in errors if file.startswith(folder_of(key))]
     if text == "proved":
         return PASSED
     if "`search` did not prove" in text or any(not NAMES_WENT.search(it) for it in own):
@@ -375,8 +394,14 @@ def verdict_on(key, said, errors):
     return CALLEE
 
 
+def is_excused(key, said):
+    """Returns whether a function is only unproved with others that it calls."""
+    calls = CALLS.search(said[key])
+    return calls is not None and all(said.get(it) != "proved" for it in re.findall(r"`([^`]+)`", calls[1]))
+
+
 def judge(edits, out):
-    """Returns each edit's verdict in a round, and whether something else than the edited functions failed."""
+    """Returns each edit's verdict in a round, and what else failed than the edited functions, and those only unproved with them."""
     said, errors = dict(SAID.findall(out)), ERROR.findall(out)
     own, verdicts = set(), {}
     for edit in edits:
@@ -384,8 +409,10 @@ def judge(edits, out):
         own.update(keys)
         each = [verdict_on(it, said, errors) for it in keys]
         verdicts[edit] = next((it for it in (REFUSED, NAMES, CALLEE, PASSED) if it in each), UNKNOWN)
-    strangers = [it for it in said if it not in own and verdict_on(it, said, errors) in (REFUSED, NAMES)]
-    return verdicts, bool(strangers)
+    others = {it: verdict_on(it, said, errors) for it in said if it not in own}
+    strangers = [it for it, verdict in others.items() if verdict in (REFUSED, NAMES) or verdict == CALLEE and not is_excused(it, said)]
+    folders = tuple(map(folder_of, said))
+    return verdicts, strangers + [file for file, _ in errors if not file.startswith(folders)]
 
 
 def first_error(out):
@@ -397,72 +424,114 @@ def first_error(out):
 def settle(crate, edits, out):
     """Takes down the verdicts of a round, and returns the lists of edits to try again."""
     is_alone = len(edits) == 1
-    if not re.search(r"^logic=(not-)?proved", out, re.M):
+    if not CAME_TO_A_VERDICT.search(out):
         if is_alone:
             crate.failed[edits[0].name] = f"BAD EDIT: no contract was tried, since it doesn't compile: {first_error(out)}"
-            return []
-        return [edits[: len(edits) // 2], edits[len(edits) // 2 :]]
-    verdicts, is_muddied = judge(edits, out)
+        return [] if is_alone else halves(edits)
+    verdicts, strangers = judge(edits, out)
     again = []
     for edit, verdict in verdicts.items():
         if verdict == UNKNOWN:
             crate.failed[edit.name] = f"BAD EDIT: the check tells of no function {edit.function.name} of {edit.path}"
-        elif not is_alone and (is_muddied or verdict in (PASSED, CALLEE)):
+        elif not is_alone and (strangers or verdict != REFUSED):
             again.append(edit)
-        elif verdict == PASSED:
-            crate.failed[edit.name] = f"NOT REFUSED: {edit.function.name} is still proved with this edit"
-        elif verdict == CALLEE:
-            crate.failed[edit.name] = f"NOT REFUSED by a goal of its own: {edit.function.name} is only unproved with what it calls"
         else:
-            crate.refused += 1
-            crate.only_as_names_went += verdict == NAMES
-            if verdict == NAMES:
-                print(f"{edit.label()}: refused only as names went away, which says little: change a value and keep the names", flush=True)
+            take_down(crate, edit, verdict)
     if not again or len(again) < len(edits):
         return [again] if again else []
-    return [again[: len(again) // 2], again[len(again) // 2 :]]
+    return halves(again)
+
+
+def take_down(crate, edit, verdict):
+    """Takes down the last verdict on an edit."""
+    if verdict == PASSED:
+        crate.failed[edit.name] = f"NOT REFUSED: {edit.function.name} is still proved with this edit"
+    elif verdict == CALLEE:
+        crate.failed[edit.name] = f"NOT REFUSED by a goal of its own: {edit.function.name} is only unproved with what it calls"
+    else:
+        crate.refused += 1
+        crate.only_as_names_went += verdict == NAMES
+        if verdict == NAMES:
+            print(f"{edit.label()}: refused only as names went away, which says little: change a value and keep the names", flush=True)
+
+
+def halves(edits):
+    return [edits[: len(edits) // 2], edits[len(edits) // 2 :]]
 
 
 # The run
 
 
 def try_all(base, chosen, crates, jobs):
-    """Checks the clean crates, then rounds of edits until each has its verdict, side by side."""
+    """Checks rounds of edits until each has its verdict, side by side."""
     by_size = sorted(chosen, key=lambda it: -sum(file.stat().st_size for file in sources(it)))
     with ThreadPoolExecutor(jobs) as pool:
-        running = {pool.submit(check_clean, base, it, crates): (it, None) for it in by_size}
+        running = {}
+
+        def start(crate, rounds):
+            crate.open += len(rounds)
+            crate.rounds += len(rounds)
+            for it in rounds:
+                running[pool.submit(check_round, base, crate, crates, it)] = crate, it
+
+        for crate in by_size:
+            start(crate, [opening_of(crate, crates)])
         while running:
             for done in wait(running, return_when=FIRST_COMPLETED).done:
-                crate, edits = running.pop(done)
-                rounds = after_clean(crate, *done.result()) if edits is None else after_round(crate, edits, *done.result())
-                crate.open += len(rounds) - (edits is not None)
-                crate.rounds += len(rounds)
-                for it in rounds:
-                    running[pool.submit(check_round, base, crate, crates, it)] = crate, it
+                crate, given = running.pop(done)
+                said, seconds = done.result()
+                crate.seconds += seconds
+                crate.open -= 1
+                start(crate, (after_round if given.edits else after_clean)(crate, given, said, seconds))
                 if not crate.open:
                     tell(crate)
 
 
-def after_clean(crate, is_proved, said):
-    """Returns the first rounds of a crate that is proved without any edit."""
-    if is_proved:
-        print(f"{crate.name}: proved as it is, {crate.clean_seconds:.0f} s", flush=True)
-        return first_rounds(crate.edits)
+def opening_of(crate, crates):
+    """Returns the check that a crate begins with.
+
+    Without edits it is short over kept work, and needed where nothing else shows that the crate is proved.
+    """
+    has_own = (ROOT / "crates" / crate.name / "out/incremental").is_dir()
+    is_known = is_of_the_gate(crate) or is_built(crate, crates)
+    return Round(tuple(layers(crate.edits)[0]), is_first=True) if is_known and not has_own else Round()
+
+
+def after_clean(crate, _, said, seconds):
+    """Returns the rounds of a crate that is proved without any edit."""
+    if re.search(r"^logic=proved ", said, re.M):
+        print(f"{crate.name}: proved as it is, {seconds:.0f} s", flush=True)
+        return [Round(tuple(part)) for layer in layers(crate.edits) for part in parts_of(layer)]
     for edit in crate.edits:
         crate.failed[edit.name] = f"not tried, since the crate itself isn't proved: {first_error(said)}"
     return []
 
 
-def after_round(crate, edits, said, seconds):
-    """Returns the rounds that follow on a round."""
+def after_round(crate, given, said, seconds):
+    """Returns the rounds that follow on a round: of a first check that can't stand, all begin anew with the clean crate."""
+    why = spoils(given, said)
+    if given.is_first and why:
+        print(f"{crate.name}: {len(given.edits)} edits in a first check, {seconds:.0f} s: {why}, so the crate is checked as it is", flush=True)
+        return [Round()]
     before, failed = crate.refused, len(crate.failed)
-    again = settle(crate, edits, said)
-    crate.seconds += seconds
+    again = settle(crate, given.edits, said)
     for name in list(crate.failed)[failed:]:
         print(f"{crate.name}/{FOLDER}/{name}: {crate.failed[name]}")
     came_out = f"{crate.refused - before} refused, {len(crate.failed) - failed} not, {sum(map(len, again))} to try again"
-    print(f"{crate.name}: {len(edits)} edits in one check, {seconds:.0f} s: {came_out}", flush=True)
-    return again
+    print(f"{crate.name}: {len(given.edits)} edits in one check, {seconds:.0f} s: {came_out}", flush=True)
+    if given.is_first:
+        told = dict(SAID.findall(said))
+        crate.keys = {it: keys_of(it, told) for it in crate.edits}
+        again += layers(crate.edits)[1:]
+    return [Round(tuple(it), only=tuple(key for edit in it for key in crate.keys.get(edit, ()))) for it in again]
+
+
+def spoils(given, said):
+    """Returns why nothing can stand on a first check, if so."""
+    if not CAME_TO_A_VERDICT.search(said):
+        return f"no contract was tried ({first_error(said)})"
+    strangers = judge(given.edits, said)[1]
+    return f"{strangers[0]} failed, which no edit touches" if strangers else None
 
 
 def tell(crate):
@@ -470,12 +539,11 @@ def tell(crate):
     for name, why in sorted(crate.failed.items()):
         print(f"{crate.name}/{name if name.startswith(FOLDER) else f'{FOLDER}/{name}'}: {why}")
     names = f" ({crate.only_as_names_went} only as names went away)" if crate.only_as_names_went else ""
-    spent = f"{crate.rounds} rounds in {crate.seconds:.0f} s, the clean crate in {crate.clean_seconds:.0f} s"
-    print(f"{crate.name}: {crate.refused} refused{names}, {len(crate.failed)} not; {spent}", flush=True)
+    print(f"{crate.name}: {crate.refused} refused{names}, {len(crate.failed)} not; {crate.rounds} checks in {crate.seconds:.0f} s", flush=True)
 
 
 def clear(base):
-    """Removes the copies, and leaves what the checks of the clean crates kept."""
+    """Removes the copies, and leaves what the first checks kept."""
     for it in base.iterdir():
         if it.is_dir() and not it.name.startswith("kept-"):
             shutil.rmtree(it)
@@ -525,7 +593,9 @@ def main():
     failed = len(unknown) + (not names) + try_somewhere(chosen, crates)
     passed = sum(it.refused for it in chosen)
     failed += sum(len(it.failed) for it in chosen)
-    print(f"wrong bodies: {sum(it.rounds for it in chosen)} checks of edits, {time.time() - start:.0f} s")
+    used = resource.getrusage(resource.RUSAGE_CHILDREN)
+    processors = f"{used.ru_utime + used.ru_stime:.0f} s of processors"
+    print(f"wrong bodies: {sum(it.rounds for it in chosen)} checks, {time.time() - start:.0f} s, {processors}")
     print(f"{passed} passed, {failed} failed")
     return 1 if failed or not passed else 0
 

@@ -19,7 +19,7 @@ pub use frames::sample_frames;
 pub use maps::sample_maps;
 pub use packed::sample_packed_numbers;
 pub use rows::sample_rows;
-pub use sources::{sample_paths, sample_sources};
+pub use sources::{sample_honesty, sample_paths, sample_sources};
 pub use statuses::{sample_statuses, sample_texts};
 pub use times::sample_times;
 pub use tokens::{sample_continuations, sample_rests, sample_tokens};

@@ -1,6 +1,12 @@
 //! The definitions of sources of files and their names.
+ghost use Rattle.std.specs.Prelude.{◌≡◌, IsTrue};
+ghost use Rattle.binlog_frame.specs.FileLogs.{is_honest};
 ghost use Rattle.binlog_samples.specs.Sources.{TrueReads, FalseReads, ManyReads, Lengths, Rises, Kept, NotKept};
 ghost use Rattle.binlog_samples.specs.Sources.{LastParts, NoLastParts, PathsRefused, PathsNotRefused, Duplicates};
+
+use binlog_frame::{FileLogs, Logs, MemoryLogs};
+use std::fs::OpenFile;
+use std::io::{Read, Seek};
 
 /// What files can give, and what a call on a source keeps.
 pub fn sample_sources()
@@ -11,6 +17,12 @@ pub fn sample_sources()
     ensures rises { Rises }
     ensures kept { Kept }
     ensures not_kept { NotKept }
+{}
+
+/// Which sources are honest: files in memory always are, and files of the system by the definition of `honest_files`.
+pub fn sample_honesty<F: Read + Seek + OpenFile + Drop>(files: &FileLogs<F>, memory: &MemoryLogs)
+    ensures files { ⟦<FileLogs<F> as Logs>⟧.honest files.now ≡ is_honest files.now }
+    ensures memory { IsTrue (⟦<MemoryLogs as Logs>⟧.honest memory.now) }
 {}
 
 /// What paths and names are refused.

@@ -1,3 +1,4 @@
+//! Names of files, as tokens have them.
 ghost use Rattle.std.specs.Prelude.{◌≡◌, ◌↔◌, IfOk, IsTrue, string_bytes};
 ghost use Rattle.binlog_select.specs.Token.{IsFileName};
 

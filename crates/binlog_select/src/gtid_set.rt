@@ -1,3 +1,4 @@
+//! Sets of GTIDs: read from a text, written, and asked for a transaction.
 ghost use Rattle.std.specs.Prelude.{◌≡◌, ◌↔◌, ℕ, ◌++◌, Err, IfOk, OnOk, OnErr, IsTrue, List, string_bytes};
 ghost use Rattle.binlog_select.specs.Gtid.{HasGtid};
 ghost use Rattle.binlog_select.specs.Intervals.{IsJoined, IsMember, SameNumbers};

@@ -1,3 +1,5 @@
+//! An interval of transaction numbers of one source.
+
 /// The numbers of one source from `first` to `last`, both of them included.
 ///
 /// The source is the number of its 128 bits, the first byte highest, so that numbers are in the order

@@ -1,3 +1,4 @@
+//! Kinds of row changes, and lists of them.
 ghost use Rattle.std.specs.Prelude.{◌≡◌, ◌↔◌, List, IsTrue, Contains};
 
 use std::marker::Model;

@@ -1,3 +1,4 @@
+//! Sets of names, which a filter looks schemas and tables up in.
 ghost use Rattle.std.specs.Prelude.{◌≡◌, map, string_bytes};
 ghost use Rattle.std.specs.FinSet as set;
 
