@@ -1,5 +1,5 @@
 -- The last parts of paths that are written out.
-use Rattle.std.proofs.Common.{◌≡◌, ℕ, ◌+◌, ◌-◌, ◌<◌, ◌==◌, false, List, [], ◌∷◌, ◌++◌, length, drop, sym, ap, append_assoc, ◌∙◌, arith, inl, inr, true≢false}
+use Rattle.std.proofs.Common.{◌≡◌, ℕ, zero, suc, ◌+◌, ◌-◌, ◌<◌, ◌==◌, false, List, [], ◌∷◌, ◌++◌, length, drop, sym, ap, append_assoc, ◌∙◌, arith, inl, inr, true≢false}
 use Rattle.std.specs.Prelude.{slice_index, ◌≢◌}
 use Rattle.std.specs.List.{list_any}
 use Rattle.std.proofs.lemmas.List.{length-append, get_or-append-add, drop_at}
@@ -30,3 +30,8 @@ is_whole path name none (bare, inr (front, e)) =
     let at : slice_index path (length front) ≡ 47 =
     ap (λ p. slice_index p (length front)) e ∙ (ap (slice_index (front ++ 47 ∷ name)) last ∙ get_or-append-add front (47 ∷ name) 0 0) in
     absurd (no_slash path none (length front) lt at)
+
+-- what holds of the first path holds of each before the second
+pub first_of : (P : ℕ → Type 0) → P 0 → (k : ℕ) → k < 1 → P k
+first_of P p zero lt = p
+first_of P p (suc k) lt = absurd (omega (arith, lt))

@@ -1,6 +1,6 @@
 -- Sources of files: their reads, lengths and failures, refused paths, and equal names.
 use Rattle.std.specs.Prelude.{◌≡◌, ℕ, ◌-◌, ◌^◌, Bool, true, false, List, [], ◌∷◌, codes}
-use Rattle.binlog_frame.specs.Files.{IsLastPart, RefusesPath, lengths_are}
+use Rattle.binlog_frame.specs.Files.{IsLastPart, RefusesPath, RefusesOne, lengths_are}
 use Rattle.binlog_frame.specs.Logs.{HasRisen, KeepsSource}
 use Rattle.binlog_frame.specs.Transcript.{FileRead, is_true, are_true}
 use Rattle.binlog_frame.specs.declared.open_fault.OpenFault.TheVariants.{BadName, CannotOpen}
@@ -94,13 +94,16 @@ NoLastParts =
 
 -- for a name that is none, or a file that the system doesn't give
 abbrev pub PathsRefused : Type 0
-PathsRefused = RefusesPath 0 (codes "a") (CannotOpen 0) × RefusesPath 1 [] (BadName 1) × RefusesPath 2 (codes "a/") (BadName 2)
+PathsRefused =
+    RefusesPath 0 (codes "a") (CannotOpen 0) × RefusesPath 1 [] (BadName 1) × RefusesPath 2 (codes "a/") (BadName 2)
+    × RefusesOne (codes "a" ∷ [] ∷ codes "b" ∷ []) (BadName 1)
 
--- not for a good name, nor as if the system had been asked for a bad one, nor with another number
+-- not for a good name, nor as if the system had been asked for a bad one, nor with another number, nor behind a bad name
 abbrev pub PathsNotRefused : Type 0
 PathsNotRefused =
     (RefusesPath 0 (codes "a") (BadName 0) → ⊥) × (RefusesPath 0 [] (CannotOpen 0) → ⊥)
     × (RefusesPath 0 (codes "a") (CannotOpen 1) → ⊥) × (RefusesPath 1 [] (BadName 0) → ⊥)
+    × (RefusesOne ([] ∷ codes "a" ∷ []) (CannotOpen 1) → ⊥) × (RefusesOne (codes "a/" ∷ [] ∷ []) (BadName 1) → ⊥)
 
 -- ---- names
 
