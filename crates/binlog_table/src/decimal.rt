@@ -1,3 +1,4 @@
+//! Decimals: groups of digits, the highest first.
 ghost use Rattle.std.specs.Prelude.{◌≡◌, ◌≤◌, ◌<◌, ◌^◌, ◌+◌, ◌-◌, ◌*◌, ◌%◌, ◌/◌, ◌++◌, length, take, map, option_map, is_some, IfSome};
 ghost use Rattle.byteorder.specs.Endian.{big_number};
 ghost use Rattle.binlog_table.specs.DecimalShown.{decimal_view};
@@ -6,7 +7,7 @@ ghost use Rattle.binlog_table.specs.Decimal.{plain, group_len, group_at, nines_a
 use crate::column::DecimalSize;
 use crate::decimal_view::DecimalView;
 use crate::digits::Digits;
-use byteorder::{BigEndian, ByteOrder};
+use crate::number::big;
 
 /// How many bytes a group of digits takes.
 fn group_len(digits: usize) -> usize
@@ -61,7 +62,7 @@ fn group_at(len: usize, bytes: &[u8]) -> Option<(u64, &[u8])>
     if width == 0 {
         return Some((0, bytes));
     }
-    let number = BigEndian::read_uint(bytes, width);
+    let number = big(bytes, width);
     if number >= limit(len) {
         return None;
     }

@@ -1,9 +1,10 @@
+//! How many bytes a value takes.
 ghost use Rattle.std.specs.Prelude.{◌≡◌, ◌≤◌, length, IfSome};
 ghost use Rattle.binlog_table.specs.Extent.{extent_of, extent_len, fraction_len};
 
 use crate::column::{ByteCount, Layout, Precision};
 use crate::decimal::decimal_len;
-use byteorder::{ByteOrder, LittleEndian};
+use crate::number::little;
 
 /// Where a value ends.
 #[derive(Clone, Copy)]
@@ -56,7 +57,7 @@ pub(crate) fn extent_len(extent: Extent, bytes: &[u8]) -> Option<usize>
             if width > bytes.len() {
                 return None;
             }
-            let len = LittleEndian::read_uint(bytes, width) as usize;
+            let len = little(bytes, width) as usize;
             if len > bytes.len() - width {
                 return None;
             }

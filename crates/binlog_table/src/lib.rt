@@ -15,6 +15,7 @@ mod key;
 mod laws;
 mod layout;
 mod names;
+mod number;
 mod packed;
 mod row_view;
 mod rows;

@@ -1,3 +1,4 @@
+//! Dates and times by their bytes.
 ghost use Rattle.std.specs.Prelude.{◌≡◌, ◌≤◌, ◌+◌, ◌^◌, length};
 ghost use Rattle.byteorder.specs.Endian.{little_number};
 ghost use Rattle.binlog_table.specs.Extent.{fraction_len};
@@ -6,6 +7,7 @@ ghost use Rattle.binlog_table.specs.Value.{fraction_of, date_of, timestamp_of, d
 use crate::cell::{Date, DateTime, Time, Timestamp};
 use crate::column::Precision;
 use crate::extent::fraction_len;
+use crate::number::big;
 use byteorder::{BigEndian, ByteOrder, LittleEndian};
 
 /// The fraction's number, where it is in range.
@@ -103,7 +105,7 @@ pub(crate) fn time_of(precision: Precision, text: &[u8]) -> Option<Time>
     ensures { result ≡ time_of precision text.now }
 {
     let len = fraction_len(precision);
-    let number = BigEndian::read_uint(text, 3 + len);
+    let number = big(text, 3 + len);
     let zero = 1u64 << (23 + 8 * len);
     let negative = number < zero;
     let magnitude = if negative {

@@ -1,3 +1,4 @@
+//! What the bytes of a value mean.
 ghost use Rattle.std.specs.Prelude.{◌≡◌, ◌≤◌, option_map};
 ghost use Rattle.binlog_table.specs.Extent.{HasExtent, extent_of};
 ghost use Rattle.binlog_table.specs.Value.{value_of, view};
@@ -5,8 +6,8 @@ ghost use Rattle.binlog_table.specs.Value.{value_of, view};
 use crate::cell::Cell;
 use crate::column::{Column, Layout};
 use crate::decimal::decimal_of;
+use crate::number::{big, little, little_signed};
 use crate::time::{date_of, date_time_of, time_of, timestamp_of};
-use byteorder::{BigEndian, ByteOrder, LittleEndian};
 
 /// What the whole text of a value means, where it means anything.
 #[tactic(auto, unfolding(crate::specs::Value::value_of))]
@@ -17,9 +18,9 @@ pub(crate) fn value_of<'a>(column: &Column, text: &'a [u8]) -> Option<Cell<'a>>
     match &column.layout {
         Layout::Integer(width) => {
             if column.unsigned {
-                Some(Cell::UInt(LittleEndian::read_uint(text, width.get())))
+                Some(Cell::UInt(little(text, width.get())))
             } else {
-                Some(Cell::Int(LittleEndian::read_int(text, width.get())))
+                Some(Cell::Int(little_signed(text, width.get())))
             }
         }
         Layout::Year => {
@@ -30,12 +31,12 @@ pub(crate) fn value_of<'a>(column: &Column, text: &'a [u8]) -> Option<Cell<'a>>
         Layout::Text(width) => Some(Cell::Bytes(&text[width.get()..])),
         Layout::Raw(width) => Some(Cell::Raw(&text[width.get()..])),
         Layout::Float(_) => Some(Cell::Raw(text)),
-        Layout::Bits(width) => Some(Cell::Bits(BigEndian::read_uint(text, width.get()))),
+        Layout::Bits(width) => Some(Cell::Bits(big(text, width.get()))),
         Layout::Timestamp(precision) => Some(Cell::Timestamp(timestamp_of(*precision, text)?)),
         Layout::DateTime(precision) => Some(Cell::DateTime(date_time_of(*precision, text)?)),
         Layout::Time(precision) => Some(Cell::Time(time_of(*precision, text)?)),
         Layout::Decimal(size) => Some(Cell::Decimal(decimal_of(*size, text)?)),
-        Layout::Enum(size) => Some(Cell::Enum(LittleEndian::read_uint(text, size.get()) as u16)),
-        Layout::Set(width) => Some(Cell::Set(LittleEndian::read_uint(text, width.get()))),
+        Layout::Enum(size) => Some(Cell::Enum(little(text, size.get()) as u16)),
+        Layout::Set(width) => Some(Cell::Set(little(text, width.get()))),
     }
 }
