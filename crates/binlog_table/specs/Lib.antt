@@ -18,6 +18,7 @@ pub mod SectionsShown
 pub mod MapWords
 pub mod RowImage
 pub mod MapBody
+pub mod MapShown
 pub mod MapLists
 pub mod NameOrder
 pub mod ValueNamesShown
