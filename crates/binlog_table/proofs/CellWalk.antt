@@ -1,9 +1,10 @@
 -- Going over the cells of an image, as a loop does.
-use Rattle.std.proofs.Common.{◌≡◌, ℕ, ◌+◌, ◌-◌, ◌<◌, ◌≤◌, cond, List, [], ◌∷◌, length, get_or, take, drop, Option, Some, None, option_map, option_and_then, refl, sym, ap, ◌∙◌, arith}
+use Rattle.std.proofs.Common.{◌≡◌, ℕ, ◌+◌, ◌-◌, ◌<◌, ◌≤◌, Bool, cond, List, [], ◌∷◌, length, get_or, take, drop, Option, Some, None, option_map, option_and_then, refl, sym, ap, subst, ◌∙◌, arith}
 use Rattle.std.proofs.lemmas.List.{at_drop_more, at_drop_all, drop-drop, take_rest}
 use Rattle.binlog_table.specs.declared.column.Column.{Column}
 use Rattle.binlog_table.specs.Value.{Content}
-use Rattle.binlog_table.specs.Image.{bit, cell_at, cells_at, cells_of, after_cell, IsRead}
+use Rattle.binlog_table.proofs.SetBits.{bit-all_set, bit-none_set}
+use Rattle.binlog_table.specs.Image.{bit, set_bits, value_at, cell_at, cells_at, cells_of, after_cell, IsRead}
 
 -- where the cells end, from a place on
 abbrev pub end_from : ℕ → Option (List Content × ℕ) → Option ℕ
@@ -20,20 +21,40 @@ unfolding cells_at
 cells-turn columns j present nulls i k t bytes lt is =
     at_drop_more (λ (ts : List Column). cells_at ts present nulls i k bytes) columns j t lt ∙ ap (λ (u : Column). cells_at (u ∷ drop (j + 1) columns) present nulls i k bytes) (sym is)
 
+-- how many bytes a cell takes
+abbrev pub len_in : Option (Content × ℕ) → Option ℕ
+len_in cell = option_map (λ x. x.1) cell
+
+none-by_len : (cell : Option (Content × ℕ)) → None ≡ len_in cell → None ≡ cell
+none-by_len None e = refl
+none-by_len (Some x) e = absurd cc
+
+some-by_len : (cell : Option (Content × ℕ)) (n : ℕ) → Some n ≡ len_in cell → (c : Content) × (Some (c, n) ≡ cell)
+some-by_len None n e = absurd cc
+some-by_len (Some x) n e = let len : n ≡ x.1 = cc in (x.0, ap (λ (m : ℕ). Some (x.0, m)) len)
+
 pub walk-stops : (columns : List Column) (present nulls : List ℕ) (i k : ℕ) (t : Column) (at : ℕ) (bytes : List ℕ) (total : Option ℕ) → i < length columns → t ≡ get_or columns i t
-    → None ≡ cell_at t (bit present i) (bit nulls k) bytes → end_from at (cells_at (drop i columns) present nulls i k bytes) ≡ total → None ≡ total
+    → None ≡ len_in (cell_at t (bit present i) (bit nulls k) bytes) → end_from at (cells_at (drop i columns) present nulls i k bytes) ≡ total → None ≡ total
 walk-stops columns present nulls i k t at bytes total lt is none so_far =
-    let stopped : cells_at (drop i columns) present nulls i k bytes ≡ None = rw (cells-turn columns i present nulls i k t bytes lt is, ← none) refl in
+    let no_cell = none-by_len (cell_at t (bit present i) (bit nulls k) bytes) none in
+    let stopped : cells_at (drop i columns) present nulls i k bytes ≡ None = rw (cells-turn columns i present nulls i k t bytes lt is, ← no_cell) refl in
     sym (ap (end_from at) stopped) ∙ so_far
 
-pub walk-goes : (columns : List Column) (present nulls : List ℕ) (i k : ℕ) (t : Column) (c : Content) (n at : ℕ) (body : List ℕ) (total : Option ℕ) → i < length columns → t ≡ get_or columns i t
+goes-by_cell : (columns : List Column) (present nulls : List ℕ) (i k : ℕ) (t : Column) (c : Content) (n at : ℕ) (body : List ℕ) (total : Option ℕ) → i < length columns → t ≡ get_or columns i t
     → Some (c, n) ≡ cell_at t (bit present i) (bit nulls k) (drop at body) → end_from at (cells_at (drop i columns) present nulls i k (drop at body)) ≡ total
     → end_from (at + n) (cells_at (drop (i + 1) columns) present nulls (i + 1) (cond (bit present i) (k + 1) k) (drop (at + n) body)) ≡ total
-walk-goes columns present nulls i k t c n at body total lt is some so_far =
+goes-by_cell columns present nulls i k t c n at body total lt is some so_far =
     let next = cells_at (drop (i + 1) columns) present nulls (i + 1) (cond (bit present i) (k + 1) k) in
     let turn : cells_at (drop i columns) present nulls i k (drop at body) ≡ after_cell (c, n) (next (drop n (drop at body))) = rw (cells-turn columns i present nulls i k t (drop at body) lt is, ← some) refl in
     let moved : cells_at (drop i columns) present nulls i k (drop at body) ≡ after_cell (c, n) (next (drop (at + n) body)) = turn ∙ ap (λ (b : List ℕ). after_cell (c, n) (next b)) (drop-drop n at body) in
     sym (ap (end_from at) moved ∙ end_after at c n (next (drop (at + n) body))) ∙ so_far
+
+pub walk-goes : (columns : List Column) (present nulls : List ℕ) (i k : ℕ) (t : Column) (n at : ℕ) (body : List ℕ) (total : Option ℕ) → i < length columns → t ≡ get_or columns i t
+    → Some n ≡ len_in (cell_at t (bit present i) (bit nulls k) (drop at body)) → end_from at (cells_at (drop i columns) present nulls i k (drop at body)) ≡ total
+    → end_from (at + n) (cells_at (drop (i + 1) columns) present nulls (i + 1) (cond (bit present i) (k + 1) k) (drop (at + n) body)) ≡ total
+walk-goes columns present nulls i k t n at body total lt is some so_far =
+    let cell = some-by_len (cell_at t (bit present i) (bit nulls k) (drop at body)) n some in
+    goes-by_cell columns present nulls i k t cell.0 n at body total lt is cell.1 so_far
 
 pub walk-ends : (columns : List Column) (present nulls : List ℕ) (i k at : ℕ) (bytes : List ℕ) (total : Option ℕ) → length columns ≤ i
     → end_from at (cells_at (drop i columns) present nulls i k bytes) ≡ total → Some at ≡ total
@@ -41,6 +62,28 @@ unfolding cells_at
 walk-ends columns present nulls i k at bytes total le so_far =
     let e : cells_at (drop i columns) present nulls i k bytes ≡ Some ([], 0) = at_drop_all (λ (ts : List Column). cells_at ts present nulls i k bytes) columns i le in
     ap Some (omega arith) ∙ sym (ap (end_from at) e) ∙ so_far
+
+-- ---- where each column is present, and none is null
+
+cell-whole : (t : Column) (present nulls : List ℕ) (n i : ℕ) (bytes : List ℕ) → i < n → set_bits present n ≡ n → set_bits nulls n ≡ 0
+    → value_at t bytes ≡ cell_at t (bit present i) (bit nulls i) bytes
+unfolding cell_at
+cell-whole t present nulls n i bytes lt all none = rw (bit-all_set present n i lt all, bit-none_set nulls n i lt none) refl
+
+pub whole-stops : (columns : List Column) (present nulls : List ℕ) (i : ℕ) (t : Column) (at : ℕ) (bytes : List ℕ) (total : Option ℕ) → i < length columns → t ≡ get_or columns i t
+    → set_bits present (length columns) ≡ length columns → set_bits nulls (length columns) ≡ 0
+    → None ≡ len_in (value_at t bytes) → end_from at (cells_at (drop i columns) present nulls i i bytes) ≡ total → None ≡ total
+whole-stops columns present nulls i t at bytes total lt is all none no_value so_far =
+    walk-stops columns present nulls i i t at bytes total lt is (no_value ∙ ap len_in (cell-whole t present nulls (length columns) i bytes lt all none)) so_far
+
+pub whole-goes : (columns : List Column) (present nulls : List ℕ) (i : ℕ) (t : Column) (n at : ℕ) (body : List ℕ) (total : Option ℕ) → i < length columns → t ≡ get_or columns i t
+    → set_bits present (length columns) ≡ length columns → set_bits nulls (length columns) ≡ 0
+    → Some n ≡ len_in (value_at t (drop at body)) → end_from at (cells_at (drop i columns) present nulls i i (drop at body)) ≡ total
+    → end_from (at + n) (cells_at (drop (i + 1) columns) present nulls (i + 1) (i + 1) (drop (at + n) body)) ≡ total
+whole-goes columns present nulls i t n at body total lt is all none value so_far =
+    let cell = value ∙ ap len_in (cell-whole t present nulls (length columns) i (drop at body) lt all none) in
+    subst (λ (b : Bool). end_from (at + n) (cells_at (drop (i + 1) columns) present nulls (i + 1) (cond b (i + 1) i) (drop (at + n) body)) ≡ total) (bit-all_set present (length columns) i lt all)
+    (walk-goes columns present nulls i i t n at body total lt is cell so_far)
 
 -- ---- one cell at a time
 

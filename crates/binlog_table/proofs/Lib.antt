@@ -2,6 +2,7 @@ pub mod DecimalGroups
 pub mod PlainBytes
 pub mod WholeDecimals
 pub mod Extents
+pub mod SetBits
 pub mod CellWalk
 pub mod RowImages
 pub mod ImageReadings

@@ -1,5 +1,5 @@
 //! What the bytes of a value mean.
-ghost use Rattle.std.specs.Prelude.{◌≡◌, ◌≤◌, option_map};
+ghost use Rattle.std.specs.Prelude.{◌≡◌, ◌≤◌, option_map, is_some};
 ghost use Rattle.binlog_table.specs.Extent.{HasExtent, extent_of};
 ghost use Rattle.binlog_table.specs.Value.{value_of, view};
 
@@ -38,5 +38,20 @@ pub(crate) fn value_of<'a>(column: &Column, text: &'a [u8]) -> Option<Cell<'a>>
         Layout::Decimal(size) => Some(Cell::Decimal(decimal_of(*size, text)?)),
         Layout::Enum(size) => Some(Cell::Enum(little(text, size.get()) as u16)),
         Layout::Set(width) => Some(Cell::Set(little(text, width.get()))),
+    }
+}
+
+/// Whether the whole text of a value means anything. Only times and decimals can be out of range.
+#[tactic(auto, unfolding(crate::specs::Value::value_of))]
+pub(crate) fn has_value(column: &Column, text: &[u8]) -> bool
+    requires { HasExtent (extent_of column.now.layout) text.now }
+    ensures { result ≡ is_some (value_of column.now text.now) }
+{
+    match &column.layout {
+        Layout::Timestamp(precision) => timestamp_of(*precision, text).is_some(),
+        Layout::DateTime(precision) => date_time_of(*precision, text).is_some(),
+        Layout::Time(precision) => time_of(*precision, text).is_some(),
+        Layout::Decimal(size) => decimal_of(*size, text).is_some(),
+        _ => true,
     }
 }

@@ -1,6 +1,5 @@
 use Rattle.std.proofs.Common.{◌+◌, ◌≡◌, cond, arith, drop}
 use Rattle.std.proofs.lemmas.List.{take_rest}
-use Rattle.binlog_table.specs.Value.{view}
 use Rattle.binlog_table.specs.Image.{bit, cells_at}
 use Rattle.binlog_table.proofs.CellWalk.{end_from, walk-stops, walk-goes, walk-ends}
 use Rattle.binlog_table.proofs.image.after_cells.Goals as goal
@@ -16,7 +15,7 @@ loop-place-preserved c =
     record {
       within = omega (arith, c.in_ok-len.ensures.within);
       nulls = elim c.if-is_present.branch [ then-is_present w ↦ omega arith | else-is_present w ↦ omega arith ];
-      ends = rw next (walk-goes c.args.columns.now c.args.present.now c.args.nulls.now c.loop-place.place c.loop-place.null_place c.index-columns-place.result (view c.in_ok-len.field-0-0) c.in_ok-len.len c.loop-place.at c.args.body.now (end_from c.args.start (cells_at c.args.columns.now c.args.present.now c.args.nulls.now 0 0 (drop c.args.start c.args.body.now))) c.loop-place-test.true c.index-columns-place.is (rw (c.bit-is_present.ensures, c.bit.ensures, take_rest c.args.body.now c.loop-place.at) at c.in_ok-len.ensures.value) c.loop-place.invariant.ends);
+      ends = rw next (walk-goes c.args.columns.now c.args.present.now c.args.nulls.now c.loop-place.place c.loop-place.null_place c.index-columns-place.result c.in_ok-len.len c.loop-place.at c.args.body.now (end_from c.args.start (cells_at c.args.columns.now c.args.present.now c.args.nulls.now 0 0 (drop c.args.start c.args.body.now))) c.loop-place-test.true c.index-columns-place.is (rw (c.bit-is_present.ensures, c.bit.ensures, take_rest c.args.body.now c.loop-place.at) at c.in_ok-len.ensures.value) c.loop-place.invariant.ends);
     }
 
 pub returns-clause-value : goal.returns-clause-value
