@@ -53,13 +53,17 @@ def front() -> bytes:
     return appended(appended(MAGIC, FORMAT, format_body()), PREVIOUS_GTIDS, bytes(8), IGNORABLE)
 
 
-def insert(place: int, number: int) -> bytes:
-    """A transaction that stands at a place and inserts one row: 218 bytes."""
+def transaction(place: int, number: int, *inside: tuple[int, bytes]) -> bytes:
+    """A transaction that stands at a place and has events of these kinds and bodies inside."""
     log = b""
-    bodies = ((GTID, gtid_body(number)), (QUERY, BEGIN_BODY), (TABLE_MAP, MAP_BODY), (WRITE_ROWS, ROWS_BODY), (XID, XID_BODY))
-    for kind, body in bodies:
+    for kind, body in ((GTID, gtid_body(number)), (QUERY, BEGIN_BODY), *inside, (XID, XID_BODY)):
         log += event(kind, place + len(log), body)
     return log
+
+
+def insert(place: int, number: int) -> bytes:
+    """A transaction that stands at a place and inserts one row: 218 bytes."""
+    return transaction(place, number, (TABLE_MAP, MAP_BODY), (WRITE_ROWS, ROWS_BODY))
 
 
 def worked_log(count: int = 1) -> bytes:
@@ -82,11 +86,11 @@ def unit_lines(count: int, name: str) -> bytes:
     return "".join(unit_line(153 + 218 * number, number + 1, name) for number in range(count)).encode()
 
 
-def change_line(place: int, number: int, name: str) -> str:
+def change_line(place: int, number: int, name: str, table: str = "t") -> str:
     """The line of `read` for one of these transactions."""
     return (
         '{"after":{"id":1,"v":"a"},"before":null,'
-        f'"gtid":"{SOURCE_ID}:{number}","kind":"insert","schema":"s","table":"t",'
+        f'"gtid":"{SOURCE_ID}:{number}","kind":"insert","schema":"s","table":"{table}",'
         f'"timestamp":{TIME},"token":"{place}.1@{name}"}}\n'
     )
 
@@ -94,6 +98,43 @@ def change_line(place: int, number: int, name: str) -> str:
 def change_lines(count: int, name: str) -> bytes:
     """The lines of `read` for a worked log."""
     return "".join(change_line(153 + 218 * number, number + 1, name) for number in range(count)).encode()
+
+
+def insert_into_own_table(place: int, number: int) -> bytes:
+    """A transaction that stands at a place and inserts one row into a table of its own, by its id and its name."""
+    table, name = struct.pack("<Q", number)[:6], f"t{number}".encode()
+    table_map = table + MAP_BODY[6:11] + bytes([len(name)]) + name + MAP_BODY[13:]
+    return transaction(place, number, (TABLE_MAP, table_map), (WRITE_ROWS, table + ROWS_BODY[6:]))
+
+
+def many_tables(count: int, name: str) -> tuple[bytes, bytes]:
+    """A log of so many transactions, each of which inserts one row into a table of its own, and what `read` writes for it."""
+    parts, lines = [front()], []
+    place = len(parts[0])
+    for number in range(1, count + 1):
+        parts.append(insert_into_own_table(place, number))
+        lines.append(change_line(place, number, name, f"t{number}"))
+        place += len(parts[-1])
+    return b"".join(parts), "".join(lines).encode()
+
+
+def packed(number: int) -> bytes:
+    """A number from 251 on, packed: three bytes."""
+    return b"\xfc" + struct.pack("<H", number)
+
+
+def wide_tables(count: int) -> bytes:
+    """A log of so many transactions, each with the map of a table of its own, which has 4,000 columns, and with no row."""
+    columns, bits = 4_000, bytes(500)
+    names = b"".join(b"\x04%04d" % column for column in range(columns))
+    after = packed(columns) + b"\x03" * columns + b"\x00" + bits + b"\x01" + packed(len(bits)) + bits + b"\x04" + packed(len(names)) + names
+    parts = [front()]
+    place = len(parts[0])
+    for number in range(1, count + 1):
+        table_map = struct.pack("<Q", number)[:6] + MAP_BODY[6:14] + after
+        parts.append(transaction(place, number, (TABLE_MAP, table_map)))
+        place += len(parts[-1])
+    return b"".join(parts)
 
 
 def put(folder: Path, names: list[str], content: bytes) -> list[str]:

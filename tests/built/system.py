@@ -7,7 +7,19 @@ from functools import partial
 from pathlib import Path
 
 from built.check import SECONDS, Check, Outcome, Wanted, command, differs, run, said
-from built.logs import IGNORABLE, change_lines, front, header, insert, put, unit_line, unit_lines, worked_log
+from built.logs import (
+    IGNORABLE,
+    change_lines,
+    front,
+    header,
+    insert,
+    many_tables,
+    put,
+    unit_line,
+    unit_lines,
+    wide_tables,
+    worked_log,
+)
 
 # The lines of so many transactions fill any pipe, and their log is longer than what is read at once.
 MANY = 12_000
@@ -105,13 +117,30 @@ def put_sparse(path: Path, events: int, length: int) -> int:
     return place
 
 
+def run_within(mebibytes: int, program: Path, folder: Path) -> Outcome:
+    """Runs `read` over a log with so much memory and no more."""
+    script = f'ulimit -v {mebibytes << 10}; exec "$0" read log'
+    shell = subprocess.run(["sh", "-c", script, program], cwd=folder, capture_output=True, timeout=SECONDS, check=False)
+    return Outcome(shell.returncode, shell.stdout, shell.stderr)
+
+
 def judge_little_memory(program: Path, folder: Path) -> list[str]:
     """An event of 512 MiB has no room in 128 MiB of memory."""
     put_sparse(folder / "log", 1, 512 << 20)
-    script = 'ulimit -v 131072; exec "$0" read log'
-    shell = subprocess.run(["sh", "-c", script, program], cwd=folder, capture_output=True, timeout=SECONDS, check=False)
-    came = Outcome(shell.returncode, shell.stdout, shell.stderr)
-    return differs(came, Wanted(5, b"", said("out of memory")))
+    return differs(run_within(128, program, folder), Wanted(5, b"", said("out of memory")))
+
+
+def judge_many_tables(program: Path, folder: Path) -> list[str]:
+    """The maps of 100,000 tables, one in each transaction, take no more memory than that of a few: a run over one takes 5 MiB."""
+    log, lines = many_tables(100_000, "log")
+    put(folder, ["log"], log)
+    return differs(run_within(8, program, folder), Wanted(0, lines))
+
+
+def judge_wide_tables(program: Path, folder: Path) -> list[str]:
+    """So do the maps of 64 tables with 4,000 columns each. One has a body of 25 KB."""
+    put(folder, ["log"], wide_tables(64))
+    return differs(run_within(16, program, folder), Wanted(0, b""))
 
 
 def judge_long_file(program: Path, folder: Path) -> list[str]:
@@ -151,6 +180,8 @@ def checks() -> list[Check]:
         Check("a log that is taken away", partial(judge_changed, Path.unlink)),
         Check("a log that gets shorter", judge_cut),
         Check("little memory", judge_little_memory),
+        Check("the maps of many tables", judge_many_tables),
+        Check("the maps of wide tables", judge_wide_tables),
         Check("an event longer than the window", judge_window),
         Check("a long log", judge_whole),
     ]
