@@ -1,6 +1,7 @@
 pub mod DigitLists
 pub mod ValueNames
 pub mod Utf8
+pub mod PlainText
 pub mod Folding
 pub mod Putting
 pub mod NameOrders

@@ -6,3 +6,4 @@ pub mod Joining
 pub mod Listed
 pub mod Written
 pub mod Pieces
+pub mod PlainText

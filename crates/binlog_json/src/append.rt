@@ -1,9 +1,10 @@
 //! Numbers and strings of JSON, at the end of a text.
-ghost use Rattle.std.specs.Prelude.{◌≡◌, ◌++◌, ◌∷◌, [], OnOk, decimal};
+ghost use Rattle.std.specs.Prelude.{◌≡◌, ◌++◌, OnOk, decimal};
 ghost use Rattle.std.specs.Fmt.{signed_decimal};
-ghost use Rattle.std.specs.Bool.{OnTrue};
-ghost use Rattle.json.specs.Print.{escape, escape_byte, quoted};
+ghost use Rattle.json.specs.Print.{quoted};
+ghost use Rattle.binlog_json.specs.PlainText.{IsPlain};
 
+use crate::plain::is_plain;
 use json::Writer;
 use std::alloc::{AllocError, Global};
 use std::mem;
@@ -24,28 +25,15 @@ pub(crate) fn append_integer(out: &mut Vec<u8>, number: i64) -> Result<(), Alloc
     out.extend_from_slice(buffer.format(number).as_bytes())
 }
 
-/// Whether a text stands in a string as it is.
-fn is_plain(text: &[u8]) -> bool
-    ensures { OnTrue result (escape text.now ≡ text.now) }
+/// A text that needs no escape, in quotes.
+pub(crate) fn append_plain(out: &mut Vec<u8>, text: &[u8]) -> Result<(), AllocError>
+    requires { IsPlain text.now }
+    ensures { OnOk result (out.new.items ≡ out.old.items ++ quoted text.now) }
 {
-    for byte in text {
-        if !is_plain_byte(*byte) {
-            return false;
-        }
-    }
-    true
-}
-
-fn is_plain_byte(byte: u8) -> bool
-    ensures { OnTrue result (escape_byte byte ≡ byte ∷ []) }
-{
-    if byte == b'"' {
-        return false;
-    }
-    if byte == b'\\' {
-        return false;
-    }
-    byte >= 32
+    out.push(b'"')?;
+    out.extend_from_slice(text)?;
+    out.push(b'"')?;
+    Ok(())
 }
 
 /// Writes strings of JSON. It keeps its room for the next one.
@@ -70,13 +58,11 @@ impl Quoter {
         if !is_plain(text.as_bytes()) {
             return self.append_escaped(out, text);
         }
-        out.push(b'"')?;
-        out.extend_from_slice(text.as_bytes())?;
-        out.push(b'"')?;
-        Ok(())
+        append_plain(out, text.as_bytes())
     }
 
-    fn append_escaped(&mut self, out: &mut Vec<u8>, text: &str) -> Result<(), AllocError>
+    /// The text as a string, in quotes, each byte judged for itself.
+    pub(crate) fn append_escaped(&mut self, out: &mut Vec<u8>, text: &str) -> Result<(), AllocError>
         ensures { OnOk result (out.new.items ≡ out.old.items ++ quoted text.now) }
     {
         self.room.clear();

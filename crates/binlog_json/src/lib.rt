@@ -6,6 +6,7 @@ mod cells;
 mod digits;
 mod names;
 mod pieces;
+mod plain;
 mod room;
 mod texts;
 mod tree;

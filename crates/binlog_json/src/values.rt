@@ -7,8 +7,9 @@ ghost use Rattle.binlog_table.specs.Value.{view as cell_view};
 ghost use Rattle.binlog_table.specs.MapWords.{value_names_in};
 ghost use Rattle.binlog_json.specs.Values.{content_data, bytes_data, encoded_data, enum_data, set_data, shown_text};
 
-use crate::append::{Quoter, append_integer, append_number};
+use crate::append::{Quoter, append_integer, append_number, append_plain};
 use crate::names::{append_names, enum_name, is_named};
+use crate::plain::is_plain;
 use crate::room::Room;
 use crate::texts::push_cell;
 use base64::engine::general_purpose::STANDARD;
@@ -100,8 +101,11 @@ fn append_text(
 ) -> Result<(), AllocError>
     ensures { OnOk result (out.new.items ≡ out.old.items ++ compact_text (bytes_data bytes.now)) }
 {
+    if is_plain(bytes) {
+        return append_plain(out, bytes);
+    }
     match str::from_utf8(bytes) {
-        Ok(text) => quoter.append(out, text),
+        Ok(text) => quoter.append_escaped(out, text),
         Err(_) => append_encoded(out, quoter, room, "base64", bytes),
     }
 }
