@@ -4,6 +4,7 @@
 mod append;
 mod cells;
 mod digits;
+mod gtid;
 mod names;
 mod pieces;
 mod plain;

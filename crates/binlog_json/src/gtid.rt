@@ -1,0 +1,87 @@
+//! The text of a GTID, kept from line to line: the changes of a transaction have one.
+ghost use Rattle.std.specs.Prelude.{◌≡◌, ◌++◌, is_some, true, Some, OnOk};
+ghost use Rattle.serde_json.specs.Written.{compact_text};
+ghost use Rattle.binlog_json.specs.Line.{gtid_data};
+
+use crate::digits::push_number;
+use crate::room::Room;
+use std::alloc::{AllocError, Global};
+use uuid::Uuid;
+
+/// The GTID that was written last, and its text. It keeps its room for the next one.
+#[derive(Drop)]
+pub(crate) struct GtidText {
+    gtid: Option<(Uuid, u64)>,
+    text: Vec<u8>,
+    ghost spelled: { is_some gtid ≡ true → text.items ≡ compact_text (gtid_data gtid) },
+}
+
+impl GtidText {
+    ghost use Rattle.std.specs.Prelude.{◌≡◌, ◌++◌, Some, OnOk, true};
+    ghost use Rattle.serde_json.specs.Written.{compact_text};
+    ghost use Rattle.binlog_json.specs.Line.{gtid_data};
+
+    pub(crate) fn new(alloc: Global) -> GtidText {
+        GtidText {
+            gtid: None,
+            text: Vec::new(alloc),
+        }
+    }
+
+    /// Appends a GTID.
+    pub(crate) fn append(
+        &mut self,
+        out: &mut Vec<u8>,
+        room: &mut Room,
+        source: Uuid,
+        number: u64,
+    ) -> Result<(), AllocError>
+        ensures { OnOk result (out.new.items
+            ≡ out.old.items ++ compact_text (gtid_data (Some (source, number)))) }
+    {
+        if !self.is_of(source, number) {
+            self.spell(room, source, number)?;
+        }
+        out.extend_from_slice(&self.text)
+    }
+
+    /// Whether the text is known to be that of a GTID.
+    fn is_of(&self, source: Uuid, number: u64) -> bool
+        ensures { result ≡ true → self.now.gtid ≡ Some (source, number) }
+    {
+        match &self.gtid {
+            None => false,
+            Some((last, last_number)) => *last == source && *last_number == number,
+        }
+    }
+
+    /// Takes the text of a GTID in place of the one that it held.
+    fn spell(&mut self, room: &mut Room, source: Uuid, number: u64) -> Result<(), AllocError>
+        ensures { OnOk result (self.new.text.items
+            ≡ compact_text (gtid_data (Some (source, number)))) }
+    {
+        self.gtid = None;
+        self.text.clear();
+        append_gtid(&mut self.text, room, source, number)?;
+        self.gtid = Some((source, number));
+        Ok(())
+    }
+}
+
+fn append_gtid(
+    out: &mut Vec<u8>,
+    room: &mut Room,
+    source: Uuid,
+    number: u64,
+) -> Result<(), AllocError>
+    ensures { OnOk result (out.new.items
+        ≡ out.old.items ++ compact_text (gtid_data (Some (source, number)))) }
+{
+    let mut buffer = Uuid::encode_buffer();
+    let source = source.hyphenated().encode_lower(&mut buffer);
+    room.text.clear();
+    room.text.push_str(source)?;
+    room.text.push(':')?;
+    push_number(&mut room.text, number)?;
+    room.quoter.append(out, room.text.as_str())
+}
