@@ -37,7 +37,7 @@ set_float : (names : Option (List (List ℕ))) (n : ℕ) → has_float (set_data
 set_float None n = refl
 set_float (Some names) n = either_float (nat_lt n (2 ^ length names)) _ _ (bytes_float (join_with_byte 44 (members_in names n))) refl
 
-content_float : (names : Option (List (List ℕ))) (c : Content) → has_float (content_data names c) ≡ false
+pub content_float : (names : Option (List (List ℕ))) (c : Content) → has_float (content_data names c) ≡ false
 content_float names cell.absent = refl
 content_float names cell.null = refl
 content_float names (cell.int (pos n)) = refl
@@ -68,7 +68,7 @@ right_false : (a b : Bool) → (a || b) ≡ false → b ≡ false
 right_false true b h = absurd cc
 right_false false b h = h
 
-neither : (a b : Bool) → a ≡ false → b ≡ false → (a || b) ≡ false
+pub neither : (a b : Bool) → a ≡ false → b ≡ false → (a || b) ≡ false
 neither a b p q = rw (p, q) refl
 
 put_float : (k : List ℕ) (d : Data) (ms : Members) → has_float d ≡ false → members_have_float ms ≡ false → members_have_float (put k d ms) ≡ false

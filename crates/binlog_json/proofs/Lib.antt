@@ -9,3 +9,4 @@ pub mod Floats
 pub mod Quoting
 pub mod PieceTexts
 pub mod LineParts
+pub mod KeyFloats

@@ -7,3 +7,4 @@ pub mod Listed
 pub mod Written
 pub mod Pieces
 pub mod PlainText
+pub mod Keys

@@ -5,6 +5,7 @@ mod append;
 mod cells;
 mod digits;
 mod gtid;
+mod key;
 mod names;
 mod pieces;
 mod plain;
@@ -14,5 +15,6 @@ mod tree;
 mod values;
 mod writer;
 
+pub use key::{has_key, key_text};
 pub use tree::line;
 pub use writer::LineWriter;
