@@ -10,3 +10,4 @@ pub mod Quoting
 pub mod PieceTexts
 pub mod LineParts
 pub mod KeyFloats
+pub mod Visiting

@@ -8,3 +8,4 @@ pub mod Written
 pub mod Pieces
 pub mod PlainText
 pub mod Keys
+pub mod Histories

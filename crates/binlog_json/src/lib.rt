@@ -13,8 +13,10 @@ mod room;
 mod texts;
 mod tree;
 mod values;
+mod visit;
 mod writer;
 
 pub use key::{has_key, key_text};
 pub use tree::line;
+pub use visit::{HistoryFault, history};
 pub use writer::LineWriter;
