@@ -9,3 +9,4 @@ pub mod Answering
 pub mod Listing
 pub mod Beginning
 pub mod GoingOn
+pub mod Choosing

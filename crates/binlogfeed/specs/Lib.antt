@@ -7,4 +7,5 @@ pub mod Sending
 pub mod Runs
 pub mod GoingOn
 pub mod Coming
+pub mod Wanted
 pub mod Statuses

@@ -5,6 +5,8 @@ mod change_line;
 mod commands;
 mod ending;
 pub mod fault;
+mod feed_lines;
+pub mod history;
 mod names;
 mod opening;
 mod options;

@@ -1,0 +1,49 @@
+//! A line for each row change of a list of files that has a key.
+ghost use Rattle.std.specs.Prelude.{◌≡◌, IsTrue, IfErr};
+ghost use Rattle.binlog_frame.specs.Logs.{KeepsSource};
+ghost use Rattle.binlog_feed.specs.Tokens.Judgement.{Fits};
+ghost use Rattle.binlogfeed.specs.Faults.{IsNamed};
+ghost use Rattle.binlogfeed.specs.Runs.{Answers, ReadsFailed, history_output};
+
+use crate::fault::RunFault;
+use crate::feed_lines::{Wanted, write_feed};
+use binlog_feed::Start;
+use binlog_frame::Logs;
+use binlog_select::Filter;
+use std::alloc::Global;
+use std::io::Write;
+
+/// Writes a line for each row change of this table that has this key, of the committed transactions that are whole before the first
+/// fault of the files: the line that [`run`](crate::run::run) writes for it. Then it flushes, and answers the number of lines, which
+/// stays at 2^64 - 1, or the fault. Where the window is too small for an event, it is replaced by a larger one.
+///
+/// The key is a compact JSON array, of the values of the primary key's columns in key order. A write or a flush that fails ends the
+/// run, and is answered in place of a fault of the files. The logs come back in every case.
+pub fn run_history<L: Logs, W: Write>(
+    alloc: Global,
+    logs: L,
+    schema: &str,
+    table: &str,
+    key: &str,
+    window: Vec<u8>,
+    out: &mut W,
+) -> (L, Result<u64, RunFault>)
+    ensures answers { IsTrue (L.honest result.0) → Answers (L.names logs) Fits
+        (history_output (L.names logs) (L.contents logs) schema.now table.now key.now) (W.contents out.old) (W.contents out.new) result.1 }
+
+    // Over any source.
+    ensures source { KeepsSource L.names L.contents L.lengths L.honest L.failures logs result.0 }
+    ensures named { IfErr result.1 (IsNamed (L.names result.0)) }
+    ensures failed { IfErr result.1 (ReadsFailed (L.failures logs) (L.failures result.0)) }
+{
+    let wanted = Wanted::OfKey { schema, table, key };
+    write_feed(
+        alloc,
+        logs,
+        Filter::new(),
+        Start::Beginning,
+        &wanted,
+        window,
+        out,
+    )
+}
