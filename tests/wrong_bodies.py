@@ -13,8 +13,9 @@ An edit is a file with a line 'file: src/NAME.rt' and pairs of lines 'old: TEXT'
 that file exactly once, inside one function.
 
 The crate itself must be proved. Where its library shows that, as behind `rt ci`, and no earlier check has left work in
-out/, the first check has an edit of each function, and the further rounds stand on what it kept. Every function that no
-edit touches must then be proved, or be unproved only with what it calls. Else the crate is checked first as it is.
+out/, the first check has an edit of each function. The further rounds come one after the other, each on what those before
+it proved. Every function that no edit touches must be proved in the first check, or be unproved only with what it calls.
+Else the crate is checked first as it is.
 
 The copies lie in .git/wrong-bodies, with what the first checks kept. Checks run side by side, one a processor or as
 many as RT_JOBS says. --only tries the edits whose name has TEXT. The last line is 'N passed, M failed'.
@@ -80,10 +81,14 @@ class Round:
     """A check: of the crate as it is where it has no edits, and else of these, planted together."""
 
     edits: tuple = ()
-    # It stands on no proof of the crate, and is the base of the rounds that follow.
+    # It stands on no proof of the crate.
     is_first: bool = False
     # The functions that are checked with what they call; all where none is named.
     only: tuple = ()
+
+    def is_base(self):
+        """Returns whether the next rounds stand on what this one proves."""
+        return self.is_first or not self.edits or bool(self.only)
 
 
 @dataclass
@@ -93,8 +98,10 @@ class Crate:
     edits: list = field(default_factory=list)
     # Why edits fail, by their name.
     failed: dict = field(default_factory=dict)
-    # The names by which a check tells of the edits' functions, where the rounds stand on a first check.
+    # Where the rounds stand on a first check: the names by which a check tells of the edits' functions, and the edits of
+    # the rounds that come one after the other.
     keys: dict = field(default_factory=dict)
+    waiting: list = field(default_factory=list)
     refused: int = 0
     only_as_names_went: int = 0
     rounds: int = 0
@@ -338,12 +345,12 @@ def check(room, crate, only):
 def check_round(base, crate, crates, given):
     """Checks the crate with a round's edits planted, and returns what was said and the seconds that it took.
 
-    What a check of the clean crate or a first check kept is left for the rounds that follow.
+    What it proved is left for the rounds that stand on it.
     """
     start, room = time.time(), Path(tempfile.mkdtemp(prefix=f"{crate.name}-", dir=base))
     kept, own = base / f"kept-{crate.name}", ROOT / "crates" / crate.name / "out/incremental"
-    is_base = given.is_first or not given.edits
-    make_room(room, crate, crates, own if is_base and own.is_dir() else kept)
+    is_opening = given.is_first or not given.edits
+    make_room(room, crate, crates, own if is_opening and own.is_dir() else kept)
     for path in {it.path for it in given.edits}:
         file = room / "crates" / crate.name / path
         text = planted(file.read_text(), [it for it in given.edits if it.path == path])
@@ -351,7 +358,7 @@ def check_round(base, crate, crates, given):
         file.write_text(text)
     said = check(room, crate, given.only)
     made = room / "crates" / crate.name / "out/incremental"
-    if is_base and CAME_TO_A_VERDICT.search(said) and made.is_dir():
+    if given.is_base() and CAME_TO_A_VERDICT.search(said) and made.is_dir():
         shutil.rmtree(kept, ignore_errors=True)
         os.rename(made, kept)
     shutil.rmtree(room)
@@ -509,8 +516,8 @@ def after_clean(crate, _, said, seconds):
 
 def after_round(crate, given, said, seconds):
     """Returns the rounds that follow on a round: of a first check that can't stand, all begin anew with the clean crate."""
-    why = spoils(given, said)
-    if given.is_first and why:
+    why = spoils(given, said) if given.is_first else None
+    if why:
         print(f"{crate.name}: {len(given.edits)} edits in a first check, {seconds:.0f} s: {why}, so the crate is checked as it is", flush=True)
         return [Round()]
     before, failed = crate.refused, len(crate.failed)
@@ -523,7 +530,11 @@ def after_round(crate, given, said, seconds):
         told = dict(SAID.findall(said))
         crate.keys = {it: keys_of(it, told) for it in crate.edits}
         again += layers(crate.edits)[1:]
-    return [Round(tuple(it), only=tuple(key for edit in it for key in crate.keys.get(edit, ()))) for it in again]
+    if not crate.keys:
+        return [Round(tuple(it)) for it in again]
+    crate.waiting += again
+    edits = crate.waiting.pop(0) if crate.waiting else []
+    return [Round(tuple(edits), only=tuple(key for it in edits for key in crate.keys[it]))] if edits else []
 
 
 def spoils(given, said):
