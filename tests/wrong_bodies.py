@@ -31,6 +31,7 @@ import subprocess
 import sys
 import tempfile
 import time
+from collections import deque
 from concurrent.futures import FIRST_COMPLETED, ThreadPoolExecutor, wait
 from dataclasses import dataclass, field
 from pathlib import Path
@@ -106,8 +107,6 @@ class Crate:
     only_as_names_went: int = 0
     rounds: int = 0
     seconds: float = 0
-    # Checks that are still to come.
-    open: int = 0
 
 
 class BadEdit(Exception):
@@ -470,27 +469,22 @@ def halves(edits):
 
 
 def try_all(base, chosen, crates, jobs):
-    """Checks rounds of edits until each has its verdict, side by side."""
+    """Checks rounds of edits until each has its verdict, side by side; rounds that follow on another go before those of other crates."""
     by_size = sorted(chosen, key=lambda it: -sum(file.stat().st_size for file in sources(it)))
+    queue, running = deque((it, opening_of(it, crates)) for it in by_size), {}
     with ThreadPoolExecutor(jobs) as pool:
-        running = {}
-
-        def start(crate, rounds):
-            crate.open += len(rounds)
-            crate.rounds += len(rounds)
-            for it in rounds:
-                running[pool.submit(check_round, base, crate, crates, it)] = crate, it
-
-        for crate in by_size:
-            start(crate, [opening_of(crate, crates)])
-        while running:
+        while queue or running:
+            while queue and len(running) < jobs:
+                crate, given = queue.popleft()
+                running[pool.submit(check_round, base, crate, crates, given)] = crate, given
             for done in wait(running, return_when=FIRST_COMPLETED).done:
                 crate, given = running.pop(done)
                 said, seconds = done.result()
+                crate.rounds += 1
                 crate.seconds += seconds
-                crate.open -= 1
-                start(crate, (after_round if given.edits else after_clean)(crate, given, said, seconds))
-                if not crate.open:
+                rounds = (after_round if given.edits else after_clean)(crate, given, said, seconds)
+                queue.extendleft((crate, it) for it in reversed(rounds))
+                if not any(it is crate for it, _ in [*queue, *running.values()]):
                     tell(crate)
 
 
