@@ -13,9 +13,9 @@ An edit is a file with a line 'file: src/NAME.rt' and pairs of lines 'old: TEXT'
 that file exactly once, inside one function.
 
 The crate itself must be proved. Where its library shows that, as behind `rt ci`, and no earlier check has left work in
-out/, the first check has an edit of each function. The further rounds come one after the other, each on what those before
-it proved. Every function that no edit touches must be proved in the first check, or be unproved only with what it calls.
-Else the crate is checked first as it is.
+out/, the first check has an edit of each function. Second edits take the places of those that were there, and what was
+found of all others stands. Every function that no edit touches must be proved in the first check, or be unproved only
+with what it calls. Else the crate is checked first as it is.
 
 The copies lie in .git/wrong-bodies, with what the first checks kept. Checks run side by side, one a processor or as
 many as RT_JOBS says. --only tries the edits whose name has TEXT. The last line is 'N passed, M failed'.
@@ -86,6 +86,8 @@ class Round:
     is_first: bool = False
     # The functions that are checked with what they call; all where none is named.
     only: tuple = ()
+    # Edits of other functions that are planted too, as they were in the first check, and have their verdicts.
+    beside: tuple = ()
 
     def is_base(self):
         """Returns whether the next rounds stand on what this one proves."""
@@ -99,8 +101,8 @@ class Crate:
     edits: list = field(default_factory=list)
     # Why edits fail, by their name.
     failed: dict = field(default_factory=dict)
-    # Where the rounds stand on a first check: the names by which a check tells of the edits' functions, and the edits of
-    # the rounds that come one after the other.
+    # Where the rounds stand on a first check: the names by which a check tells of the edits' functions, and the rounds that
+    # come one after the other.
     keys: dict = field(default_factory=dict)
     waiting: list = field(default_factory=list)
     refused: int = 0
@@ -350,9 +352,10 @@ def check_round(base, crate, crates, given):
     kept, own = base / f"kept-{crate.name}", ROOT / "crates" / crate.name / "out/incremental"
     is_opening = given.is_first or not given.edits
     make_room(room, crate, crates, own if is_opening and own.is_dir() else kept)
-    for path in {it.path for it in given.edits}:
+    edits = given.edits + given.beside
+    for path in {it.path for it in edits}:
         file = room / "crates" / crate.name / path
-        text = planted(file.read_text(), [it for it in given.edits if it.path == path])
+        text = planted(file.read_text(), [it for it in edits if it.path == path])
         file.unlink()
         file.write_text(text)
     said = check(room, crate, given.only)
@@ -427,23 +430,24 @@ def first_error(out):
     return next((it for it in lines if it.startswith("error") or ": error" in it), lines[-1] if lines else "nothing was said")[:200]
 
 
-def settle(crate, edits, out):
+def settle(crate, given, out):
     """Takes down the verdicts of a round, and returns the lists of edits to try again."""
-    is_alone = len(edits) == 1
+    edits = given.edits
+    is_alone = len(edits) == 1 and not given.beside
     if not CAME_TO_A_VERDICT.search(out):
         if is_alone:
             crate.failed[edits[0].name] = f"BAD EDIT: no contract was tried, since it doesn't compile: {first_error(out)}"
         return [] if is_alone else halves(edits)
-    verdicts, strangers = judge(edits, out)
+    verdicts, strangers = judge(edits + given.beside, out)
     again = []
-    for edit, verdict in verdicts.items():
-        if verdict == UNKNOWN:
+    for edit in edits:
+        if verdicts[edit] == UNKNOWN:
             crate.failed[edit.name] = f"BAD EDIT: the check tells of no function {edit.function.name} of {edit.path}"
-        elif not is_alone and (strangers or verdict != REFUSED):
+        elif not is_alone and (strangers or verdicts[edit] != REFUSED):
             again.append(edit)
         else:
-            take_down(crate, edit, verdict)
-    if not again or len(again) < len(edits):
+            take_down(crate, edit, verdicts[edit])
+    if len(again) < len(edits) or given.beside:
         return [again] if again else []
     return halves(again)
 
@@ -462,7 +466,7 @@ def take_down(crate, edit, verdict):
 
 
 def halves(edits):
-    return [edits[: len(edits) // 2], edits[len(edits) // 2 :]]
+    return [it for it in (edits[: len(edits) // 2], edits[len(edits) // 2 :]) if it]
 
 
 # The run
@@ -515,7 +519,7 @@ def after_round(crate, given, said, seconds):
         print(f"{crate.name}: {len(given.edits)} edits in a first check, {seconds:.0f} s: {why}, so the crate is checked as it is", flush=True)
         return [Round()]
     before, failed = crate.refused, len(crate.failed)
-    again = settle(crate, given.edits, said)
+    again = settle(crate, given, said)
     for name in list(crate.failed)[failed:]:
         print(f"{crate.name}/{FOLDER}/{name}: {crate.failed[name]}")
     came_out = f"{crate.refused - before} refused, {len(crate.failed) - failed} not, {sum(map(len, again))} to try again"
@@ -523,12 +527,18 @@ def after_round(crate, given, said, seconds):
     if given.is_first:
         told = dict(SAID.findall(said))
         crate.keys = {it: keys_of(it, told) for it in crate.edits}
-        again += layers(crate.edits)[1:]
+        crate.waiting += [narrowed(crate, it, given.edits) for it in layers(crate.edits)[1:]]
     if not crate.keys:
         return [Round(tuple(it)) for it in again]
-    crate.waiting += again
-    edits = crate.waiting.pop(0) if crate.waiting else []
-    return [Round(tuple(edits), only=tuple(key for it in edits for key in crate.keys[it]))] if edits else []
+    crate.waiting += [narrowed(crate, it) for it in again]
+    return [crate.waiting.pop(0)] if crate.waiting else []
+
+
+def narrowed(crate, edits, first=()):
+    """Returns a round that checks no more than the edits' functions, beside the first check's edits of others."""
+    functions = {(it.path, it.function) for it in edits}
+    beside = tuple(it for it in first if (it.path, it.function) not in functions)
+    return Round(tuple(edits), only=tuple(key for it in edits for key in crate.keys[it]), beside=beside)
 
 
 def spoils(given, said):
