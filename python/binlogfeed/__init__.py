@@ -1,0 +1,47 @@
+"""Row changes of committed transactions, from MySQL binary log files on disk.
+
+The program `binlogfeed` reads the logs. This package starts it, and gives its lines as events::
+
+    from binlogfeed import BinLogStreamReader, WriteRowsEvent
+
+    with BinLogStreamReader(["binlog.000001"], only_events=[WriteRowsEvent]) as reader:
+        for event in reader:
+            print(event.table, event.rows[0]["values"])
+"""
+from binlogfeed.events import DeleteRowsEvent, RowsEvent, Transaction, UpdateRowsEvent, WriteRowsEvent
+from binlogfeed.faults import (
+    BinlogfeedError,
+    ConversionFailed,
+    FileFault,
+    LogFault,
+    LogsGone,
+    OutOfMemory,
+    ProgramFailed,
+    ProgramMissing,
+    TokenRefused,
+    WordsRefused,
+)
+from binlogfeed.logs import listed
+from binlogfeed.place import Place
+from binlogfeed.reader import BinLogStreamReader
+
+__all__ = [
+    "BinLogStreamReader",
+    "BinlogfeedError",
+    "ConversionFailed",
+    "DeleteRowsEvent",
+    "FileFault",
+    "LogFault",
+    "LogsGone",
+    "OutOfMemory",
+    "Place",
+    "ProgramFailed",
+    "ProgramMissing",
+    "RowsEvent",
+    "TokenRefused",
+    "Transaction",
+    "UpdateRowsEvent",
+    "WordsRefused",
+    "WriteRowsEvent",
+    "listed",
+]

@@ -1,0 +1,96 @@
+"""What ends a reading early: an exception for each exit status of the program, and those of this package."""
+from __future__ import annotations
+
+import re
+
+# What the program says of a log that it can't take in. A file's name may have any character but a slash.
+LOG_FAULT = re.compile(r"^binlogfeed: log fault at (.*):(\d+): (\w+(?:\(\d+\))?)\Z", re.DOTALL | re.MULTILINE)
+TOKEN_REFUSED = re.compile(r"^binlogfeed: token refused: (\w+)\Z", re.MULTILINE)
+
+
+class BinlogfeedError(Exception):
+    """A reading ended early. `line` says why, and `status` is the exit status that stands for it."""
+
+    status = 70
+
+    def __init__(self, line: str, status: int | None = None) -> None:
+        """An error with its line."""
+        super().__init__(line)
+        self.line = line
+        if status is not None:
+            self.status = status
+
+
+class LogFault(BinlogfeedError):
+    """Something in a file can't be taken in: `what`, at `position` of `file`. All changes before it were given."""
+
+    status = 1
+
+    def __init__(self, line: str, file: str, position: int, what: str) -> None:
+        """A fault with its place."""
+        super().__init__(line)
+        self.file = file
+        self.position = position
+        self.what = what
+
+
+class WordsRefused(BinlogfeedError):
+    """The program refused an option's value, or two of the files have one name."""
+
+    status = 2
+
+
+class TokenRefused(BinlogfeedError):
+    """The token is none, or fits no place of the files. `name` is BadToken, TokenNoFile, TokenNoTransaction or TokenNoChange."""
+
+    status = 3
+
+    def __init__(self, line: str, name: str) -> None:
+        """A refusal with its name."""
+        super().__init__(line)
+        self.name = name
+
+
+class FileFault(BinlogfeedError):
+    """A file can't be opened, read or written."""
+
+    status = 4
+
+
+class OutOfMemory(BinlogfeedError):
+    """The program found no memory."""
+
+    status = 5
+
+
+class LogsGone(BinlogfeedError):
+    """Files that were still to be read aren't there any more, or others stand under their names."""
+
+    status = 6
+
+
+class ProgramMissing(BinlogfeedError):
+    """The program can't be started."""
+
+
+class ProgramFailed(BinlogfeedError):
+    """The program ended in a way of its own: by a signal (a status below 0), say, or its wrapper couldn't build it."""
+
+
+class ConversionFailed(BinlogfeedError):
+    """A converter refused a value. Its own exception is the cause."""
+
+
+def told(said: str, status: int) -> BinlogfeedError:
+    """The error that an exit status stands for, with what the program said on standard error, and its wrapper before it."""
+    fault = LOG_FAULT.search(said)
+    if status == 1 and fault:
+        return LogFault(fault[0], fault[1], int(fault[2]), fault[3])
+    refusal = TOKEN_REFUSED.search(said)
+    if status == 3 and refusal:
+        return TokenRefused(refusal[0], refusal[1])
+    line = said.rpartition("\n")[2]
+    for kind in (WordsRefused, FileFault, OutOfMemory):
+        if kind.status == status:
+            return kind(line)
+    return ProgramFailed(line or f"binlogfeed: the program ended with status {status}", status)

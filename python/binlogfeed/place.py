@@ -1,0 +1,78 @@
+"""A place in a server's logs that a reader has come to: what is kept between runs."""
+from __future__ import annotations
+
+import json
+from collections.abc import Sequence
+from dataclasses import asdict, dataclass, replace
+from pathlib import Path
+from typing import Optional
+
+from binlogfeed.events import token_parts
+from binlogfeed.faults import BinlogfeedError, LogsGone
+from binlogfeed.logs import beginning, check_without_gap
+
+
+@dataclass(frozen=True)
+class Place:
+    """All changes of the logs before `file` were taken, and those of `file` up to `token`.
+
+    The token alone wouldn't do: where it is of an earlier file, that may be purged, though nothing is lost. A new place is
+    before all changes.
+    """
+
+    file: Optional[str] = None
+    # The digest of the file's first event, where that was whole.
+    begins: Optional[str] = None
+    # The token of the last change that was taken, be it of this file or of an earlier one.
+    token: Optional[str] = None
+
+    @property
+    def resume(self) -> str | None:
+        """The token to go on behind, over the files that `rest` gives; None where they are read from their beginning."""
+        return self.token if self.token and token_parts(self.token).file == self.file else None
+
+    def rest(self, logs: Sequence[Path]) -> list[Path]:
+        """The logs that are still to be read, of those that are there. Raises `LogsGone` where some of them aren't there."""
+        rest = list(logs)
+        if self.file is not None:
+            while rest and rest[0].name != self.file:
+                del rest[0]
+            if not rest:
+                left = f"the first that is left is {logs[0].name}" if logs else "none is left"
+                raise LogsGone(f"binlogfeed: {self.file} is gone, and wasn't read to its end: {left}")
+            begins = beginning(rest[0])
+            if self.begins and begins != self.begins:
+                raise LogsGone(f"binlogfeed: {self.file} is gone: another log has its name")
+        check_without_gap(rest)
+        return rest
+
+    def behind(self, token: str, logs: Sequence[Path]) -> Place:
+        """The place behind a change of these logs. All changes before it were taken."""
+        file = token_parts(token).file
+        if file == self.file:
+            return replace(self, token=token)
+        (path,) = (path for path in logs if path.name == file)
+        return Place(file, beginning(path), token)
+
+    def at_end(self, logs: Sequence[Path]) -> Place:
+        """The place behind all changes of these logs. The last of them may grow."""
+        if not logs:
+            return self
+        return Place(logs[-1].name, beginning(logs[-1]), self.token)
+
+    def to_text(self) -> str:
+        """The place as a line of JSON."""
+        return json.dumps(asdict(self))
+
+    @classmethod
+    def from_text(cls, text: str) -> Place:
+        """The place that `to_text` wrote. One by hand, `{"token": ".."}`, will do."""
+        try:
+            parts = json.loads(text)
+            token, file = parts.get("token"), parts.get("file")
+            place = cls(file or (token and token_parts(token).file), parts.get("begins"), token)
+        except (ValueError, AttributeError, TypeError) as error:
+            raise BinlogfeedError(f"binlogfeed: this is no kept place: {text[:200]!r}", 3) from error
+        if place.file is None:
+            raise BinlogfeedError(f"binlogfeed: this is no kept place: {text[:200]!r}", 3)
+        return place

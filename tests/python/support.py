@@ -1,0 +1,32 @@
+"""What the Python tests share: the program, logs, and programs that stand in for it."""
+import os
+import shutil
+import tempfile
+import unittest
+from pathlib import Path
+
+TOP = Path(__file__).resolve().parents[2]
+PROGRAM = os.environ.get("BINLOGFEED_PROGRAM") or str(TOP / "crates/program/out/program")
+SHOP = sorted((TOP / "examples/shop").glob("binlog.*"))
+BANK = sorted((TOP / "tests/bank").glob("binlog.*"))
+
+
+class FolderTest(unittest.TestCase):
+    """A test with a folder of its own."""
+
+    def setUp(self) -> None:
+        """Makes the folder."""
+        self.folder = Path(tempfile.mkdtemp(prefix="binlogfeed-"))
+        self.addCleanup(shutil.rmtree, self.folder, ignore_errors=True)
+
+    def put(self, name: str, content: bytes) -> Path:
+        """Writes a file of the folder."""
+        path = self.folder / name
+        path.write_bytes(content)
+        return path
+
+    def stub(self, script: str) -> str:
+        """A program of some lines of shell, in place of the real one."""
+        path = self.put("stub", f"#!/bin/sh\n{script}\n".encode())
+        path.chmod(0o700)
+        return str(path)

@@ -1,0 +1,191 @@
+"""The converters. What is wanted is worked out by hand from MySQL's description of each type."""
+import datetime
+import struct
+import unittest
+from decimal import Decimal
+
+from binlogfeed import floats, json_binary, texts, times
+
+UTC = datetime.timezone.utc
+
+
+class Plain(unittest.TestCase):
+    """FLOAT, DOUBLE, bytes, dates and times."""
+
+    def test_floats(self):
+        self.assertEqual(floats.from_raw(bytes.fromhex("0000c03f")), 1.5)
+        self.assertEqual(floats.from_raw(bytes.fromhex("000000000000f83f")), 1.5)
+        self.assertEqual(floats.from_raw(bytes.fromhex("cdcccc3d")), 13421773 / 2**27)
+        with self.assertRaises(KeyError):
+            floats.from_raw(b"123")
+
+    def test_shortest(self):
+        # Among them the greatest FLOAT, the least above 0, and the least above 1.
+        for value in (0.1, 0.35, 1.2, -1.2, 0.0, 16777216.0, 3.4028235e38, 1e-45, 1.0000001):
+            self.assertEqual(floats.shortest(struct.pack("<f", value)), value)
+        self.assertEqual(floats.shortest(struct.pack("<d", 0.1)), 0.1)
+
+    def test_every_float_of_some(self):
+        for code in range(0, 0x7F800000, 7_654_321):
+            raw = struct.pack("<I", code)
+            short = floats.shortest(raw)
+            self.assertEqual(struct.pack("<f", short), raw)
+            self.assertEqual(short, float(f"{short:.9g}"))
+
+    def test_bytes(self):
+        self.assertEqual(texts.to_bytes("é"), b"\xc3\xa9")
+        self.assertEqual(texts.to_bytes(b"\xff"), b"\xff")
+
+    def test_dates(self):
+        self.assertEqual(times.to_date("2024-05-06"), datetime.date(2024, 5, 6))
+        for none in ("0000-00-00", "2024-02-00", "2024-00-10", "2023-02-29"):
+            self.assertEqual(times.to_date(none), none)
+
+    def test_datetimes(self):
+        self.assertEqual(times.to_datetime("2024-05-06 07:08:09"), datetime.datetime(2024, 5, 6, 7, 8, 9))
+        self.assertEqual(times.to_datetime("2024-05-06 07:08:09.125"), datetime.datetime(2024, 5, 6, 7, 8, 9, 125000))
+        self.assertEqual(times.to_datetime("9999-12-31 23:59:59.999999"), datetime.datetime(9999, 12, 31, 23, 59, 59, 999999))
+        for none in ("0000-00-00 00:00:00", "2024-00-06 07:08:09.5"):
+            self.assertEqual(times.to_datetime(none), none)
+
+    def test_timestamps(self):
+        self.assertEqual(times.to_timestamp("1700000000"), datetime.datetime(2023, 11, 14, 22, 13, 20, tzinfo=UTC))
+        self.assertEqual(times.to_timestamp("1700000000.25"), datetime.datetime(2023, 11, 14, 22, 13, 20, 250000, tzinfo=UTC))
+        self.assertEqual(times.to_timestamp("2147483647.999999").microsecond, 999999)
+        self.assertEqual(times.to_timestamp("0"), "0")
+        self.assertEqual(times.to_timestamp("0.00"), "0.00")
+        with self.assertRaises(ValueError):
+            times.to_timestamp("yesterday")
+
+    def test_times(self):
+        self.assertEqual(times.to_time("12:34:56"), datetime.timedelta(hours=12, minutes=34, seconds=56))
+        self.assertEqual(times.to_time("-838:59:59"), -datetime.timedelta(hours=838, minutes=59, seconds=59))
+        self.assertEqual(times.to_time("-00:00:00.01"), -datetime.timedelta(milliseconds=10))
+        self.assertEqual(times.to_time("00:00:00.000001"), datetime.timedelta(microseconds=1))
+        with self.assertRaises(ValueError):
+            times.to_time("12:34")
+
+
+def opaque(kind, raw):
+    """A document that is one opaque value."""
+    return bytes([0x0F, kind, len(raw)]) + raw
+
+
+def packed(value):
+    """The 8 bytes of a date or time."""
+    return struct.pack("<q", value)
+
+
+class Json(unittest.TestCase):
+    """MySQL's binary JSON."""
+
+    def check(self, raw, wanted):
+        """The document of these bytes is the wanted one, of the same types."""
+        found = json_binary.from_raw(raw)
+        self.assertEqual((found, type(found)), (wanted, type(wanted)))
+
+    def test_scalars(self):
+        for raw, wanted in (
+            ("0400", None), ("0401", True), ("0402", False),
+            ("05ffff", -1), ("050080", -32768), ("06ffff", 65535),
+            ("0700000080", -(2**31)), ("08ffffffff", 2**32 - 1),
+            ("090000000000000080", -(2**63)), ("0affffffffffffffff", 2**64 - 1),
+            ("0b000000000000f83f", 1.5), ("0c00", ""), ("0c03616263", "abc"), ("0c02c3a9", "é"),
+        ):  # fmt: skip
+            self.check(bytes.fromhex(raw), wanted)
+
+    def test_empty(self):
+        self.check(b"", None)
+
+    def test_long_strings(self):
+        # A length has 7 bits in each byte, the lowest first.
+        self.check(b"\x0c\x7f" + b"x" * 127, "x" * 127)
+        self.check(b"\x0c\x80\x01" + b"x" * 128, "x" * 128)
+        self.check(b"\x0c\xac\x02" + b"x" * 300, "x" * 300)
+        self.check(b"\x0c\x80\x80\x01" + b"x" * 16384, "x" * 16384)
+
+    def test_small_object(self):
+        # {"key1": "value1", "key2": "value2"}: 2 elements in 40 bytes; keys at 18 and 22; values at 26 and 33.
+        raw = b"\x00\x02\x00(\x00\x12\x00\x04\x00\x16\x00\x04\x00\x0c\x1a\x00\x0c!\x00key1key2\x06value1\x06value2"
+        self.check(raw, {"key1": "value1", "key2": "value2"})
+
+    def test_inlined(self):
+        # {"a": 1, "b": true, "c": null}, each value in its entry: 4 + 3 * 4 + 3 * 3 + 3 = 28 bytes.
+        raw = "00 0300 1c00 1900 0100 1a00 0100 1b00 0100 05 0100 04 0100 04 0000 616263"
+        self.check(bytes.fromhex(raw), {"a": 1, "b": True, "c": None})
+
+    def test_small_array(self):
+        # [-2, 70000, "ab"]: the second and third stand at 13 and 17, behind three entries.
+        raw = "02 0300 1400 05 feff 07 0d00 0c 1100 70110100 02 6162"
+        self.check(bytes.fromhex(raw), [-2, 70000, "ab"])
+
+    def test_empty_containers(self):
+        self.check(bytes.fromhex("00 0000 0400"), {})
+        self.check(bytes.fromhex("02 0000 0400"), [])
+
+    def test_nested(self):
+        # {"k": [{"z": 7}]}: offsets count from the beginning of the innermost object or array that has them.
+        inner = bytes.fromhex("0100 0c00 0b00 0100 05 0700 7a")
+        array = bytes.fromhex("0100 1300 00 0700") + inner
+        raw = b"\x00" + bytes.fromhex("0100 1f00 0b00 0100 02 0c00 6b") + array
+        self.check(raw, {"k": [{"z": 7}]})
+
+    def test_large(self):
+        # The same form with numbers of 4 bytes, in which those of 32 bits are inlined: {"n": 70000, "s": "ab"}.
+        raw = "01 02000000 23000000 1e000000 0100 1f000000 0100 07 70110100 0c 20000000 6e73 02 6162"
+        self.check(bytes.fromhex(raw), {"n": 70000, "s": "ab"})
+        raw = "03 02000000 12000000 08 ffffffff 04 02000000"
+        self.check(bytes.fromhex(raw), [2**32 - 1, False])
+
+    def test_more_than_64_kib(self):
+        text = b"y" * 70_000
+        body = struct.pack("<IIBI", 1, 8 + 5 + 3 + len(text), 0x0C, 13) + b"\xf0\xa2\x04" + text
+        self.check(b"\x03" + body, ["y" * 70_000])
+
+    def test_decimals(self):
+        # A precision, a scale, and the digits as a DECIMAL column has them.
+        self.check(opaque(246, bytes.fromhex("0e04 810dfb38d204d2")), Decimal("1234567890.1234"))
+        self.check(opaque(246, bytes.fromhex("0e04 7ef204c72dfb2d")), Decimal("-1234567890.1234"))
+        self.check(opaque(246, bytes.fromhex("0402 8000")), Decimal("0.00"))
+        # 65 digits, 30 of them behind the point: 35 and 30 digits are 8 + 3 * 9 and 3 * 9 + 3.
+        nine = (10**9 - 1).to_bytes(4, "big")
+        digits = (10**8 - 1).to_bytes(4, "big") + nine * 6 + (999).to_bytes(2, "big")
+        raw = bytes([65, 30, digits[0] ^ 0x80]) + digits[1:]
+        self.check(opaque(246, raw), Decimal("9" * 35 + "." + "9" * 30))
+
+    def test_dates_and_times(self):
+        def moment(year, month, day, hour=0, minute=0, second=0, micro=0):
+            return packed(((((year * 13 + month) << 5 | day) << 17 | hour << 12 | minute << 6 | second) << 24) + micro)
+
+        self.check(opaque(10, moment(2024, 5, 6)), datetime.date(2024, 5, 6))
+        wanted = datetime.datetime(2015, 1, 15, 23, 24, 25, 120000)
+        self.check(opaque(12, moment(2015, 1, 15, 23, 24, 25, 120000)), wanted)
+        self.check(opaque(7, moment(2015, 1, 15, 23, 24, 25, 120000)), wanted)
+        self.check(opaque(10, packed(0)), "0000-00-00")
+        self.check(opaque(12, packed(5)), "0000-00-00 00:00:00.000005")
+        span = ((838 << 12 | 59 << 6 | 58) << 24) + 7
+        wanted = datetime.timedelta(hours=838, minutes=59, seconds=58, microseconds=7)
+        self.check(opaque(11, packed(span)), wanted)
+        self.check(opaque(11, packed(-span)), -wanted)
+
+    def test_other_types(self):
+        # 253 is VAR_STRING: what CAST(x'ff00' AS JSON) gives.
+        self.check(opaque(253, b"\xff\x00"), b"\xff\x00")
+
+    def test_no_documents(self):
+        for raw in ("0e", "0403", "05ff", "0c05616263", "00 0100 0c00 0b00", "0cffffffffff01", "ff00", "0f", "0f0c0100", "0ff602050a00"):
+            with self.subTest(raw=raw), self.assertRaises(ValueError):
+                json_binary.from_raw(bytes.fromhex(raw))
+
+    def test_cut_documents(self):
+        raw = b"\x00\x02\x00(\x00\x12\x00\x04\x00\x16\x00\x04\x00\x0c\x1a\x00\x0c!\x00key1key2\x06value1\x06value2"
+        for end in range(1, len(raw)):
+            with self.assertRaises(ValueError):
+                json_binary.from_raw(raw[:end])
+
+    def test_a_document_that_has_itself(self):
+        # An array whose one element is at its own beginning, and one whose elements all are.
+        with self.assertRaises(ValueError):
+            json_binary.from_raw(bytes.fromhex("02 0100 0700 02 0000"))
+        with self.assertRaises(ValueError):
+            json_binary.from_raw(b"\x02" + struct.pack("<HH", 200, 604) + b"\x02\0\0" * 200)

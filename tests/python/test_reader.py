@@ -1,0 +1,356 @@
+"""The reader: what its events have, its filters, its end, and its errors."""
+import json
+import os
+import struct
+import threading
+import time
+import tracemalloc
+from decimal import Decimal
+
+from binlogfeed import (
+    BinLogStreamReader,
+    ConversionFailed,
+    DeleteRowsEvent,
+    FileFault,
+    LogFault,
+    OutOfMemory,
+    ProgramFailed,
+    ProgramMissing,
+    TokenRefused,
+    UpdateRowsEvent,
+    WordsRefused,
+    WriteRowsEvent,
+    floats,
+    texts,
+)
+from built import logs, server_logs
+from support import BANK, PROGRAM, SHOP, TOP, FolderTest
+
+SERVER = "3e11fa47-71ca-11e1-9e33-c80aa9429562"
+# A line of `read`, but for its token.
+LINE = '{"after":{"id":1},"before":null,"gtid":null,"kind":"insert","schema":"s","table":"t","timestamp":1,"token":"%s"}'
+
+
+def reader(files, **options):
+    """A reader that runs the built program."""
+    return BinLogStreamReader(files, program=PROGRAM, **options)
+
+
+def tokens(files, **options):
+    """The tokens of a reader's events."""
+    with reader(files, **options) as events:
+        return [event.token for event in events]
+
+
+def shop_lines():
+    """The changes of the shop, as they stand in its folder."""
+    return [json.loads(line) for line in (TOP / "examples/shop/read.jsonl").read_text(encoding="utf-8").splitlines()]
+
+
+class Events(FolderTest):
+    """What an event has."""
+
+    def test_shop(self):
+        kinds = {"insert": WriteRowsEvent, "update": UpdateRowsEvent, "delete": DeleteRowsEvent}
+        events = list(reader(SHOP, convert={"product.weight": lambda raw: raw}))
+        self.assertEqual(len(events), 19)
+        for event, line in zip(events, shop_lines()):
+            self.assertIs(type(event), kinds[line["kind"]])
+            for name in ("schema", "table", "timestamp", "gtid", "token"):
+                self.assertEqual(getattr(event, name), line[name])
+            if event.table != "product":
+                self.assertEqual((event.before, event.after), (line["before"], line["after"]))
+
+    def test_rows_of_each_kind(self):
+        events = list(reader(SHOP[1]))
+        self.assertEqual(events[1].rows, [{"values": {"amount": 1, "nr": 1, "purchase": 3, "sku": "POT-0003"}}])
+        self.assertEqual(events[3].rows, [{"values": {"amount": 1, "nr": 2, "purchase": 1, "sku": "CUP-0007"}}])
+        (row,) = events[4].rows
+        self.assertEqual((row["before_values"]["total"], row["after_values"]["total"]), ("21.80", "9.80"))
+
+    def test_raw_bytes(self):
+        events = list(reader(SHOP, only_tables=["product"], only_events=[WriteRowsEvent]))
+        weights = [event.rows[0]["values"]["weight"] for event in events]
+        self.assertEqual(weights, [struct.pack("<f", weight) for weight in (0.1, 0.35, 1.2)])
+
+    def test_bytes_that_are_not_text(self):
+        log = logs.front()
+        rows = bytes.fromhex("6400000000000100020002fffc0100000002fffe")
+        for kind, body in ((logs.QUERY, logs.BEGIN_BODY), (logs.TABLE_MAP, logs.MAP_BODY), (logs.WRITE_ROWS, rows), (logs.XID, logs.XID_BODY)):
+            log = logs.appended(log, kind, body)
+        (event,) = reader(self.put("binlog.000001", log))
+        self.assertEqual(event.rows, [{"values": {"id": 1, "v": b"\xff\xfe"}}])
+        self.assertIsNone(event.gtid)
+
+    def test_bank(self):
+        tables, last = {}, None
+        with reader(BANK) as events:
+            for transaction in events.transactions():
+                self.assertNotEqual(transaction.gtid, last)
+                last = transaction.gtid
+                for event in transaction:
+                    change = {"table": event.table, "before": event.before, "after": event.after, "token": event.token}
+                    self.assertIsNone(server_logs.apply(tables, change))
+        self.assertEqual(tables, server_logs.final_rows())
+
+    def test_memory(self):
+        path = self.put("binlog.000001", logs.worked_log(20_000))
+        tracemalloc.start()
+        try:
+            with reader(path) as events:
+                self.assertEqual(sum(len(transaction) for transaction in events.transactions()), 20_000)
+            peak = tracemalloc.get_traced_memory()[1]
+        finally:
+            tracemalloc.stop()
+        self.assertLess(peak, 1_000_000)
+
+
+class Choice(FolderTest):
+    """Which events a reader gives."""
+
+    def test_filters(self):
+        every = shop_lines()
+        cases = [
+            ({"only_events": [WriteRowsEvent]}, lambda line: line["kind"] == "insert"),
+            ({"only_events": [UpdateRowsEvent, DeleteRowsEvent]}, lambda line: line["kind"] != "insert"),
+            ({"only_tables": ["line", "product"]}, lambda line: line["table"] in ("line", "product")),
+            ({"ignored_tables": ["line"]}, lambda line: line["table"] != "line"),
+            ({"ignored_tables": []}, lambda line: True),
+            ({"only_schemas": ["shop"]}, lambda line: True),
+            ({"only_schemas": ["SHOP"]}, lambda line: False),
+            ({"ignored_schemas": ["shop"]}, lambda line: False),
+            ({"auto_position": f"{SERVER}:1-9"}, lambda line: int(line["gtid"].rpartition(":")[2]) > 9),
+            ({"only_tables": ["-x", "line"]}, lambda line: line["table"] == "line"),
+        ]
+        for options, passes in cases:
+            with self.subTest(options=options):
+                self.assertEqual(tokens(SHOP, **options), [line["token"] for line in every if passes(line)])
+
+    def test_resume(self):
+        every = [line["token"] for line in shop_lines()]
+        for place, token in enumerate(every):
+            self.assertEqual(tokens(SHOP, resume=token), every[place + 1 :])
+
+    def test_transactions(self):
+        with reader(SHOP) as events:
+            found = [(transaction.gtid, len(transaction), transaction.token) for transaction in events.transactions()]
+        sizes = [(6, 3), (7, 3), (8, 3), (9, 1), (10, 2), (11, 3), (12, 1), (13, 1), (14, 1), (15, 1)]
+        self.assertEqual([(gtid, size) for gtid, size, _ in found], [(f"{SERVER}:{number}", size) for number, size in sizes])
+        self.assertEqual([token for _, _, token in found[:2]], ["1697.3@binlog.000001", "2149.3@binlog.000001"])
+
+    def test_refused_arguments(self):
+        with self.assertRaises(TypeError):
+            BinLogStreamReader(SHOP, only_tables="line")
+        with self.assertRaises(TypeError):
+            BinLogStreamReader(SHOP, only_events=["insert"])
+        with self.assertRaises(ValueError):
+            BinLogStreamReader(SHOP, ignored_tables=["a,b"])
+        for name in ("only_events", "only_tables", "only_schemas"):
+            with self.assertRaises(ValueError):
+                BinLogStreamReader(SHOP, **{name: []})
+
+    def test_a_path_that_looks_like_an_option(self):
+        self.put("--help", b"none")
+        before = os.getcwd()
+        os.chdir(self.folder)
+        try:
+            with self.assertRaises(LogFault) as caught:
+                list(reader("--help"))
+        finally:
+            os.chdir(before)
+        self.assertEqual((caught.exception.file, caught.exception.what), ("--help", "BadMagic"))
+
+
+class Conversion(FolderTest):
+    """Converters of columns."""
+
+    def test_columns(self):
+        convert = {"purchase.total": Decimal, "product.weight": floats.shortest, "shop.customer.name": texts.to_bytes, "other.total": int}
+        events = list(reader(SHOP, convert=convert))
+        self.assertEqual(events[0].after["name"], b"Ada Lovelace")
+        self.assertEqual([event.after["weight"] for event in events[3:6]], [0.1, 0.35, 1.2])
+        self.assertEqual((events[9].before["total"], events[9].after["total"]), (Decimal("21.80"), Decimal("21.80")))
+
+    def test_the_schema_goes_before(self):
+        convert = {"shop.customer.id": lambda value: "with schema", "customer.id": lambda value: "without"}
+        self.assertEqual(next(reader(SHOP, convert=convert)).after["id"], "with schema")
+
+    def test_null(self):
+        events = list(reader(SHOP, only_tables=["customer"], convert={"customer.email": str.upper}))
+        self.assertEqual([event.after["email"] for event in events[:2]], ["ADA@EXAMPLE.ORG", None])
+
+    def test_refused(self):
+        with reader(SHOP, convert={"customer.name": int}) as events:
+            with self.assertRaises(ConversionFailed) as caught:
+                next(events)
+            self.assertIn("shop.customer.name at 1697.1@binlog.000001", caught.exception.line)
+            self.assertIsInstance(caught.exception.__cause__, ValueError)
+            # The next event would follow a gap.
+            self.assertEqual(list(events), [])
+
+    def test_refused_inside_a_transaction(self):
+        with reader(SHOP, convert={"line.nr": {1: 1}.__getitem__}) as events:
+            found = []
+            with self.assertRaises(ConversionFailed):
+                for transaction in events.transactions():
+                    found.append(transaction.gtid)
+        self.assertEqual(found, [f"{SERVER}:6", f"{SERVER}:7"])
+
+
+class Ends(FolderTest):
+    """How a reading ends."""
+
+    def endless(self):
+        """A program that writes lines without end, and says its process."""
+        line = LINE % "4.1@f"
+        return self.stub(f"echo $$ > {self.folder}/process\nexec yes '{line}'")
+
+    def process_is_gone(self):
+        """Whether the stub's process ended."""
+        try:
+            os.kill(int((self.folder / "process").read_text()), 0)
+        except ProcessLookupError:
+            return True
+        return False
+
+    def test_close(self):
+        events = BinLogStreamReader("f", program=self.endless())
+        for _ in range(3):
+            next(events)
+        events.close()
+        self.assertTrue(self.process_is_gone())
+        self.assertEqual(list(events), [])
+        events.close()
+
+    def test_leaving_by_an_error(self):
+        with self.assertRaises(ZeroDivisionError):
+            with BinLogStreamReader("f", program=self.endless()) as events:
+                for _ in events:
+                    raise ZeroDivisionError
+        self.assertTrue(self.process_is_gone())
+
+    def test_close_before_the_first_event(self):
+        events = BinLogStreamReader("f", program=self.endless())
+        events.close()
+        self.assertIsNone(events.fetchone())
+        self.assertFalse((self.folder / "process").exists())
+
+    def test_close_while_another_thread_waits(self):
+        program = self.stub(f"echo $$ > {self.folder}/process\nexec sleep 60")
+        events = BinLogStreamReader("f", program=program)
+        closer = threading.Timer(0.3, events.close)
+        closer.start()
+        started = time.monotonic()
+        self.assertEqual(list(events), [])
+        closer.join()
+        self.assertLess(time.monotonic() - started, 30)
+        self.assertTrue(self.process_is_gone())
+
+    def test_closed_inside_a_transaction(self):
+        events = BinLogStreamReader("f", program=self.endless())
+        closer = threading.Timer(0.1, events.close)
+        closer.start()
+        # All these lines are of one transaction, whose end never came.
+        self.assertEqual(list(events.transactions()), [])
+        closer.join()
+
+    def test_fetchone(self):
+        events = reader(SHOP[1])
+        self.assertEqual(sum(1 for _ in iter(events.fetchone, None)), 7)
+        self.assertIsNone(events.fetchone())
+
+    def test_much_on_standard_error(self):
+        program = self.stub("head -c 1000000 /dev/zero | tr '\\0' x >&2\necho >&2\necho 'binlogfeed: out of memory' >&2\nexit 5")
+        with self.assertRaises(OutOfMemory):
+            list(BinLogStreamReader("f", program=program))
+
+
+class Errors(FolderTest):
+    """The error of each exit status."""
+
+    def fault(self, name, log):
+        """The fault of a log, and the events before it."""
+        found = []
+        with self.assertRaises(LogFault) as caught:
+            for event in reader(self.put(name, log)):
+                found.append(event.token)
+        return caught.exception, found
+
+    def test_log_fault(self):
+        # Kind 40 is TRANSACTION_PAYLOAD. The log before it has 371 bytes.
+        fault, found = self.fault("binlog.000001", logs.appended(logs.worked_log(), 40, b""))
+        self.assertEqual((fault.file, fault.position, fault.what), ("binlog.000001", 371, "KindOutOfProfile(40)"))
+        self.assertEqual(fault.line, "binlogfeed: log fault at binlog.000001:371: KindOutOfProfile(40)")
+        self.assertEqual((fault.status, found), (1, ["153.1@binlog.000001"]))
+
+    def test_log_fault_of_a_strange_name(self):
+        name = "a:7: b\nbinlogfeed: c"
+        fault, _ = self.fault(name, b"none")
+        self.assertEqual((fault.file, fault.position, fault.what), (name, 0, "BadMagic"))
+
+    def test_transactions_before_a_fault(self):
+        path = self.put("binlog.000001", logs.appended(logs.worked_log(2), 40, b""))
+        found = []
+        with self.assertRaises(LogFault):
+            for transaction in reader(path).transactions():
+                found.append(transaction.token)
+        self.assertEqual(found, ["153.1@binlog.000001", "371.1@binlog.000001"])
+
+    def test_words_refused(self):
+        with self.assertRaises(WordsRefused) as caught:
+            list(reader(SHOP, auto_position="none"))
+        self.assertEqual(caught.exception.line, "binlogfeed: bad --auto-position: element 0")
+        with self.assertRaises(WordsRefused) as caught:
+            list(reader([SHOP[0], SHOP[0]]))
+        self.assertEqual(caught.exception.line, "binlogfeed: duplicate file binlog.000001")
+
+    def test_token_refused(self):
+        path = self.put("binlog.000001", logs.worked_log())
+        cases = [
+            ("0153.1@binlog.000001", "BadToken"),
+            ("153.1@binlog.000002", "TokenNoFile"),
+            ("154.1@binlog.000001", "TokenNoTransaction"),
+            ("153.2@binlog.000001", "TokenNoChange"),
+        ]
+        for token, name in cases:
+            with self.assertRaises(TokenRefused) as caught:
+                list(reader(path, resume=token))
+            self.assertEqual((caught.exception.name, caught.exception.status), (name, 3))
+
+    def test_file_fault(self):
+        with self.assertRaises(FileFault) as caught:
+            list(reader(self.folder / "missing"))
+        self.assertEqual(caught.exception.line, f"binlogfeed: cannot open {self.folder}/missing")
+
+    def test_out_of_memory(self):
+        path = self.put("binlog.000001", logs.appended(logs.worked_log(), logs.XID, bytes(64 << 20), logs.IGNORABLE))
+        program = self.stub(f"ulimit -v 30000\nexec {PROGRAM} \"$@\"")
+        with self.assertRaises(OutOfMemory):
+            list(BinLogStreamReader(path, program=program))
+
+    def test_killed(self):
+        program = self.stub(f"echo '{LINE % '4.1@f'}'\nprintf '{{\"after\":'\nkill -9 $$")
+        events = BinLogStreamReader("f", program=program)
+        self.assertEqual(next(events).token, "4.1@f")
+        with self.assertRaises(ProgramFailed) as caught:
+            next(events)
+        self.assertEqual(caught.exception.status, -9)
+
+    def test_a_transaction_that_is_cut_is_not_given(self):
+        lines = "".join(f"echo '{LINE % token}'\n" for token in ("4.1@f", "9.1@f", "9.2@f"))
+        for end in ("kill -9 $$", "exit 4", "echo 'binlogfeed: log fault at f:9: SourceChanged' >&2; exit 1"):
+            found = []
+            with self.assertRaises((ProgramFailed, FileFault, LogFault)):
+                for transaction in BinLogStreamReader("f", program=self.stub(lines + end)).transactions():
+                    found.append(transaction.token)
+            self.assertEqual(found, ["4.1@f"])
+
+    def test_missing_program(self):
+        with self.assertRaises(ProgramMissing):
+            list(BinLogStreamReader(SHOP, program=self.folder / "none"))
+
+    def test_another_status(self):
+        program = self.stub("echo 'binlogfeed: the program was not built' >&2\nexit 70")
+        with self.assertRaises(ProgramFailed) as caught:
+            list(BinLogStreamReader(SHOP, program=program))
+        self.assertEqual((caught.exception.status, caught.exception.line), (70, "binlogfeed: the program was not built"))
