@@ -50,18 +50,18 @@ def replicate(
     """Takes what the logs have behind the target's place."""
     kept = target.place()
     place = Place.from_text(kept) if kept else Place()
-    files = place.rest(listed(logs))
-    if not files:
+    rest = place.rest(listed(logs))
+    if not rest:
         return
     options = {"only_schemas": [schema], "resume": place.resume, "convert": convert, "program": program}
-    with BinLogStreamReader(files, **options) as reader:
+    with BinLogStreamReader([log.path for log in rest], **options) as reader:
         for transaction in reader.transactions():
-            place = place.behind(transaction.token, files)
+            place = place.behind(transaction.token, rest)
             with target.moved(kept, place.to_text()):
                 for event in transaction:
                     target.apply(event)
             kept = place.to_text()
-    end = place.at_end(files).to_text()
+    end = place.at_end(rest).to_text()
     if end != kept:
         with target.moved(kept, end):
             pass

@@ -21,7 +21,7 @@ from binlogfeed.faults import (
     TokenRefused,
     WordsRefused,
 )
-from binlogfeed.logs import listed
+from binlogfeed.logs import Log, listed
 from binlogfeed.place import Place
 from binlogfeed.reader import BinLogStreamReader
 
@@ -31,6 +31,7 @@ __all__ = [
     "ConversionFailed",
     "DeleteRowsEvent",
     "FileFault",
+    "Log",
     "LogFault",
     "LogsGone",
     "OutOfMemory",

@@ -10,13 +10,13 @@ from collections.abc import Sequence
 from pathlib import Path
 from typing import BinaryIO, Optional, TextIO
 
-from binlogfeed.faults import FileFault
-from binlogfeed.logs import listed
+from binlogfeed.faults import BinlogfeedError, FileFault
+from binlogfeed.logs import Log, listed
 from binlogfeed.place import Place
 from binlogfeed.program import Run
 
-# The place is kept behind so many lines, or seconds, and at the end of each run.
-KEEP_LINES = 1000
+# Lines are written, and the place is kept behind them, at the end of a run, and before that after so many bytes or seconds.
+KEEP_BYTES = 1 << 20
 KEEP_SECONDS = 1.0
 # What stands before and behind the token, which is a line's last member. A text in JSON has no bare quotes.
 TOKEN_AT, TOKEN_END = b',"token":', b"}\n"
@@ -32,56 +32,62 @@ class Follower:
         self._logs = place
         self._state = state
         self._command = [program, "read", *words]
-        self._out: BinaryIO = out or sys.stdout.buffer
+        # Without a buffer of its own, which a failed write would leave in an unknown state.
+        self._out: BinaryIO = out or open(sys.stdout.fileno(), "wb", buffering=0, closefd=False)
         self._lock = _locked(state)
-        self._kept = self._place = read_state(state)
+        self._place = read_state(state)
         self._seen: Optional[list[tuple[Path, int]]] = None
 
     def catch_up(self) -> None:
         """Prints all lines that are there by now, and keeps the place. Raises what ended the reading early."""
         try:
-            logs = self._place.rest(listed(self._logs))
-            seen = [(path, path.stat().st_size) for path in logs]
-            if seen != self._seen:
-                self._print(logs)
-        except (FileFault, FileNotFoundError):
-            # The server takes a log off its index before it purges it. The new list says whether that one was still needed.
-            logs = self._place.rest(listed(self._logs))
-            seen = [(path, _size(path)) for path in logs]
+            self._catch_up()
+        except FileFault:
+            # The server takes a log off its index before it purges it. The new index says whether that one was still needed.
+            self._catch_up()
+
+    def _catch_up(self) -> None:
+        """Prints the lines of the logs that are listed by now, where one of them has changed."""
+        logs = self._place.rest(listed(self._logs))
+        seen = [(log.path, _size(log.path)) for log in logs]
+        if logs and seen != self._seen:
             self._print(logs)
         self._seen = seen
 
-    def _print(self, logs: list[Path]) -> None:
+    def close(self) -> None:
+        """Gives the state's file free for another."""
+        self._lock.close()
+
+    def _print(self, logs: list[Log]) -> None:
         """Prints the lines of these logs behind the place."""
-        if not logs:
-            return
-        resume = self._place.resume
-        run = Run([*self._command, *([f"--from={resume}"] if resume else []), "--", *map(str, logs)])
+        place = self._place
+        resume = [f"--from={place.resume}"] if place.resume else []
+        run = Run([*self._command, *resume, "--", *(str(log.path) for log in logs)])
+        lines, due = bytearray(), time.monotonic() + KEEP_SECONDS
         try:
-            self._take(run, logs)
-            self._place = self._place.at_end(logs)
+            for line in run.lines():
+                lines += line
+                place = place.behind(_token(line), logs)
+                if len(lines) >= KEEP_BYTES or time.monotonic() >= due:
+                    self._keep(lines, place)
+                    lines, due = bytearray(), time.monotonic() + KEEP_SECONDS
+        except BinlogfeedError:
+            # The lines before a fault stand.
+            self._keep(lines, place)
+            raise
         finally:
-            # However the run ended, what was taken is taken.
             run.end()
-            self._keep()
+        self._keep(lines, place.at_end(logs))
 
-    def _take(self, run: Run, logs: list[Path]) -> None:
-        """Takes the lines of a run."""
-        lines, due = 0, time.monotonic() + KEEP_SECONDS
-        for line in run.lines():
-            self._out.write(line)
-            self._place = self._place.behind(_token(line), logs)
-            lines += 1
-            if lines >= KEEP_LINES or time.monotonic() >= due:
-                self._keep()
-                lines, due = 0, time.monotonic() + KEEP_SECONDS
-
-    def _keep(self) -> None:
-        """Keeps the place, once all lines before it are out."""
+    def _keep(self, lines: bytearray, place: Place) -> None:
+        """Writes whole lines, and keeps the place behind them once they are out."""
+        left = memoryview(bytes(lines))
+        while left:
+            left = left[self._out.write(left) :]
         self._out.flush()
-        if self._place != self._kept:
-            write_state(self._state, self._place)
-            self._kept = self._place
+        if place != self._place:
+            write_state(self._state, place)
+            self._place = place
 
 
 def _token(line: bytes) -> str:

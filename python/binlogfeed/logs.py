@@ -7,6 +7,7 @@ import os
 import re
 from collections.abc import Sequence
 from pathlib import Path
+from typing import NamedTuple, Optional
 
 from binlogfeed.faults import FileFault, LogsGone
 
@@ -15,6 +16,19 @@ MAGIC = b"\xfebin"
 NAME = re.compile(r"(.+)\.(\d{6,})", re.DOTALL)
 HEADER_LENGTH = 19
 LENGTH_AT, FLAGS_AT = 9, 17
+
+
+class Log(NamedTuple):
+    """A log, and what tells it from another under the same name."""
+
+    path: Path
+    # A digest of its first event, or None where that isn't whole yet.
+    begins: Optional[str]
+
+    @property
+    def name(self) -> str:
+        """The name, without its folder."""
+        return self.path.name
 
 
 def listed(place: str | os.PathLike[str]) -> list[Path]:

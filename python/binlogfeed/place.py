@@ -9,7 +9,7 @@ from typing import Optional
 
 from binlogfeed.events import token_parts
 from binlogfeed.faults import BinlogfeedError, LogsGone
-from binlogfeed.logs import beginning, check_without_gap
+from binlogfeed.logs import Log, beginning, check_without_gap
 
 
 @dataclass(frozen=True)
@@ -31,34 +31,32 @@ class Place:
         """The token to go on behind, over the files that `rest` gives; None where they are read from their beginning."""
         return self.token if self.token and token_parts(self.token).file == self.file else None
 
-    def rest(self, logs: Sequence[Path]) -> list[Path]:
+    def rest(self, paths: Sequence[Path]) -> list[Log]:
         """The logs that are still to be read, of those that are there. Raises `LogsGone` where some of them aren't there."""
-        rest = list(logs)
+        rest = list(paths)
         if self.file is not None:
             while rest and rest[0].name != self.file:
                 del rest[0]
             if not rest:
-                left = f"the first that is left is {logs[0].name}" if logs else "none is left"
+                left = f"the first that is left is {paths[0].name}" if paths else "none is left"
                 raise LogsGone(f"binlogfeed: {self.file} is gone, and wasn't read to its end: {left}")
-            begins = beginning(rest[0])
-            if self.begins and begins != self.begins:
-                raise LogsGone(f"binlogfeed: {self.file} is gone: another log has its name")
         check_without_gap(rest)
-        return rest
+        logs = [Log(path, beginning(path)) for path in rest]
+        if self.begins and logs[0].begins != self.begins:
+            raise LogsGone(f"binlogfeed: {self.file} is gone: another log has its name")
+        return logs
 
-    def behind(self, token: str, logs: Sequence[Path]) -> Place:
+    def behind(self, token: str, logs: Sequence[Log]) -> Place:
         """The place behind a change of these logs. All changes before it were taken."""
         file = token_parts(token).file
         if file == self.file:
             return replace(self, token=token)
-        (path,) = (path for path in logs if path.name == file)
-        return Place(file, beginning(path), token)
+        (log,) = (log for log in logs if log.name == file)
+        return Place(file, log.begins, token)
 
-    def at_end(self, logs: Sequence[Path]) -> Place:
+    def at_end(self, logs: Sequence[Log]) -> Place:
         """The place behind all changes of these logs. The last of them may grow."""
-        if not logs:
-            return self
-        return Place(logs[-1].name, beginning(logs[-1]), self.token)
+        return Place(logs[-1].name, logs[-1].begins, self.token) if logs else self
 
     def to_text(self) -> str:
         """The place as a line of JSON."""
