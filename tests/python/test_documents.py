@@ -1,0 +1,73 @@
+"""What the documents show is run as it is written, in a folder that has what the repository's has."""
+import os
+import re
+import sqlite3
+import subprocess
+import sys
+from pathlib import Path
+
+from support import PROGRAM, TOP, FolderTest
+
+# The lines by the shop's statements: a purchase that is put in, and then paid.
+README_SHOWS = """\
+2592.1@binlog.000001 WriteRowsEvent [{'values': {'customer': 1, 'id': 1, 'paid': None, 'placed': '2024-05-06 07:08:09.125', 'total': '21.80'}}]
+3114.1@binlog.000001 UpdateRowsEvent [{'before_values': {'customer': 1, 'id': 1, 'paid': None, 'placed': '2024-05-06 07:08:09.125', \
+'total': '21.80'}, 'after_values': {'customer': 1, 'id': 1, 'paid': '1714982400', 'placed': '2024-05-06 07:08:09.125', 'total': '21.80'}}]
+"""
+
+
+def blocks(document, heading):
+    """The indented blocks of a part of a document."""
+    part = re.search(rf"^## {heading}\n(.*?)(?=^## |\Z)", (TOP / document).read_text(encoding="utf-8"), re.DOTALL | re.MULTILINE)[1]
+    found = re.findall(r"(?:^    .*\n|^\n(?=    ))+", part, re.MULTILINE)
+    return ["\n".join(line[4:] for line in block.strip("\n").split("\n")) + "\n" for block in found]
+
+
+class Documents(FolderTest):
+    """The documents' examples."""
+
+    def setUp(self):
+        """A folder with the repository's parts. Its program is the one that is tested."""
+        super().setUp()
+        for name in ("python", "examples"):
+            (self.folder / name).symlink_to(TOP / name)
+        wrapper = self.put("binlogfeed", f'#!/bin/sh\nexec {PROGRAM} "$@"\n'.encode())
+        wrapper.chmod(0o700)
+
+    def shown(self, command):
+        """What a command prints."""
+        path = f"{Path(sys.executable).parent}:{os.environ['PATH']}"
+        ended = subprocess.run(
+            ["bash", "-euc", command], cwd=self.folder, env={**os.environ, "PATH": path}, capture_output=True, text=True, check=False
+        )
+        self.assertEqual((ended.returncode, ended.stderr), (0, ""))
+        return ended.stdout
+
+    def test_readme(self):
+        (block,) = blocks("README.md", "In Python")
+        self.assertEqual(self.shown(block), README_SHOWS)
+
+    def test_readme_is_short(self):
+        part = (TOP / "README.md").read_text(encoding="utf-8").partition("## In Python\n")[2].partition("\n## ")[0]
+        self.assertLessEqual(part.count("\n") + 1, 12)
+
+    def test_python(self):
+        (block,) = blocks("docs/USAGE.md", "In Python")
+        lines = self.shown(f"PYTHONPATH=python python3 - <<'END'\n{block}END\n").splitlines()
+        # Six updates, in four transactions; behind the last of them one more was deleted.
+        self.assertEqual([line.split()[1] for line in lines[:6]], ["purchase", "product", "product", "customer", "purchase", "customer"])
+        self.assertIn("'total': Decimal('21.80')", lines[0])
+        self.assertEqual(lines[6:], ["3e11fa47-71ca-11e1-9e33-c80aa9429562:15 ['customer']"])
+
+    def test_follow(self):
+        (block,) = blocks("docs/USAGE.md", "Following a server")
+        self.assertEqual(self.shown(block), (TOP / "examples/shop/read.jsonl").read_text(encoding="utf-8"))
+        self.assertEqual(self.shown(block), "")
+
+    def test_replica(self):
+        (block,) = blocks("docs/USAGE.md", "A replica")
+        self.shown(block)
+        self.shown(block.splitlines()[-1])
+        connection = sqlite3.connect(self.folder / "shop.db")
+        self.assertEqual(connection.execute("SELECT id, total FROM purchase ORDER BY id").fetchall(), [(1, "9.80"), (3, "35.55")])
+        connection.close()
