@@ -29,7 +29,7 @@ def given_words() -> argparse.Namespace:
         formatter_class=argparse.RawDescriptionHelpFormatter,
     )
     follow.add_argument("logs", metavar="LOGS", help="where the logs are")
-    follow.add_argument("--state", metavar="FILE", required=True, type=Path, help="keeps the place; it is made where there is none")
+    follow.add_argument("--state", metavar="FILE", required=True, type=Path, help="keeps the place; made where there is none")
     follow.add_argument("--once", action="store_true", help="end where the logs end by now")
     follow.add_argument("--interval", metavar="SECONDS", type=float, default=1.0, help="how often to look for more (1)")
     follow.add_argument("--program", metavar="PATH", default="binlogfeed", help="the program (binlogfeed)")

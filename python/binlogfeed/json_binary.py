@@ -1,9 +1,9 @@
 """A converter for JSON columns, whose bytes a line has as they stand in the row.
 
-The format is MySQL's (`sql-common/json_binary.h`). A document is a byte for its type, and a value. An object or array has the number
-of its elements and its length, then entries for its keys and its values; an entry's offset counts from the object's or array's
-beginning. The numbers in these are of 2 bytes in a small object or array, and of 4 in a large one. A value that fits there stands
-in its entry.
+The format is MySQL's (`sql-common/json_binary.h`). A document is a byte for its type, and a value. An object or array has the
+number of its elements and its length, then entries for its keys and its values; an entry's offset counts from the object's or
+array's beginning. The numbers in these are of 2 bytes in a small object or array, and of 4 in a large one. A value that fits
+there stands in its entry.
 """
 from __future__ import annotations
 
@@ -28,7 +28,7 @@ DIGIT_BYTES = (0, 1, 1, 2, 2, 3, 3, 4, 4, 4)
 
 
 def from_raw(raw: bytes) -> Any:
-    """The document. Numbers, text, true, false and null are Python's; a DECIMAL is a Decimal; dates and times are those of datetime.
+    """The document, of Python's own types. A DECIMAL is a Decimal, and dates and times are those of datetime.
 
     A date or time that Python has none for is its text, and a value of another column type is its bytes. Bytes that are no
     document are a ValueError.

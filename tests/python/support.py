@@ -1,4 +1,5 @@
 """What the Python tests share: the program, logs, and programs that stand in for it."""
+import json
 import os
 import shutil
 import tempfile
@@ -9,6 +10,15 @@ TOP = Path(__file__).resolve().parents[2]
 PROGRAM = os.environ.get("BINLOGFEED_PROGRAM") or str(TOP / "crates/program/out/program")
 SHOP = sorted((TOP / "examples/shop").glob("binlog.*"))
 BANK = sorted((TOP / "tests/bank").glob("binlog.*"))
+
+
+def bank_rows():
+    """The bank's tables at the end, as its server told them."""
+    rows = {"account": [], "journal": []}
+    for line in (TOP / "tests/bank/state.jsonl").read_text(encoding="utf-8").splitlines():
+        told = json.loads(line)
+        rows[told["table"]].append(told["row"])
+    return rows
 
 
 class FolderTest(unittest.TestCase):

@@ -8,17 +8,19 @@ from pathlib import Path
 
 from support import PROGRAM, TOP, FolderTest
 
-# The lines by the shop's statements: a purchase that is put in, and then paid.
-README_SHOWS = """\
-2592.1@binlog.000001 WriteRowsEvent [{'values': {'customer': 1, 'id': 1, 'paid': None, 'placed': '2024-05-06 07:08:09.125', 'total': '21.80'}}]
-3114.1@binlog.000001 UpdateRowsEvent [{'before_values': {'customer': 1, 'id': 1, 'paid': None, 'placed': '2024-05-06 07:08:09.125', \
-'total': '21.80'}, 'after_values': {'customer': 1, 'id': 1, 'paid': '1714982400', 'placed': '2024-05-06 07:08:09.125', 'total': '21.80'}}]
+# What the shop's statements say of it: a purchase that is put in, and then paid.
+PURCHASE = "{'customer': 1, 'id': 1, 'paid': %s, 'placed': '2024-05-06 07:08:09.125', 'total': '21.80'}"
+NEW, PAID = PURCHASE % "None", PURCHASE % "'1714982400'"
+README_SHOWS = f"""\
+2592.1@binlog.000001 WriteRowsEvent [{{'values': {NEW}}}]
+3114.1@binlog.000001 UpdateRowsEvent [{{'before_values': {NEW}, 'after_values': {PAID}}}]
 """
 
 
 def blocks(document, heading):
     """The indented blocks of a part of a document."""
-    part = re.search(rf"^## {heading}\n(.*?)(?=^## |\Z)", (TOP / document).read_text(encoding="utf-8"), re.DOTALL | re.MULTILINE)[1]
+    text = (TOP / document).read_text(encoding="utf-8")
+    part = re.search(rf"^## {heading}\n(.*?)(?=^## |\Z)", text, re.DOTALL | re.MULTILINE)[1]
     found = re.findall(r"(?:^    .*\n|^\n(?=    ))+", part, re.MULTILINE)
     return ["\n".join(line[4:] for line in block.strip("\n").split("\n")) + "\n" for block in found]
 
@@ -37,9 +39,8 @@ class Documents(FolderTest):
     def shown(self, command):
         """What a command prints."""
         path = f"{Path(sys.executable).parent}:{os.environ['PATH']}"
-        ended = subprocess.run(
-            ["bash", "-euc", command], cwd=self.folder, env={**os.environ, "PATH": path}, capture_output=True, text=True, check=False
-        )
+        environment = {**os.environ, "PATH": path, "PYTHONDONTWRITEBYTECODE": "1"}
+        ended = subprocess.run(["bash", "-euc", command], cwd=self.folder, env=environment, capture_output=True, text=True, check=False)
         self.assertEqual((ended.returncode, ended.stderr), (0, ""))
         return ended.stdout
 
@@ -55,7 +56,8 @@ class Documents(FolderTest):
         (block,) = blocks("docs/USAGE.md", "In Python")
         lines = self.shown(f"PYTHONPATH=python python3 - <<'END'\n{block}END\n").splitlines()
         # Six updates, in four transactions; behind the last of them one more was deleted.
-        self.assertEqual([line.split()[1] for line in lines[:6]], ["purchase", "product", "product", "customer", "purchase", "customer"])
+        tables = ["purchase", "product", "product", "customer", "purchase", "customer"]
+        self.assertEqual([line.split()[1] for line in lines[:6]], tables)
         self.assertIn("'total': Decimal('21.80')", lines[0])
         self.assertEqual(lines[6:], ["3e11fa47-71ca-11e1-9e33-c80aa9429562:15 ['customer']"])
 

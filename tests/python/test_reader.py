@@ -23,8 +23,8 @@ from binlogfeed import (
     floats,
     texts,
 )
-from built import logs, server_logs
-from support import BANK, PROGRAM, SHOP, TOP, FolderTest
+from built import logs
+from support import BANK, PROGRAM, SHOP, TOP, FolderTest, bank_rows
 
 SERVER = "3e11fa47-71ca-11e1-9e33-c80aa9429562"
 # A line of `read`, but for its token.
@@ -76,22 +76,28 @@ class Events(FolderTest):
     def test_bytes_that_are_not_text(self):
         log = logs.front()
         rows = bytes.fromhex("6400000000000100020002fffc0100000002fffe")
-        for kind, body in ((logs.QUERY, logs.BEGIN_BODY), (logs.TABLE_MAP, logs.MAP_BODY), (logs.WRITE_ROWS, rows), (logs.XID, logs.XID_BODY)):
+        bodies = {logs.QUERY: logs.BEGIN_BODY, logs.TABLE_MAP: logs.MAP_BODY, logs.WRITE_ROWS: rows, logs.XID: logs.XID_BODY}
+        for kind, body in bodies.items():
             log = logs.appended(log, kind, body)
         (event,) = reader(self.put("binlog.000001", log))
         self.assertEqual(event.rows, [{"values": {"id": 1, "v": b"\xff\xfe"}}])
         self.assertIsNone(event.gtid)
 
     def test_bank(self):
-        tables, last = {}, None
+        keys = {"account": "id", "journal": "seq"}
+        tables, last = {"account": {}, "journal": {}}, None
         with reader(BANK) as events:
             for transaction in events.transactions():
                 self.assertNotEqual(transaction.gtid, last)
                 last = transaction.gtid
                 for event in transaction:
-                    change = {"table": event.table, "before": event.before, "after": event.after, "token": event.token}
-                    self.assertIsNone(server_logs.apply(tables, change))
-        self.assertEqual(tables, server_logs.final_rows())
+                    rows, key = tables[event.table], keys[event.table]
+                    if event.before:
+                        self.assertEqual(rows.pop(event.before[key]), event.before)
+                    if event.after:
+                        self.assertIs(rows.setdefault(event.after[key], event.after), event.after)
+        for table, rows in bank_rows().items():
+            self.assertEqual(tables[table], {row[keys[table]]: row for row in rows})
 
     def test_memory(self):
         path = self.put("binlog.000001", logs.worked_log(20_000))
@@ -165,7 +171,8 @@ class Conversion(FolderTest):
     """Converters of columns."""
 
     def test_columns(self):
-        convert = {"purchase.total": Decimal, "product.weight": floats.shortest, "shop.customer.name": texts.to_bytes, "other.total": int}
+        convert = {"purchase.total": Decimal, "product.weight": floats.shortest, "other.total": int}
+        convert["shop.customer.name"] = texts.to_bytes
         events = list(reader(SHOP, convert=convert))
         self.assertEqual(events[0].after["name"], b"Ada Lovelace")
         self.assertEqual([event.after["weight"] for event in events[3:6]], [0.1, 0.35, 1.2])
