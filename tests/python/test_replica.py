@@ -1,4 +1,5 @@
 """The replica: it is killed at random moments, and its tables are the server's in the end."""
+import argparse
 import json
 import os
 import random
@@ -123,13 +124,13 @@ class Kills:
     def run(self):
         """Kills it so often, and compares the tables whenever it came to the end."""
         deadline = time.monotonic() + SECONDS
-        while self.wanted() and time.monotonic() < deadline:
+        while self.wanted() and not self.reasons and time.monotonic() < deadline:
             target, places = self.new_target(), set()
-            while not self.ended(target) and time.monotonic() < deadline:
+            while not self.ended(target) and not self.reasons and time.monotonic() < deadline:
                 places.add(self.place(target))
             self.finished += 1
             self.inside += len(places - {None})
-            if self.rows_of(target) != rows_wanted(self.schema):
+            if not self.reasons and self.rows_of(target) != rows_wanted(self.schema):
                 self.reasons.append(f"the tables differ after {self.killed} kills")
 
     def judge(self, test):
@@ -226,6 +227,15 @@ class Sqlite(FolderTest):
             self.assertEqual(process.returncode, 1)
             self.assertIn(b"changed 0 rows in place of one", said)
             self.assertEqual(self.rows_of(target, "binlogfeed_place"), place)
+
+    def test_converters(self):
+        """What goes into the target is what it takes as a value of such a column."""
+        self.assertEqual(replica.json_text(b"\x0c\x03abc"), '"abc"')
+        self.assertEqual(replica.json_text(bytes.fromhex("02 0200 0a00 04 0100 05 feff")), "[true, -2]")
+        moment = replica.CONVERTERS["timestamp"]("1700000000.25")
+        self.assertEqual(targets.plain([moment, None, 7, b"x"]), ["2023-11-14 22:13:20.250000+00:00", None, 7, b"x"])
+        with self.assertRaises(argparse.ArgumentTypeError):
+            replica.conversion("product.weight=number")
 
     def test_a_table_that_is_not_there(self):
         target = f"sqlite:{self.folder}/new.db"
