@@ -34,7 +34,8 @@ def given_words() -> argparse.Namespace:
     follow.add_argument("--interval", metavar="SECONDS", type=float, default=1.0, help="how often to look for more (1)")
     follow.add_argument("--program", metavar="PATH", default="binlogfeed", help="the program (binlogfeed)")
     for name in FILTERS:
-        follow.add_argument(f"--{name}", metavar="LIST", help="as of `binlogfeed read`")
+        metavar = "SET" if name == "auto-position" else "LIST"
+        follow.add_argument(f"--{name}", metavar=metavar, help="that of `binlogfeed read`")
     return parser.parse_args()
 
 

@@ -45,8 +45,8 @@ def _index_of(folder: Path) -> Path:
     """The index file of a folder."""
     found = sorted(folder.glob("*.index"))
     if len(found) != 1:
-        names = ", ".join(path.name for path in found) or "none"
-        raise FileFault(f"binlogfeed: {folder} hasn't one index file but: {names}")
+        names = f"more than one index file ({', '.join(path.name for path in found)})" if found else "no index file"
+        raise FileFault(f"binlogfeed: {folder} has {names}: give the index itself, or a pattern of the logs")
     return found[0]
 
 
