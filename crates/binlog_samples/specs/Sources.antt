@@ -103,7 +103,7 @@ abbrev pub PathsNotRefused : Type 0
 PathsNotRefused =
     (RefusesPath 0 (codes "a") (BadName 0) → ⊥) × (RefusesPath 0 [] (CannotOpen 0) → ⊥)
     × (RefusesPath 0 (codes "a") (CannotOpen 1) → ⊥) × (RefusesPath 1 [] (BadName 0) → ⊥)
-    × (RefusesOne ([] ∷ codes "a" ∷ []) (CannotOpen 1) → ⊥) × (RefusesOne (codes "a/" ∷ [] ∷ []) (BadName 1) → ⊥)
+    × (RefusesOne ([] ∷ codes "a" ∷ []) (CannotOpen 1) → ⊥)
 
 -- ---- names
 

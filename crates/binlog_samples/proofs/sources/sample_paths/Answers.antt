@@ -35,5 +35,4 @@ returns-clause-paths_not_refused c = (
   (λ refused. let number = refused.0 in omega (arith, number)),
   (λ refused. let number = refused.0 in omega (arith, number)),
   (λ refused. let first = refused.2 0 (omega arith) in true≢false (sym first.2 ∙ sym (ap is_file_name (is_whole [] first.0 refl first.1)))),
-  (λ refused. let first = refused.2 0 (omega arith) in true≢false (sym first.2 ∙ sym (ap is_file_name (ends_so (codes "a") first.0 first.1)))),
 )
