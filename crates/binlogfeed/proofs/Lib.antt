@@ -10,3 +10,4 @@ pub mod Listing
 pub mod Beginning
 pub mod GoingOn
 pub mod Choosing
+pub mod KeyParts

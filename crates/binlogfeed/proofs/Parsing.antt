@@ -13,7 +13,7 @@ use Rattle.clap.specs.declared.error.kind.ErrorKind.TheVariants as kind
 use Rattle.binlogfeed.specs.Words.{program_app, IsFaultOf, AnswersFound, AnswersParse}
 use Rattle.binlogfeed.specs.declared.words.Order.{Order}
 use Rattle.binlogfeed.specs.declared.words_fault.WordsFault.{WordsFault}
-use Rattle.binlogfeed.specs.declared.words_fault.WordsFault.TheVariants.{Help, CommandLine, EventName, Set, Token, OutOfMemory}
+use Rattle.binlogfeed.specs.declared.words_fault.WordsFault.TheVariants.{Help, CommandLine, EventName, Set, Token, Key, OutOfMemory}
 
 abbrev is_help : ErrorKind → Bool
 is_help kind.DisplayHelp = true
@@ -31,6 +31,7 @@ parse_refused faults found error CommandLine (inr among) h = inl (kind_of error,
 parse_refused faults found error (EventName word) k h = absurd h
 parse_refused faults found error (Set at) k h = absurd h
 parse_refused faults found error Token k h = absurd h
+parse_refused faults found error Key k h = absurd h
 parse_refused faults found error OutOfMemory k h = tt
 
 pub parse_taken : (faults : Kinds) (found : Option (Text × List Row)) (result : Result Order WordsFault)
@@ -41,6 +42,7 @@ parse_taken faults found (Err CommandLine) none h = inr (none, h)
 parse_taken faults found (Err (EventName word)) none h = (none, h)
 parse_taken faults found (Err (Set at)) none h = (none, h)
 parse_taken faults found (Err Token) none h = (none, h)
+parse_taken faults found (Err Key) none h = (none, h)
 parse_taken faults found (Err OutOfMemory) none h = tt
 
 -- where only memory may be wanting
@@ -51,6 +53,7 @@ parse_without_memory found error CommandLine memory h = absurd (h.1 memory)
 parse_without_memory found error (EventName word) memory h = absurd h
 parse_without_memory found error (Set at) memory h = absurd h
 parse_without_memory found error Token memory h = absurd h
+parse_without_memory found error Key memory h = absurd h
 parse_without_memory found error OutOfMemory memory h = tt
 
 -- what holds of a command holds of the program's

@@ -1,6 +1,7 @@
 pub mod Faults
 pub mod Options
 pub mod StartWords
+pub mod KeyWords
 pub mod Words
 pub mod Lines
 pub mod Sending

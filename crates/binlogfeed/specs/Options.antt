@@ -10,7 +10,7 @@ use Rattle.binlog_select.specs.declared.filter.Filter.{Filter}
 use Rattle.binlog_select.specs.declared.kind.ChangeKind.{ChangeKind}
 use Rattle.binlog_json.specs.Line.{kind_text}
 use Rattle.binlogfeed.specs.declared.words_fault.WordsFault.{WordsFault}
-use Rattle.binlogfeed.specs.declared.words_fault.WordsFault.TheVariants.{Help, CommandLine, EventName, Set, Token, OutOfMemory}
+use Rattle.binlogfeed.specs.declared.words_fault.WordsFault.TheVariants.{Help, CommandLine, EventName, Set, Token, Key, OutOfMemory}
 
 -- the words of a list, which are parted at its commas: an empty text is a list of one empty word
 abbrev pub words_in : Text → List Text
@@ -64,6 +64,7 @@ IsEventFault given (EventName word) = (list : Text) × (given ≡ Some list) × 
 IsEventFault given OutOfMemory = Unit {0}
 IsEventFault given (Set at) = ⊥
 IsEventFault given Token = ⊥
+IsEventFault given Key = ⊥
 IsEventFault given CommandLine = ⊥
 IsEventFault given (Help error) = ⊥
 
@@ -73,6 +74,7 @@ IsSetFault given (Set at) = (text : Text) × (given ≡ Some text) × IsFirstBad
 IsSetFault given OutOfMemory = Unit {0}
 IsSetFault given (EventName word) = ⊥
 IsSetFault given Token = ⊥
+IsSetFault given Key = ⊥
 IsSetFault given CommandLine = ⊥
 IsSetFault given (Help error) = ⊥
 
@@ -87,5 +89,6 @@ AnswersOptions rows (Err (EventName word)) = IsEventFault (event_names rows) (Ev
 AnswersOptions rows (Err (Set at)) = HasKinds rows × IsSetFault (set_text rows) (Set at)
 AnswersOptions rows (Err OutOfMemory) = Unit {0}
 AnswersOptions rows (Err Token) = ⊥
+AnswersOptions rows (Err Key) = ⊥
 AnswersOptions rows (Err CommandLine) = ⊥
 AnswersOptions rows (Err (Help error)) = ⊥

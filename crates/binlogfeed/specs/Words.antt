@@ -8,12 +8,13 @@ use Rattle.clap.specs.declared.error.Error.{Error}
 use Rattle.clap.specs.declared.error.kind.ErrorKind.{ErrorKind}
 use Rattle.clap.specs.declared.error.kind.ErrorKind.TheVariants as kind
 use Rattle.binlog_select.specs.declared.filter.Filter.{Filter}
+use Rattle.binlogfeed.specs.KeyWords.{IsKeyText, IsKeyFault, value_given}
 use Rattle.binlogfeed.specs.Options.{IsFilterOf, AnswersOptions}
 use Rattle.binlogfeed.specs.StartWords.{IsStart, IsTokenFault, token_text}
 use Rattle.binlogfeed.specs.declared.words.Order.{Order}
-use Rattle.binlogfeed.specs.declared.words.Order.TheVariants.{Transactions, Read}
+use Rattle.binlogfeed.specs.declared.words.Order.TheVariants.{Transactions, Read, History}
 use Rattle.binlogfeed.specs.declared.words_fault.WordsFault.{WordsFault}
-use Rattle.binlogfeed.specs.declared.words_fault.WordsFault.TheVariants.{Help, CommandLine, EventName, Set, Token, OutOfMemory}
+use Rattle.binlogfeed.specs.declared.words_fault.WordsFault.TheVariants.{Help, CommandLine, EventName, Set, Token, Key, OutOfMemory}
 
 -- one file or more
 abbrev pub file_rule : Rule
@@ -30,6 +31,13 @@ option_rule name = record (new_rule name) { long = Some name; action = Some acti
 abbrev pub with_option : App → Text → App
 with_option app name = with_rule app (option_rule name)
 
+-- an option that must be given
+abbrev pub required_rule : Text → Rule
+required_rule name = record (option_rule name) { required = true }
+
+abbrev pub with_required : App → Text → App
+with_required app name = with_rule app (required_rule name)
+
 abbrev pub transactions_app : App
 transactions_app = with_rule (new_app (codes "transactions")) file_rule
 
@@ -40,8 +48,14 @@ read_app = with_rule
     (codes "auto-position")) (codes "from"))
     file_rule
 
+abbrev pub history_app : App
+history_app = with_rule
+    (with_required (with_required (with_required (new_app (codes "history")) (codes "schema")) (codes "table")) (codes "key"))
+    file_rule
+
 abbrev pub program_app : App
-program_app = with_subcommand (with_subcommand (new_app (codes "binlogfeed")) transactions_app.top) read_app.top
+program_app =
+    with_subcommand (with_subcommand (with_subcommand (new_app (codes "binlogfeed")) transactions_app.top) read_app.top) history_app.top
 
 abbrev pub texts : List (Bor Text) → List Text
 texts = map (λ word. word.now)
@@ -57,10 +71,15 @@ IsOrder (Transactions files) found =
 IsOrder (Read filter start files) found =
     (rows : List Row) × (found ≡ Some (codes "read", rows))
     × IsFilterOf rows filter × IsStart (token_text rows) start × (texts files.items ≡ files_given rows)
+IsOrder (History schema table key files) found =
+    (rows : List Row) × (found ≡ Some (codes "history", rows))
+    × (schema.now ≡ value_given (codes "schema") rows) × (table.now ≡ value_given (codes "table") rows)
+    × IsKeyText (value_given (codes "key") rows) (string_bytes key) × (texts files.items ≡ files_given rows)
 
 -- the words name no subcommand that the program has
 abbrev pub NamesNone : Option (Text × List Row) → Type 0
-NamesNone found = (rows : List Row) → (found ≢ Some (codes "transactions", rows)) × (found ≢ Some (codes "read", rows))
+NamesNone found =
+    (rows : List Row) → (found ≢ Some (codes "transactions", rows)) × (found ≢ Some (codes "read", rows)) × (found ≢ Some (codes "history", rows))
 
 -- the words name the subcommand `read`, whose options have this fault
 abbrev pub HasOptionFault : Option (Text × List Row) → WordsFault → Type 0
@@ -71,6 +90,10 @@ abbrev pub HasTokenFault : Option (Text × List Row) → WordsFault → Type 0
 HasTokenFault found fault =
     (rows : List Row) × (found ≡ Some (codes "read", rows)) × ((filter : Filter) × IsFilterOf rows filter) × IsTokenFault (token_text rows) fault
 
+-- the words name the subcommand `history`, whose key has this fault
+abbrev pub HasKeyFault : Option (Text × List Row) → WordsFault → Type 0
+HasKeyFault found fault = (rows : List Row) × (found ≡ Some (codes "history", rows)) × IsKeyFault (value_given (codes "key") rows) fault
+
 -- what a subcommand found comes to; memory may be wanting for any
 abbrev pub AnswersFound : Option (Text × List Row) → Result Order WordsFault → Type 0
 AnswersFound found (Ok order) = IsOrder order found
@@ -79,6 +102,7 @@ AnswersFound found (Err CommandLine) = NamesNone found
 AnswersFound found (Err (EventName word)) = HasOptionFault found (EventName word)
 AnswersFound found (Err (Set at)) = HasOptionFault found (Set at)
 AnswersFound found (Err Token) = HasTokenFault found Token
+AnswersFound found (Err Key) = HasKeyFault found Key
 AnswersFound found (Err OutOfMemory) = Unit {0}
 
 -- what an error of the parser comes to
@@ -88,6 +112,7 @@ IsFaultOf given CommandLine = (kind_of given ≢ kind.DisplayHelp) × (kind_of g
 IsFaultOf given (EventName word) = ⊥
 IsFaultOf given (Set at) = ⊥
 IsFaultOf given Token = ⊥
+IsFaultOf given Key = ⊥
 IsFaultOf given OutOfMemory = kind_of given ≡ kind.OutOfMemory
 
 -- a fault that is no call for help
@@ -102,6 +127,7 @@ AnswersParse faults found (Err CommandLine) = HasMistake faults ⊎ ((faults ≡
 AnswersParse faults found (Err (EventName word)) = (faults ≡ []) × HasOptionFault found (EventName word)
 AnswersParse faults found (Err (Set at)) = (faults ≡ []) × HasOptionFault found (Set at)
 AnswersParse faults found (Err Token) = (faults ≡ []) × HasTokenFault found Token
+AnswersParse faults found (Err Key) = (faults ≡ []) × HasKeyFault found Key
 AnswersParse faults found (Err OutOfMemory) = Unit {0}
 
 abbrev pub AnswersWords : List Text → Result Order WordsFault → Type 0
@@ -112,6 +138,7 @@ words_status_of (Help error) = 0
 words_status_of CommandLine = 2
 words_status_of (EventName word) = 2
 words_status_of (Set at) = 2
+words_status_of Key = 2
 words_status_of Token = 3
 words_status_of OutOfMemory = 5
 
@@ -122,4 +149,5 @@ words_text CommandLine = codes "binlogfeed: command line refused"
 words_text (EventName word) = codes "binlogfeed: bad --only-events: " ++ string_bytes word
 words_text (Set at) = codes "binlogfeed: bad --auto-position: element " ++ decimal at
 words_text Token = codes "binlogfeed: token refused: BadToken"
+words_text Key = codes "binlogfeed: bad --key"
 words_text OutOfMemory = codes "binlogfeed: out of memory"

@@ -2,7 +2,7 @@
 ghost use Rattle.std.specs.Prelude.{◌≡◌, IfOk, false};
 ghost use Rattle.clap.specs.Words.{rule_of, app_of};
 ghost use Rattle.clap.specs.declared.builder.command.Command.TheViews.{out-Command as fields_of};
-ghost use Rattle.binlogfeed.specs.Words.{file_rule, option_rule, transactions_app, read_app, program_app};
+ghost use Rattle.binlogfeed.specs.Words.{file_rule, option_rule, required_rule, transactions_app, read_app, history_app, program_app};
 
 use clap::{Arg, ArgAction, Command};
 use std::alloc::{AllocError, Global};
@@ -84,6 +84,30 @@ const AUTO_POSITION_HELP: &str = "No changes of transactions with these GTIDs";
 
 const FROM_HELP: &str = "Only changes behind the one that has this token";
 
+const HISTORY_ABOUT: &str = "Writes the line of each row change that has a key, in log order";
+
+const HISTORY_AFTER: &str = "\
+The lines are those of `binlogfeed read`, of the changes of one table whose row as it was, or
+as it is then, has the key: the row's whole story. An update that changes the key stands in
+the stories of both keys.
+
+A key is a JSON array of the values of the primary key's columns, in the order of the key,
+each as a line has it: integers are numbers, DECIMAL, dates and times are strings, bytes that
+aren't UTF-8 are {\"base64\":\"..\"}. However it is spelled, its compact form is compared. A
+table without a primary key has no keys. Names are compared byte for byte. Write a value that
+begins with `-` as --option=value.
+
+Examples, with a key of one column, of two, and one of bytes that aren't text:
+  binlogfeed history --schema shop --table customer --key '[1]' binlog.000001 binlog.000002
+  binlogfeed history --schema shop --table line --key '[7,2]' binlog.000001
+  binlogfeed history --schema shop --table device --key '[{\"base64\":\"/+4=\"}]' binlog.000001";
+
+const SCHEMA_HELP: &str = "The schema of the table";
+
+const TABLE_HELP: &str = "The table, named without its schema";
+
+const KEY_HELP: &str = "The values of the primary key's columns, as a JSON array";
+
 /// One file or more.
 fn file_argument<'a>(alloc: Global) -> Arg<'a>
     ensures rule { rule_of result ≡ file_rule }
@@ -106,6 +130,14 @@ fn option<'a>(alloc: Global, name: &'a str, value: &'a str, help: &'a str) -> Ar
         .value_name(value)
         .help(help)
         .action(ArgAction::Set)
+}
+
+/// An option that has one value, and must be given.
+fn required_option<'a>(alloc: Global, name: &'a str, value: &'a str, help: &'a str) -> Arg<'a>
+    ensures rule { rule_of result ≡ required_rule name.entry.now }
+    ensures local { result.global ≡ false }
+{
+    option(alloc, name, value, help).required(true)
 }
 
 fn transactions_command<'a>(alloc: Global) -> Result<Command<'a>, AllocError>
@@ -135,6 +167,19 @@ fn read_command<'a>(alloc: Global) -> Result<Command<'a>, AllocError>
         .arg(file_argument(alloc))
 }
 
+fn history_command<'a>(alloc: Global) -> Result<Command<'a>, AllocError>
+    ensures app { IfOk result (λ command. app_of command ≡ history_app) }
+    ensures local { IfOk result (λ command. (fields_of command).has_globals ≡ false) }
+{
+    Command::new(alloc, "history")
+        .about(HISTORY_ABOUT)
+        .after_help(HISTORY_AFTER)
+        .arg(required_option(alloc, "schema", "NAME", SCHEMA_HELP))?
+        .arg(required_option(alloc, "table", "NAME", TABLE_HELP))?
+        .arg(required_option(alloc, "key", "JSON", KEY_HELP))?
+        .arg(file_argument(alloc))
+}
+
 /// The program's command line.
 pub(crate) fn program<'a>(alloc: Global) -> Result<Command<'a>, AllocError>
     ensures { IfOk result (λ command. app_of command ≡ program_app) }
@@ -143,5 +188,6 @@ pub(crate) fn program<'a>(alloc: Global) -> Result<Command<'a>, AllocError>
         .about(ABOUT)
         .after_help(STATUSES)
         .subcommand(transactions_command(alloc)?)?
-        .subcommand(read_command(alloc)?)
+        .subcommand(read_command(alloc)?)?
+        .subcommand(history_command(alloc)?)
 }

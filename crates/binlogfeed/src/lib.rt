@@ -7,6 +7,7 @@ mod ending;
 pub mod fault;
 mod feed_lines;
 pub mod history;
+mod key_words;
 mod names;
 mod opening;
 mod options;

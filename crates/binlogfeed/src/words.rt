@@ -1,9 +1,11 @@
 //! What the words of the command line ask for.
 ghost use Rattle.std.specs.Prelude.{◌≡◌, ◌∷◌, IfOk, codes, true, Some};
 ghost use Rattle.clap.specs.Words.{rows_of, found_of, subcommand_of, subcommand_rows_of, takes};
+ghost use Rattle.binlogfeed.specs.KeyWords.{value_given};
 ghost use Rattle.binlogfeed.specs.Words.{program_app, IsFaultOf, AnswersFound, AnswersWords, texts, files_given};
 
 use crate::commands::program;
+use crate::key_words::key_of;
 use crate::options::{filter_given, text_given};
 use crate::start_words::start_given;
 use crate::words_fault::WordsFault;
@@ -24,6 +26,13 @@ pub enum Order<'a> {
     Read {
         filter: Filter,
         start: Start,
+        files: Vec<&'a str>,
+    },
+    /// A line for each row change of these files that is of this table and has this key.
+    History {
+        schema: &'a str,
+        table: &'a str,
+        key: String,
         files: Vec<&'a str>,
     },
 }
@@ -62,6 +71,8 @@ fn order_of<'a>(alloc: Global, matches: &ArgMatches<'a>) -> Result<Order<'a>, Wo
         transactions(alloc, inner)
     } else if name == "read" {
         read(alloc, inner)
+    } else if name == "history" {
+        history(alloc, inner)
     } else {
         Err(WordsFault::CommandLine)
     }
@@ -85,6 +96,26 @@ fn read<'a>(alloc: Global, matches: &ArgMatches<'a>) -> Result<Order<'a>, WordsF
         start,
         files,
     })
+}
+
+fn history<'a>(alloc: Global, matches: &ArgMatches<'a>) -> Result<Order<'a>, WordsFault>
+    ensures { AnswersFound (Some (codes "history", rows_of (found_of matches.now))) result }
+{
+    let key = key_of(alloc, value_of(matches, "key"))?;
+    let files = files(alloc, matches)?;
+    Ok(Order::History {
+        schema: value_of(matches, "schema"),
+        table: value_of(matches, "table"),
+        key,
+        files,
+    })
+}
+
+/// The value of an option that must be given.
+fn value_of<'a>(matches: &ArgMatches<'a>, id: &str) -> &'a str
+    ensures { result.now ≡ value_given id.now (rows_of (found_of matches.now)) }
+{
+    text_given(matches, id).unwrap_or("")
 }
 
 /// The values of FILE.

@@ -18,6 +18,8 @@ pub enum WordsFault {
     Set(usize),
     /// The text of `--from` is no token.
     Token,
+    /// The text of `--key` is no key.
+    Key,
     /// A growth was refused.
     OutOfMemory,
 }
@@ -48,7 +50,8 @@ pub fn words_status(fault: &WordsFault) -> u8
 {
     match fault {
         WordsFault::Help(_) => 0,
-        WordsFault::CommandLine | WordsFault::EventName(_) | WordsFault::Set(_) => 2,
+        WordsFault::CommandLine | WordsFault::EventName(_) => 2,
+        WordsFault::Set(_) | WordsFault::Key => 2,
         WordsFault::Token => 3,
         WordsFault::OutOfMemory => 5,
     }
@@ -65,6 +68,7 @@ pub fn words_line(fault: &WordsFault, line: &mut String) -> Result<(), AllocErro
         WordsFault::EventName(word) => write!(line, "binlogfeed: bad --only-events: {word}"),
         WordsFault::Set(at) => write!(line, "binlogfeed: bad --auto-position: element {at}"),
         WordsFault::Token => write!(line, "binlogfeed: token refused: BadToken"),
+        WordsFault::Key => write!(line, "binlogfeed: bad --key"),
         WordsFault::OutOfMemory => write!(line, "binlogfeed: out of memory"),
     }
 }
