@@ -17,7 +17,7 @@ STATUSES = {
 
 # What each help has to name, each at the beginning of a line and with some words about it.
 NAMED = {
-    "": ("  transactions", "  read"),
+    "": ("  transactions", "  read", "  history"),
     "transactions": ("Usage: binlogfeed transactions <file>...", "  <file>...", "Example:", "  binlogfeed transactions /"),
     "read": (
         "Usage: binlogfeed read [OPTIONS] <file>...",
@@ -37,6 +37,17 @@ NAMED = {
         "  token",
         "Examples:",
         "  binlogfeed read --",
+    ),
+    "history": (
+        "Usage: binlogfeed history --schema <NAME> --table <NAME> --key <JSON> <file>...",
+        "  <file>...",
+        "      --schema <NAME>",
+        "      --table <NAME>",
+        "      --key <JSON>",
+        "Examples",
+        "  binlogfeed history --schema shop --table customer --key '[1]' ",
+        "  binlogfeed history --schema shop --table line --key '[7,2]' ",
+        "  binlogfeed history --schema shop --table device --key '[{\"base64\":\"/+4=\"}]' ",
     ),
 }
 

@@ -10,7 +10,7 @@ from built.check import Check, Wanted, differs, run, said
 ROWS = Path(__file__).resolve().parent.parent / "rows.jsonl"
 
 # What isn't built yet. The rows that need one of these are set aside; whoever builds it takes its word off.
-NOT_BUILT = ("history",)
+NOT_BUILT: tuple[str, ...] = ()
 
 
 class Row(NamedTuple):

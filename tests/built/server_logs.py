@@ -1,6 +1,8 @@
 """Logs that a real server wrote: the shop's, with its lines, and the bank's, with the rows that its tables had at the end."""
 import json
+import shlex
 from functools import partial
+from itertools import takewhile
 from pathlib import Path
 
 from built.check import Check, Wanted, differs, run
@@ -11,6 +13,9 @@ BANK = TOP / "tests/bank"
 
 # The primary key of each of the bank's tables.
 KEYS = {"account": "id", "journal": "seq"}
+
+# The columns of the primary key of each of the shop's tables, in key order, as its statements.sql has them.
+SHOP_KEYS = {"customer": ("id",), "product": ("sku",), "purchase": ("id",), "line": ("purchase", "nr")}
 
 Row = dict[str, object]
 Tables = dict[tuple[str, object], Row]
@@ -25,6 +30,39 @@ def judge_shop(subcommand: str, lines: str, program: Path, folder: Path) -> list
     """The shop's lines, byte for byte."""
     wanted = (SHOP / lines).read_bytes()
     return differs(run(program, [subcommand, *logs_of(SHOP)], folder), Wanted(0, wanted))
+
+
+def keys_of(change: dict) -> list[str]:
+    """The keys of a change of the shop's, as JSON: one, or two where it changes the key."""
+    images = [image for image in (change["before"], change["after"]) if image]
+    keys = [json.dumps([image[column] for column in SHOP_KEYS[change["table"]]]) for image in images]
+    return sorted(set(keys))
+
+
+def judge_stories(table: str, program: Path, folder: Path) -> list[str]:
+    """The story of each key of a table of the shop's is those of the shop's lines whose row has the key, in their order."""
+    lines = (SHOP / "read.jsonl").read_bytes().splitlines(keepends=True)
+    stories: dict[str, bytes] = {}
+    for line in lines:
+        change = json.loads(line)
+        for key in keys_of(change) if change["table"] == table else []:
+            stories[key] = stories.get(key, b"") + line
+    reasons = [] if stories else [f"no line is of the table {table}"]
+    for key, story in stories.items():
+        words = ["history", "--schema", "shop", "--table", table, "--key", key]
+        reasons += [f"{key}: {reason}" for reason in differs(run(program, [*words, *logs_of(SHOP)], folder), Wanted(0, story))]
+    return reasons
+
+
+def judge_told(program: Path, folder: Path) -> list[str]:
+    """The story that README.md tells, by its command: the lines that stand below it."""
+    lines = (TOP / "README.md").read_text(encoding="utf-8").splitlines()
+    at = next(number for number, line in enumerate(lines) if line.startswith("    ./binlogfeed history "))
+    words = [str(TOP / word) if word.startswith("examples/") else word for word in shlex.split(lines[at])[1:]]
+    told = takewhile(lambda line: line.startswith("    {"), lines[at + 2 :])
+    wanted = "".join(f"{line.strip()}\n" for line in told)
+    reasons = [] if wanted else ["no line stands below the command"]
+    return reasons + differs(run(program, words, folder), Wanted(0, wanted.encode()))
 
 
 def final_rows() -> Tables:
@@ -81,6 +119,8 @@ def checks() -> list[Check]:
     return [
         Check("the shop's changes", partial(judge_shop, "read", "read.jsonl")),
         Check("the shop's transactions", partial(judge_shop, "transactions", "transactions.tsv")),
+        *[Check(f"the shop's stories of {table}", partial(judge_stories, table)) for table in SHOP_KEYS],
+        Check("the story in README.md", judge_told),
         Check("the bank's tables", judge_bank),
         Check("the bank's transactions", judge_bank_units),
     ]
