@@ -1,4 +1,4 @@
-"""The cases over the shop's logs, which the program `cases` judges by itself."""
+"""The cases over the shop's logs, which the program `reader_cases` judges by itself."""
 import re
 import subprocess
 from pathlib import Path
@@ -8,7 +8,7 @@ from built.check import SECONDS, Check
 TOP = Path(__file__).resolve().parents[2]
 SHOP = TOP / "examples/shop"
 CASES = TOP / "tests/shop.cases"
-PROGRAMS = [TOP / "crates/cases/out/cases", TOP / "crates/cases/out/cases.by-rattle"]
+PROGRAMS = [TOP / "crates/reader_cases/out/reader_cases", TOP / "crates/reader_cases/out/reader_cases.by-rattle"]
 # The last line: how many cases there were, with other counts, of which those of what is wrong are 0.
 LAST = re.compile(r"cases=[1-9]\d*( verbs=[1-9]\d*)? differing=0( bad_lines=0)?")
 

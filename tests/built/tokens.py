@@ -21,6 +21,9 @@ REASONS = 4
 # Of the bank's lines every one is gone on from over its own files, and one of so many over other lists and with filters.
 STEP = 8
 
+# So much memory is given to a run, in KiB: from too little to start the program to more than it needs.
+SPACES = range(1 << 10, 1 << 15, 1 << 7)
+
 # Where a transaction is cut in two: behind its first events.
 BEGUN = 150
 
@@ -184,6 +187,33 @@ def judge_head(logs: Logs, program: Path, folder: Path) -> list[str]:
     return differs(rest._replace(stdout=head + rest.stdout), Wanted(0, whole.stdout))
 
 
+def judge_little_memory(logs: Logs, program: Path, folder: Path) -> list[str]:
+    """A run behind the first line's token in more and more memory: out of memory behind a beginning of the lines, until all come."""
+    paths = put_logs(folder, logs)
+    options = ["--from", place_in(read(program, folder, paths).stdout.splitlines()[0]).token()]
+    whole = read(program, folder, paths, *options)
+    refused = 0
+    for kibibytes in SPACES:
+        script = f'ulimit -v {kibibytes}; exec "$0" read "$@"'
+        words = ["sh", "-c", script, program, *options, *paths]
+        shell = subprocess.run(words, cwd=folder, stdin=subprocess.DEVNULL, capture_output=True, timeout=SECONDS, check=False)
+        came = Outcome(shell.returncode, shell.stdout, shell.stderr)
+        if came == whole and refused:
+            return []
+        if came.status == 5:
+            refused += 1
+            begun = whole.stdout.startswith(came.stdout) and came.stdout[-1:] in (b"", b"\n")
+            reasons = [] if begun else ["its lines are no beginning"]
+            # The line on standard error needs memory, too.
+            reasons += differs(came, Wanted(5, None, said("out of memory"))) if came.stderr else []
+        else:
+            # In too little memory the system doesn't start the program.
+            reasons = ["it didn't go on"] if refused else []
+        if reasons:
+            return [f"in {kibibytes} KiB", *reasons]
+    return ["it was never refused memory, or never came to its end"]
+
+
 def judge_worked(logs: Logs, token: str, wanted: Wanted, program: Path, folder: Path) -> list[str]:
     """A token over worked logs."""
     return differs(read(program, folder, put_logs(folder, logs), f"--from={token}"), wanted)
@@ -298,6 +328,7 @@ def server_checks(what: str, logs: Logs, step: int, filters: tuple[tuple[str, ..
         *[Check(f"{what}: {title(one)}", partial(judge_continued, one)) for one in lists],
         *[Check(f"{what}: near the transactions of {name}", partial(judge_units, logs, name)) for name in told],
         Check(f"{what}: five lines and what follows", partial(judge_head, logs)),
+        Check(f"{what}: little memory behind a token", partial(judge_little_memory, logs)),
     ]
 
 

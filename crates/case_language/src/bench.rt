@@ -1,0 +1,198 @@
+//! The pieces and the case that the lines so far have described, and how many came out as they have to.
+use crate::case::Case;
+use crate::count::Count;
+use crate::lines::{Refused, words_of};
+use crate::pieces::Pieces;
+use crate::verbs::{Verbs, Verdict};
+use std::alloc::Global;
+use std::rt::Files;
+
+/// Whether a case's `want` lines were judged by a verb.
+#[derive(Clone, Copy)]
+enum Wants {
+    /// There are none yet.
+    Missing,
+    /// No verb stands behind the last of them.
+    Open,
+    /// A verb has judged them.
+    Judged,
+}
+
+#[derive(Drop)]
+pub struct Bench {
+    pieces: Pieces,
+    case: Option<Case>,
+    wants: Wants,
+    count: Count,
+}
+
+impl Bench {
+    pub fn new(alloc: Global) -> Bench {
+        Bench {
+            pieces: Pieces::new(alloc),
+            case: None,
+            wants: Wants::Judged,
+            count: Count::NOTHING,
+        }
+    }
+
+    pub fn count(&self) -> Count {
+        self.count
+    }
+
+    /// Counts a line that couldn't be carried out.
+    pub fn count_bad_line(&mut self) {
+        self.count.bad_lines = self.count.bad_lines.saturating_add(1);
+    }
+
+    /// Takes a line in, and gives what there is to say of it.
+    pub fn take<R: Files + AllocGlobal, V: Verbs>(
+        &mut self,
+        rt: &R,
+        verbs: &V,
+        line: &str,
+    ) -> Result<Option<String>, Refused> {
+        let (word, rest) = line.split_once(' ').unwrap_or((line, ""));
+        match word {
+            "" | "#" => {}
+            "case" => self.begin(rt.alloc(), rest)?,
+            "want" => self.want(rest)?,
+            _ => {
+                let words = words_of(rt.alloc(), rest)?;
+                return self.take_words(rt, verbs, line, word, &words);
+            }
+        }
+        Ok(None)
+    }
+
+    /// A line whose first word has words behind it.
+    fn take_words<R: Files + AllocGlobal, V: Verbs>(
+        &mut self,
+        rt: &R,
+        verbs: &V,
+        line: &str,
+        word: &str,
+        words: &[String],
+    ) -> Result<Option<String>, Refused> {
+        match word {
+            "piece" => self.pieces.take_piece(rt.alloc(), words)?,
+            "event" => self.pieces.take_event(rt.alloc(), words)?,
+            "log" => self.take_log(rt.alloc(), words)?,
+            _ => return self.take_setting_or_verb(rt, verbs, line, word, words),
+        }
+        Ok(None)
+    }
+
+    /// Ends a file. The pieces of a file without cases stay for all files to come.
+    pub fn end_file(&mut self) -> Result<(), Refused> {
+        if self.case.is_none() {
+            self.pieces.keep_for_all();
+            return Ok(());
+        }
+        let ended = self.end_case();
+        self.pieces.end_file();
+        ended
+    }
+
+    /// Ends the case that stands: each `want` must have had a verb.
+    fn end_case(&mut self) -> Result<(), Refused> {
+        let wants = self.wants;
+        self.case = None;
+        self.wants = Wants::Judged;
+        self.pieces.end_case();
+        match wants {
+            Wants::Judged => Ok(()),
+            Wants::Open => Err(Refused::WantLeft),
+            Wants::Missing => Err(Refused::NoVerb),
+        }
+    }
+
+    /// `case NAME`: ends the one before. The pieces in front of the first case are for all cases of the file.
+    fn begin(&mut self, alloc: Global, name: &str) -> Result<(), Refused> {
+        if self.case.is_none() {
+            self.pieces.keep_for_file();
+        }
+        let ended = self.end_case();
+        self.case = Some(Case::new(alloc, name)?);
+        self.wants = Wants::Missing;
+        self.count.cases = self.count.cases.saturating_add(1);
+        ended
+    }
+
+    /// `want TEXT`: a line that has to come. The first one behind a verb begins anew.
+    fn want(&mut self, line: &str) -> Result<(), Refused> {
+        let Some(case) = &mut self.case else {
+            return Err(Refused::NoCase);
+        };
+        case.want(line, matches!(&self.wants, Wants::Open))?;
+        self.wants = Wants::Open;
+        Ok(())
+    }
+
+    /// `log NAME PART..`: a file of the case.
+    fn take_log(&mut self, alloc: Global, words: &[String]) -> Result<(), Refused> {
+        let Some((name, parts)) = words.split_first() else {
+            return Err(Refused::BadPart);
+        };
+        let bytes = self.pieces.bytes_of(alloc, parts)?;
+        match &mut self.case {
+            None => Err(Refused::NoCase),
+            Some(case) => case.add_file(alloc, name.as_str(), bytes),
+        }
+    }
+
+    fn take_setting_or_verb<R: Files + AllocGlobal, V: Verbs>(
+        &mut self,
+        rt: &R,
+        verbs: &V,
+        line: &str,
+        word: &str,
+        words: &[String],
+    ) -> Result<Option<String>, Refused> {
+        let Some(case) = &mut self.case else {
+            return Err(Refused::NoCase);
+        };
+        if case.set(word, words)? {
+            return Ok(None);
+        }
+        let verdict = verbs.carry_out(rt, &self.pieces, case, word, words)?;
+        self.judged(rt.alloc(), line, verdict)
+    }
+
+    /// Takes in what came of a verb.
+    fn judged(
+        &mut self,
+        alloc: Global,
+        line: &str,
+        verdict: Verdict,
+    ) -> Result<Option<String>, Refused> {
+        if matches!(&self.wants, Wants::Missing) {
+            return Err(Refused::NothingWanted);
+        }
+        self.wants = Wants::Judged;
+        self.count.verbs = self.count.verbs.saturating_add(1);
+        if matches!(&verdict, Verdict::Differs { .. }) {
+            self.count.differing = self.count.differing.saturating_add(1);
+        }
+        match &self.case {
+            Some(case) => said(alloc, case, line, &verdict),
+            None => Err(Refused::NoCase),
+        }
+    }
+}
+
+/// What there is to say of a verb.
+fn said(
+    alloc: Global,
+    case: &Case,
+    line: &str,
+    verdict: &Verdict,
+) -> Result<Option<String>, Refused> {
+    let (name, wanted) = (case.name.as_str(), case.wanted.as_str());
+    Ok(Some(match verdict {
+        Verdict::Well { runs } => format!(in alloc; "ok {name}: {line}, {runs} runs")?,
+        Verdict::Differs { came } => format!(in alloc;
+            "DIFFERS {name}: {line}\ncame:\n{came}wanted:\n{wanted}"
+        )?,
+    }))
+}

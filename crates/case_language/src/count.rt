@@ -1,0 +1,32 @@
+//! How many lines there were, and how they came out.
+use std::fmt;
+
+/// How many cases and verbs there were, and how many of them came out badly.
+#[derive(Clone, Copy)]
+pub struct Count {
+    pub cases: u64,
+    pub verbs: u64,
+    pub differing: u64,
+    pub bad_lines: u64,
+}
+
+impl Count {
+    /// There were none yet.
+    pub const NOTHING: Count = Count {
+        cases: 0,
+        verbs: 0,
+        differing: 0,
+        bad_lines: 0,
+    };
+}
+
+impl fmt::Display for Count {
+    fn fmt<W: fmt::Write>(&self, f: &mut fmt::Formatter<W>) -> fmt::Result {
+        let (cases, verbs) = (self.cases, self.verbs);
+        let (differing, bad_lines) = (self.differing, self.bad_lines);
+        write!(
+            f,
+            "cases={cases} verbs={verbs} differing={differing} bad_lines={bad_lines}"
+        )
+    }
+}

@@ -1,0 +1,21 @@
+//! The language of cases: lines of text that describe files, what has to come of them, and what is done. A program of cases gives the
+//! verbs.
+#![tactic(auto)]
+
+mod bench;
+mod case;
+mod count;
+mod judging;
+mod lines;
+mod memory;
+mod pieces;
+mod settings;
+mod verbs;
+mod wide;
+
+pub use case::{Case, Full, Named, Reads, Room, SMALL_WINDOW};
+pub use judging::judge_input;
+pub use lines::{Refused, number, only_word};
+pub use memory::{copies_of, source};
+pub use pieces::{Pieces, push_event};
+pub use verbs::{Verbs, Verdict};

@@ -1,0 +1,196 @@
+//! Headers, and the bodies that are read without a table map.
+use binlog_frame::{Class, Header, kind, read_gtid, read_query, read_rotate, read_xid};
+use case_language::{Pieces, Refused, number, only_word};
+use std::alloc::Global;
+use std::fmt::Write;
+use uuid::Uuid;
+
+/// Bytes as text where they are some, and otherwise as hex digits.
+fn show_bytes(line: &mut String, bytes: &[u8]) -> Result<(), Refused> {
+    match str::from_utf8(bytes) {
+        Ok(text) => write!(line, "{text:?}")?,
+        Err(_) => {
+            for byte in bytes {
+                write!(line, "{byte:02x}")?;
+            }
+        }
+    }
+    Ok(())
+}
+
+/// A header's parts but for its length, and its class.
+pub fn show_header(line: &mut String, header: &Header) -> Result<(), Refused> {
+    let (kind, class, timestamp) = (header.kind, header.class(), header.timestamp);
+    let (server, next, flags) = (header.server_id, header.next_position, header.flags);
+    write!(
+        line,
+        "kind {kind}, {class:?}, time {timestamp}, server {server}, next {next}, flags {flags}"
+    )?;
+    Ok(())
+}
+
+/// A GTID by the bytes of its source.
+fn show_gtid(line: &mut String, kind: u8, body: &[u8]) -> Result<(), Refused> {
+    if kind != kind::GTID && kind != kind::ANONYMOUS_GTID {
+        return Err(Refused::BadPart);
+    }
+    match read_gtid(kind, body) {
+        Err(_) => line.push_str(", BadBody")?,
+        Ok(gtid) => match Uuid::from_slice(gtid.source) {
+            Ok(source) => write!(line, ", GTID {source}:{}", gtid.number)?,
+            Err(_) => line.push_str(", a source of another length")?,
+        },
+    }
+    Ok(())
+}
+
+fn show_query(line: &mut String, body: &[u8]) -> Result<(), Refused> {
+    match read_query(body) {
+        Err(_) => line.push_str(", BadBody")?,
+        Ok(query) => {
+            line.push_str(", in ")?;
+            show_bytes(line, query.schema)?;
+            line.push_str(": ")?;
+            show_bytes(line, query.text)?;
+        }
+    }
+    Ok(())
+}
+
+fn show_rotate(line: &mut String, body: &[u8]) -> Result<(), Refused> {
+    match read_rotate(body) {
+        Err(_) => line.push_str(", BadBody")?,
+        Ok(rotate) => {
+            write!(line, ", to {} of ", rotate.position)?;
+            show_bytes(line, rotate.name)?;
+        }
+    }
+    Ok(())
+}
+
+fn show_xid(line: &mut String, body: &[u8]) -> Result<(), Refused> {
+    match read_xid(body) {
+        Err(_) => line.push_str(", BadBody")?,
+        Ok(number) => write!(line, ", XID {number}")?,
+    }
+    Ok(())
+}
+
+/// What the body of an event of a kind says; nothing of a kind that isn't read without a table map.
+pub fn show_body(line: &mut String, kind: u8, body: &[u8]) -> Result<(), Refused> {
+    match kind {
+        kind::QUERY => show_query(line, body),
+        kind::ROTATE => show_rotate(line, body),
+        kind::XID => show_xid(line, body),
+        kind::GTID | kind::ANONYMOUS_GTID => show_gtid(line, kind, body),
+        _ => Ok(()),
+    }
+}
+
+/// The kind that a word names.
+fn kind_of(word: &str) -> Result<u8, Refused> {
+    match u8::try_from(number(word)?) {
+        Ok(kind) => Ok(kind),
+        Err(_) => Err(Refused::BadPart),
+    }
+}
+
+/// `header PART..`: the parts of a header, and its class.
+pub fn header_text(alloc: Global, bytes: &[u8]) -> Result<String, Refused> {
+    if bytes.len() != Header::LEN {
+        return Err(Refused::BadPart);
+    }
+    let mut head = [0u8; 19];
+    head.copy_from_slice(bytes);
+    let header = Header::read(&head);
+    let mut text = String::new(alloc);
+    write!(&mut text, "length {}, ", header.length)?;
+    show_header(&mut text, &header)?;
+    text.push('\n')?;
+    Ok(text)
+}
+
+/// `body KIND PART..`: what the body of an event of that kind says.
+pub fn body_text(alloc: Global, pieces: &Pieces, words: &[String]) -> Result<String, Refused> {
+    let Some((kind, parts)) = words.split_first() else {
+        return Err(Refused::BadPart);
+    };
+    let bytes = pieces.bytes_of(alloc, parts)?;
+    let mut text = String::new(alloc);
+    write!(&mut text, "kind {kind}")?;
+    show_body(&mut text, kind_of(kind.as_str())?, bytes.as_slice())?;
+    text.push('\n')?;
+    Ok(text)
+}
+
+/// The numbers at which a list has `true`, neighbours as a range.
+fn show_ranges(text: &mut String, members: &[bool]) -> Result<(), Refused> {
+    for (number, is_member) in members.iter().enumerate() {
+        let follows = members.get(number.wrapping_sub(1)) == Some(&true);
+        let goes_on = members.get(number.saturating_add(1)) == Some(&true);
+        if *is_member && !follows {
+            write!(text, " {number}")?;
+        } else if *is_member && !goes_on {
+            write!(text, "-{number}")?;
+        }
+    }
+    text.push('\n')?;
+    Ok(())
+}
+
+fn has_reading(alloc: Global, kind: u8, body: &[u8]) -> Result<bool, Refused> {
+    let mut text = String::new(alloc);
+    show_body(&mut text, kind, body)?;
+    Ok(text.as_str() != ", BadBody")
+}
+
+/// `lengths KIND PART..`: which beginnings of a body have a reading, by their lengths.
+pub fn lengths_text(alloc: Global, pieces: &Pieces, words: &[String]) -> Result<String, Refused> {
+    let Some((kind, parts)) = words.split_first() else {
+        return Err(Refused::BadPart);
+    };
+    let kind = kind_of(kind.as_str())?;
+    let bytes = pieces.bytes_of(alloc, parts)?;
+    let mut readable = Vec::new(alloc);
+    for length in 0..=bytes.len() {
+        readable.push(has_reading(alloc, kind, &bytes[..length])?)?;
+    }
+    let mut text = String::from_str(alloc, "readable")?;
+    show_ranges(&mut text, readable.as_slice())?;
+    Ok(text)
+}
+
+/// The class of a kind, where a header has these flags.
+fn class_of(kind: u8, flags: u16) -> Class {
+    let header = Header {
+        timestamp: 0,
+        kind,
+        server_id: 0,
+        length: 0,
+        next_position: 0,
+        flags,
+    };
+    header.class()
+}
+
+/// `kinds FLAGS`: the kinds of each class, where a header has these flags.
+pub fn kinds_text(alloc: Global, words: &[String]) -> Result<String, Refused> {
+    let Ok(flags) = u16::try_from(number(only_word(words)?)?) else {
+        return Err(Refused::BadPart);
+    };
+    let mut text = String::new(alloc);
+    for class in [
+        Class::Transaction,
+        Class::End,
+        Class::Skipped,
+        Class::OutOfProfile,
+    ] {
+        let mut members = Vec::new(alloc);
+        for kind in 0..=255u8 {
+            members.push(class_of(kind, flags) == class)?;
+        }
+        write!(&mut text, "{class:?}")?;
+        show_ranges(&mut text, members.as_slice())?;
+    }
+    Ok(text)
+}

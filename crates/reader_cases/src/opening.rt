@@ -1,0 +1,102 @@
+//! Files of the system: their names and lengths, and what the layers tell of them.
+use crate::reading::tell_source;
+use crate::reads::show_names;
+use crate::watched::{Seen, Watched};
+use crate::ways::{Layer, Reading};
+use binlog_frame::{FileLogs, OpenFault};
+use case_language::{Case, Named, Refused, Verdict};
+use std::alloc::Global;
+use std::cell::Cell;
+use std::fmt::Write;
+use std::fs;
+use std::rt::Files;
+
+/// `open WHAT PATH..`: opens files, and tells their names, or what a layer reads of them.
+pub fn judge_open<R: Files + AllocGlobal>(
+    rt: &R,
+    case: &Case,
+    words: &[String],
+) -> Result<Verdict, Refused> {
+    let Some((what, paths)) = words.split_first() else {
+        return Err(Refused::BadPart);
+    };
+    let mut borrowed: Vec<&str> = Vec::new(rt.alloc());
+    for path in paths {
+        borrowed.push(path.as_str())?;
+    }
+    match what.as_str() {
+        "names" => Ok(Verdict::of(case, names_at(rt, &borrowed)?)),
+        layer => {
+            let layer = Layer::of(layer)?;
+            each_window(rt, case, layer, &borrowed, &held_at(rt, &borrowed)?)
+        }
+    }
+}
+
+/// Opens files. What they hold is not known.
+fn opened<R: Files>(rt: &R, alloc: Global, paths: &[&str]) -> Result<FileLogs<R::File>, OpenFault> {
+    FileLogs::open(rt, alloc, paths)
+}
+
+/// The names and lengths of files, or why they weren't opened.
+fn names_at<R: Files + AllocGlobal>(rt: &R, paths: &[&str]) -> Result<String, Refused> {
+    let mut text = String::new(rt.alloc());
+    match opened(rt, rt.alloc(), paths) {
+        Ok(logs) => show_names(&mut text, &logs)?,
+        Err(fault) => write!(&mut text, "{fault:?}\n")?,
+    }
+    Ok(text)
+}
+
+/// What the files of paths hold.
+fn held_at<R: Files + AllocGlobal>(rt: &R, paths: &[&str]) -> Result<Vec<Named>, Refused> {
+    let mut held = Vec::new(rt.alloc());
+    for path in paths {
+        match fs::read(rt, *path) {
+            Ok(bytes) => held.push((String::from_str(rt.alloc(), path)?, bytes))?,
+            Err(_) => return Err(Refused::UnknownName),
+        }
+    }
+    Ok(held)
+}
+
+/// Reads the files of paths with each of the case's windows.
+fn each_window<R: Files + AllocGlobal>(
+    rt: &R,
+    case: &Case,
+    layer: Layer,
+    paths: &[&str],
+    held: &[Named],
+) -> Result<Verdict, Refused> {
+    let mut runs = 0u64;
+    for window in &case.windows {
+        let reading = Reading::plain(layer, case.reads, *window);
+        let came = tell_at(rt, paths, held, reading)?;
+        if !case.wants(came.as_str()) {
+            return Ok(Verdict::Differs { came });
+        }
+        runs = runs.saturating_add(1);
+    }
+    Ok(Verdict::Well { runs })
+}
+
+/// What a layer tells of the files of paths.
+fn tell_at<R: Files + AllocGlobal>(
+    rt: &R,
+    paths: &[&str],
+    held: &[Named],
+    reading: Reading<'_>,
+) -> Result<String, Refused> {
+    let seen = Cell::new(Seen::NOTHING);
+    match opened(rt, rt.alloc(), paths) {
+        Err(_) => Err(Refused::UnknownName),
+        Ok(files) => {
+            let logs = Watched {
+                files,
+                seen: &seen,
+                turning: reading.turning,
+            };
+            Ok(tell_source(rt.alloc(), logs, &seen, held, reading)?.text)
+        }
+    }
+}

@@ -1,0 +1,169 @@
+//! Frames, units and the feed over a case's files, step by step.
+use crate::frames::{Pass, Shown};
+use crate::starts::open_feed;
+use crate::steps::{Told, tell_all};
+use crate::sweeps::sweep;
+use crate::watched::{Seen, Watched};
+use crate::ways::{Layer, Reading, Way};
+use binlog_feed::Units;
+use binlog_frame::Logs;
+use case_language::{Case, Named, Refused, SMALL_WINDOW, Verdict, copies_of, source};
+use std::alloc::Global;
+use std::cell::Cell;
+
+/// What a layer tells of files in memory.
+pub fn tell(alloc: Global, files: &[Named], reading: Reading<'_>) -> Result<Told, Refused> {
+    let seen = Cell::new(Seen::NOTHING);
+    let logs = Watched {
+        files: source(copies_of(alloc, files)?, reading.reads)?,
+        seen: &seen,
+        turning: reading.turning,
+    };
+    tell_source(alloc, logs, &seen, files, reading)
+}
+
+/// What a layer tells of a source that holds these files, and whose reads are seen.
+pub fn tell_source<L: Logs + Drop>(
+    alloc: Global,
+    logs: L,
+    seen: &Cell<Seen>,
+    held: &[Named],
+    reading: Reading<'_>,
+) -> Result<Told, Refused> {
+    let mut told = Told::new(alloc, reading.way.shows_refusals());
+    match reading.layer {
+        Layer::Frames(shown) => tell_frames(alloc, logs, seen, held, shown, reading, &mut told)?,
+        Layer::Units => tell_units(alloc, logs, seen, reading.window, &mut told)?,
+        Layer::Feed => tell_feed(alloc, logs, seen, reading, &mut told)?,
+    }
+    told.note_reads(seen);
+    Ok(told)
+}
+
+fn tell_frames<L: Logs + Drop>(
+    alloc: Global,
+    logs: L,
+    seen: &Cell<Seen>,
+    held: &[Named],
+    shown: Shown,
+    reading: Reading<'_>,
+    told: &mut Told,
+) -> Result<(), Refused> {
+    let count = logs.count();
+    let window = vec![in alloc; 0u8; reading.window]?;
+    match Pass::begin(logs, window, held, shown, reading.way.goes_back()) {
+        None => Ok(()),
+        Some(mut pass) => tell_files(alloc, &mut pass, count, seen, told),
+    }
+}
+
+/// What a pass over so many files tells.
+fn tell_files<L: Logs + Drop>(
+    alloc: Global,
+    pass: &mut Pass<'_, L>,
+    count: usize,
+    seen: &Cell<Seen>,
+    told: &mut Told,
+) -> Result<(), Refused> {
+    for _ in 0..count {
+        tell_all(alloc, pass, seen, told)?;
+        if !pass.turn() {
+            break;
+        }
+    }
+    Ok(())
+}
+
+fn tell_units<L: Logs + Drop>(
+    alloc: Global,
+    logs: L,
+    seen: &Cell<Seen>,
+    window: usize,
+    told: &mut Told,
+) -> Result<(), Refused> {
+    let bytes = vec![in alloc; 0u8; window]?;
+    match Units::open(alloc, logs, bytes) {
+        Ok(mut units) => tell_all(alloc, &mut units, seen, told),
+        Err((fault, _logs, back)) => {
+            told.compare_windows(window, back.len())?;
+            told.note_opening(fault, false, seen)
+        }
+    }
+}
+
+fn tell_feed<L: Logs + Drop>(
+    alloc: Global,
+    logs: L,
+    seen: &Cell<Seen>,
+    reading: Reading<'_>,
+    told: &mut Told,
+) -> Result<(), Refused> {
+    match open_feed(alloc, logs, seen, reading, told)? {
+        None => Ok(()),
+        Some(_feed) if reading.way.only_opens() => told.note("opened", seen.get().reach),
+        Some(mut feed) => tell_all(alloc, &mut feed, seen, told),
+    }
+}
+
+/// `frames`, `events`, `units` and `feed`, with a word for the way of reading and options of a filter behind it.
+pub fn judge_reading(
+    alloc: Global,
+    case: &Case,
+    verb: &str,
+    words: &[String],
+) -> Result<Verdict, Refused> {
+    let layer = Layer::of(verb)?;
+    let (word, options) = way_of(words);
+    if !is_offered(layer, word, options) {
+        return Err(Refused::UnknownWord);
+    }
+    let way = Way::of(word);
+    let reading = Reading {
+        way,
+        options,
+        ..Reading::plain(layer, case.reads, SMALL_WINDOW)
+    };
+    match way {
+        Way::Swept => sweep(alloc, case, word, reading),
+        _ => each_window(alloc, case, reading),
+    }
+}
+
+/// Whether a layer can be read in a way, with options.
+fn is_offered(layer: Layer, way: &str, options: &[String]) -> bool {
+    match layer {
+        Layer::Frames(_) => options.is_empty() && way != "each-turn" && way != "opened",
+        Layer::Units => {
+            options.is_empty() && way != "back" && way != "each-turn" && way != "opened"
+        }
+        Layer::Feed => way != "back",
+    }
+}
+
+/// The word for the way of reading, if there is one, and the options behind it.
+fn way_of(words: &[String]) -> (&str, &[String]) {
+    match words {
+        [way, options @ ..] if !way.as_str().starts_with("--") => (way.as_str(), options),
+        _ => ("", words),
+    }
+}
+
+/// Reads with each of the case's windows.
+fn each_window(alloc: Global, case: &Case, reading: Reading<'_>) -> Result<Verdict, Refused> {
+    let mut runs = 0u64;
+    for window in &case.windows {
+        let told = tell(
+            alloc,
+            &case.files,
+            Reading {
+                window: *window,
+                ..reading
+            },
+        )?;
+        if !case.wants(told.text.as_str()) {
+            return Ok(Verdict::Differs { came: told.text });
+        }
+        runs = runs.saturating_add(1);
+    }
+    Ok(Verdict::Well { runs })
+}

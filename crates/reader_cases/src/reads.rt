@@ -1,0 +1,99 @@
+//! Files in memory: their names and lengths, and reads of them.
+use binlog_frame::{Logs, MemoryLogs};
+use case_language::{Case, Refused, copies_of, number, source};
+use std::alloc::Global;
+use std::fmt::Write;
+
+/// The names and the lengths of a source's files.
+pub fn show_names<L: Logs>(text: &mut String, logs: &L) -> Result<(), Refused> {
+    for file in 0..logs.count() {
+        write!(
+            text,
+            "{file} {}, {} bytes\n",
+            logs.name(file),
+            logs.len(file)
+        )?;
+    }
+    let count = logs.count();
+    write!(text, "{count} files\n")?;
+    Ok(())
+}
+
+/// `names`: the names and lengths of the case's files, or that they are refused.
+pub fn names_of_files(alloc: Global, case: &Case) -> Result<String, Refused> {
+    let mut text = String::new(alloc);
+    match MemoryLogs::new(copies_of(alloc, &case.files)?) {
+        Ok(logs) => show_names(&mut text, &logs)?,
+        Err(fault) => write!(&mut text, "{fault:?}\n")?,
+    }
+    Ok(text)
+}
+
+/// A read, and the bytes that it gave. The file must be there.
+fn read_once(
+    alloc: Global,
+    logs: &mut MemoryLogs,
+    read: (usize, u64, usize),
+    text: &mut String,
+) -> Result<(), Refused> {
+    let (file, offset, count) = read;
+    if file >= logs.count() {
+        return Err(Refused::UnknownName);
+    }
+    let mut buf = vec![in alloc; 0u8; count]?;
+    match logs.read_at(file, offset, &mut buf) {
+        Err(fault) => write!(text, "{fault:?}")?,
+        Ok(count) => {
+            write!(text, "{count}:")?;
+            for byte in &buf[..count] {
+                write!(text, " {byte:02x}")?;
+            }
+        }
+    }
+    let (file, offset) = logs.reach();
+    write!(text, "; reach {file}:{offset}\n")?;
+    Ok(())
+}
+
+/// Lets the reads to come give so many bytes at most.
+fn let_short(logs: &mut MemoryLogs, most: usize) -> Result<(), Refused> {
+    if most == 0 {
+        return Err(Refused::BadPart);
+    }
+    logs.short_reads(most);
+    Ok(())
+}
+
+/// Whether the reads to come fail or are short, or one read: `fail:NUMBER`, `short:NUMBER` or `FILE:OFFSET:COUNT`.
+fn take_step(
+    alloc: Global,
+    logs: &mut MemoryLogs,
+    step: &str,
+    text: &mut String,
+) -> Result<(), Refused> {
+    let Some((word, rest)) = step.split_once(':') else {
+        return Err(Refused::BadPart);
+    };
+    match word {
+        "fail" => logs.fail_read(number(rest)? as u64),
+        "short" => let_short(logs, number(rest)?)?,
+        _ => {
+            let Some((offset, count)) = rest.split_once(':') else {
+                return Err(Refused::BadPart);
+            };
+            let read = (number(word)?, number(offset)? as u64, number(count)?);
+            read_once(alloc, logs, read, text)?;
+        }
+    }
+    Ok(())
+}
+
+/// `reads STEP..`: reads of the case's files, one after the other.
+pub fn reads_text(alloc: Global, case: &Case, words: &[String]) -> Result<String, Refused> {
+    let mut logs = source(copies_of(alloc, &case.files)?, case.reads)?;
+    let mut text = String::new(alloc);
+    for step in words {
+        take_step(alloc, &mut logs, step.as_str(), &mut text)?;
+    }
+    Ok(text)
+}

@@ -1,0 +1,209 @@
+//! Sweeps over frames, units and the feed: reads that fail, are short or turn to other bytes, and files that are cut or changed.
+use crate::reading::tell;
+use crate::steps::Told;
+use crate::watched::{Place, Turning};
+use crate::ways::{Layer, Reading};
+use case_language::{Case, Named, Reads, Refused, Verdict, copies_of};
+use std::alloc::Global;
+use std::fmt::Write;
+
+/// Reads of at most so many bytes are tried.
+const SHORT_READS: usize = 130;
+
+/// A bound on the reads of a run.
+const MANY_READS: u64 = 100_000;
+
+/// `.. each-read` and its like: what is wanted is what a run tells that nothing disturbs.
+pub fn sweep(
+    alloc: Global,
+    case: &Case,
+    way: &str,
+    reading: Reading<'_>,
+) -> Result<Verdict, Refused> {
+    let whole = tell(alloc, &case.files, reading)?;
+    if whole.text.as_str() != case.wanted.as_str() {
+        return Ok(Verdict::Differs { came: whole.text });
+    }
+    match way {
+        "each-read" => each_read(alloc, case, reading),
+        "each-short" => each_short(alloc, case, reading),
+        "each-cut" => each_cut(alloc, case, reading, &whole),
+        "each-turn" => each_turn(alloc, case, reading, &whole),
+        _ => Err(Refused::UnknownWord),
+    }
+}
+
+/// What came of a run of a sweep, and which run it was.
+fn differs(alloc: Global, which: &str, at: u64, came: &Told) -> Result<Verdict, Refused> {
+    let text = came.text.as_str();
+    let came = format!(in alloc; "{which} {at}:\n{text}")?;
+    Ok(Verdict::Differs { came })
+}
+
+/// Lets each read fail in turn, until none is left that could. It is tried again, and nothing else changes.
+fn each_read(alloc: Global, case: &Case, reading: Reading<'_>) -> Result<Verdict, Refused> {
+    for failing in 1..MANY_READS {
+        let reads = Reads {
+            failing,
+            ..reading.reads
+        };
+        let told = tell(alloc, &case.files, Reading { reads, ..reading })?;
+        if told.text.as_str() != case.wanted.as_str() {
+            return differs(alloc, "read", failing, &told);
+        }
+        if told.failed_reads == 0 {
+            return Ok(Verdict::Well { runs: failing - 1 });
+        }
+    }
+    Err(Refused::BadPart)
+}
+
+/// Lets each read give few bytes at most, which changes nothing.
+fn each_short(alloc: Global, case: &Case, reading: Reading<'_>) -> Result<Verdict, Refused> {
+    let mut runs = 0u64;
+    for most in 1..=SHORT_READS {
+        let reads = Reads {
+            most,
+            ..reading.reads
+        };
+        let told = tell(alloc, &case.files, Reading { reads, ..reading })?;
+        if told.text.as_str() != case.wanted.as_str() {
+            return differs(alloc, "reads of", most as u64, &told);
+        }
+        runs = runs.saturating_add(1);
+    }
+    Ok(Verdict::Well { runs })
+}
+
+/// The files of a case, the last of them cut to so many bytes.
+fn cut_files(alloc: Global, files: &[Named], length: usize) -> Result<Vec<Named>, Refused> {
+    let mut copies = copies_of(alloc, files)?;
+    if let Some(last) = copies.last_mut() {
+        last.1.truncate(length);
+    }
+    Ok(copies)
+}
+
+/// The text of what was given up to a place of a list of files, and the last place that was reached for it.
+fn given_before(told: &Told, place: Place) -> (usize, Place) {
+    let mut last = (0, (0, 0));
+    for (length, reach) in &told.given {
+        if *reach <= place {
+            last = (*length, *reach);
+        }
+    }
+    last
+}
+
+/// What is told of a beginning of so many bytes: all that has its end there, and then the end, which is no fault.
+fn wanted_of_cut(
+    alloc: Global,
+    layer: Layer,
+    whole: &Told,
+    place: Place,
+) -> Result<String, Refused> {
+    let (length, reached) = given_before(whole, place);
+    let Some(given) = whole.text.as_str().get(..length) else {
+        return Err(Refused::NoText);
+    };
+    let mut text = String::from_str(alloc, given)?;
+    match layer {
+        Layer::Frames(_) => show_tail(&mut text, place, reached)?,
+        _ => text.push_str("end\n")?,
+    }
+    Ok(text)
+}
+
+/// How the frames of a beginning of a file end. The first event stands behind four bytes.
+fn show_tail(text: &mut String, cut: Place, reached: Place) -> Result<(), Refused> {
+    let (file, length) = cut;
+    let place = match length {
+        0..=3 => 0,
+        _ => reached.1.max(4),
+    };
+    if place == length && place != 0 {
+        write!(text, "{file} end; place {place}\n")?;
+    } else {
+        write!(text, "{file}:{place} cut tail; place {place}\n")?;
+    }
+    Ok(())
+}
+
+/// Cuts the last file to each length.
+fn each_cut(
+    alloc: Global,
+    case: &Case,
+    reading: Reading<'_>,
+    whole: &Told,
+) -> Result<Verdict, Refused> {
+    let last = case.files.len().saturating_sub(1);
+    if last > 0 && matches!(reading.layer, Layer::Frames(_)) {
+        return Err(Refused::BadPart);
+    }
+    let mut runs = 0u64;
+    for length in 0..=case.last_length() {
+        let files = cut_files(alloc, &case.files, length)?;
+        let told = tell(alloc, &files, reading)?;
+        let wanted = wanted_of_cut(alloc, reading.layer, whole, (last, length as u64))?;
+        if told.text.as_str() != wanted.as_str() {
+            return differs(alloc, "cut to", length as u64, &told);
+        }
+        runs = runs.saturating_add(1);
+    }
+    Ok(Verdict::Well { runs })
+}
+
+/// Whether a run gave a beginning of what the whole gave, and then came to one end, which stayed.
+fn is_beginning(told: &Told, whole: &Told) -> bool {
+    let (given, whole_given) = (told.given_length(), whole.given_length());
+    let (Some(begins), Some(ends)) = (
+        told.text.as_bytes().get(..given),
+        told.text.as_str().get(given..),
+    ) else {
+        return false;
+    };
+    given <= whole_given
+        && whole.text.as_bytes().starts_with(begins)
+        && ends.lines().count() == 1
+        && (ends == "end\n" || ends.starts_with("log fault "))
+}
+
+/// Lets a feed's reads turn to other bytes, each in turn being the first that does. Some of those runs find that the source has
+/// changed.
+fn each_turn(
+    alloc: Global,
+    case: &Case,
+    reading: Reading<'_>,
+    whole: &Told,
+) -> Result<Verdict, Refused> {
+    let mut changed = 0u64;
+    for true_reads in 0..MANY_READS {
+        let mut reads = 0u64;
+        for byte in [0, 0xff] {
+            let turning = Turning { true_reads, byte };
+            let told = tell(alloc, &case.files, Reading { turning, ..reading })?;
+            if !is_beginning(&told, whole) {
+                return differs(alloc, "true reads", true_reads, &told);
+            }
+            if told.text.as_str().ends_with(" SourceChanged\n") {
+                changed = changed.saturating_add(1);
+            }
+            reads = told.reads;
+        }
+        if reads <= true_reads {
+            return turned(alloc, true_reads, changed);
+        }
+    }
+    Err(Refused::BadPart)
+}
+
+/// So many reads turned; a sweep in which no change of the source was found differs.
+fn turned(alloc: Global, reads: u64, changed: u64) -> Result<Verdict, Refused> {
+    if changed == 0 {
+        let came = String::from_str(alloc, "no change of the source was found\n")?;
+        return Ok(Verdict::Differs { came });
+    }
+    Ok(Verdict::Well {
+        runs: reads.saturating_mul(2),
+    })
+}

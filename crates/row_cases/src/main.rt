@@ -1,0 +1,18 @@
+//! Carries out cases of table maps, rows, values and the lines of changes.
+#![tactic(auto)]
+
+mod cells;
+mod images;
+mod json_lines;
+mod maps;
+mod rows;
+mod values;
+mod verbs;
+
+use case_language::judge_input;
+use std::io;
+use verbs::RowVerbs;
+
+fn main(rt: HostRuntime) -> io::Result<()> {
+    judge_input(&rt, &RowVerbs)
+}

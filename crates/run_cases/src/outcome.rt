@@ -1,0 +1,137 @@
+//! How one run over a case's files comes out.
+ghost use Rattle.std.specs.Prelude.{IfErr};
+ghost use Rattle.binlog_frame.specs.Memory.{names_of};
+ghost use Rattle.binlogfeed.specs.Faults.{IsNamed};
+
+use crate::writer::Narrow;
+use binlog_feed::Start;
+use binlog_frame::MemoryLogs;
+use binlog_select::Filter;
+use binlogfeed::fault::{RunFault, fault_line, status};
+use binlogfeed::run::run;
+use binlogfeed::transactions::run_transactions;
+use case_language::{Case, Named, Reads, Refused, Room, SMALL_WINDOW, source};
+use std::alloc::Global;
+
+/// So many bytes of a long line's beginning are shown.
+const HEAD: usize = 40;
+
+/// So many bytes of a long line's end are shown.
+const TAIL: usize = 200;
+
+/// How one run is carried out.
+#[derive(Clone, Copy)]
+pub struct How {
+    pub reads: Reads,
+    pub room: Room,
+    pub window: usize,
+}
+
+impl How {
+    /// How a run of a sweep over a case is carried out, unless the sweep changes it.
+    pub fn of(case: &Case) -> How {
+        How {
+            reads: case.reads,
+            room: case.room,
+            window: SMALL_WINDOW,
+        }
+    }
+}
+
+/// What is run.
+#[derive(Drop)]
+pub enum Job {
+    Transactions,
+    Changes { filter: Filter, start: Start },
+}
+
+/// How a run came out: what the writer received, how often it was flushed, and how the run ended.
+#[derive(Drop)]
+pub struct Outcome {
+    pub received: Vec<u8>,
+    pub flushes: u32,
+    pub status: u8,
+    /// The line on standard error, or the number of lines.
+    pub end: String,
+    pub fault: Option<RunFault>,
+}
+
+/// Runs over files once.
+pub fn run_files(alloc: Global, files: Vec<Named>, job: Job, how: How) -> Result<Outcome, Refused> {
+    let (logs, window) = prepared(alloc, files, how)?;
+    let mut out = Narrow::new(alloc, how.room);
+    let (logs, answer) = match job {
+        Job::Transactions => run_transactions(alloc, logs, window, &mut out),
+        Job::Changes { filter, start } => run(alloc, logs, filter, start, window, &mut out),
+    };
+    let (status, end) = ended(alloc, &logs, answer)?;
+    Ok(Outcome {
+        received: out.received,
+        flushes: out.flushes,
+        status,
+        end,
+        fault: answer.err(),
+    })
+}
+
+/// The files as a source, and a window.
+fn prepared(alloc: Global, files: Vec<Named>, how: How) -> Result<(MemoryLogs, Vec<u8>), Refused> {
+    let window = vec![in alloc; 0u8; how.window]?;
+    Ok((source(files, how.reads)?, window))
+}
+
+/// The status of a run, and its line on standard error or the number of its lines.
+fn ended(
+    alloc: Global,
+    logs: &MemoryLogs,
+    answer: Result<u64, RunFault>,
+) -> Result<(u8, String), Refused>
+    requires { IfErr answer (IsNamed (names_of logs.now)) }
+{
+    match answer {
+        Ok(count) => Ok((0, format!(in alloc; "lines {count}")?)),
+        Err(fault) => {
+            let mut line = String::new(alloc);
+            fault_line(&fault, logs, &mut line)?;
+            Ok((status(&fault), line))
+        }
+    }
+}
+
+/// A line, of which the middle is left out where it is long.
+fn shortened(alloc: Global, line: &str) -> Result<String, Refused> {
+    let head = line.get(..HEAD);
+    let tail = line.get(line.len().saturating_sub(TAIL)..);
+    match (head, tail) {
+        (Some(head), Some(tail)) if line.len() > HEAD + TAIL => {
+            Ok(format!(in alloc; "{head} .. {tail}")?)
+        }
+        _ => Ok(String::from_str(alloc, line)?),
+    }
+}
+
+impl Outcome {
+    pub fn lines(&self) -> Result<&str, Refused> {
+        match str::from_utf8(self.received.as_slice()) {
+            Ok(lines) => Ok(lines),
+            Err(_) => Err(Refused::NoText),
+        }
+    }
+
+    /// The lines, and behind them a line that tells the end.
+    pub fn text(&self, alloc: Global) -> Result<String, Refused> {
+        let lines = self.lines()?;
+        let (status, flushes, end) = (self.status, self.flushes, self.end.as_str());
+        Ok(format!(in alloc; "{lines}end {status}, flushes {flushes}, {end}\n")?)
+    }
+
+    /// How many bytes there are, the last line, and the line that tells the end.
+    pub fn measure(&self, alloc: Global) -> Result<String, Refused> {
+        let bytes = self.received.len();
+        let last = shortened(alloc, self.lines()?.lines().last().unwrap_or(""))?;
+        let (status, flushes, end) = (self.status, self.flushes, self.end.as_str());
+        Ok(format!(in alloc;
+            "bytes {bytes}\nlast {last}\nend {status}, flushes {flushes}, {end}\n"
+        )?)
+    }
+}
