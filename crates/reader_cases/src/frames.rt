@@ -97,7 +97,12 @@ impl<L: Logs> Pass<'_, L> {
         self.window.get(Header::LEN..end).unwrap_or(&[])
     }
 
-    fn show_event(&self, line: &mut String, header: &Header, body_len: u32) -> Result<(), Refused> {
+    fn show_content(
+        &self,
+        line: &mut String,
+        header: &Header,
+        body_len: u32,
+    ) -> Result<(), Refused> {
         let (kind, length) = (header.kind, header.length);
         match self.shown {
             Shown::Frame => write!(line, "kind {kind}, length {length}, body {body_len}")?,
@@ -105,6 +110,22 @@ impl<L: Logs> Pass<'_, L> {
                 show_header(line, header)?;
                 show_body(line, kind, self.body(body_len))?;
             }
+        }
+        Ok(())
+    }
+
+    /// An event at a place, and whether the window has other bytes than the file.
+    fn show_event(
+        &self,
+        line: &mut String,
+        place: u64,
+        header: &Header,
+        body_len: u32,
+    ) -> Result<(), Refused> {
+        write!(line, "{}:{place} ", self.file)?;
+        self.show_content(line, header, body_len)?;
+        if !self.holds(place, header.length) {
+            line.push_str(", not the bytes of the file")?;
         }
         Ok(())
     }
@@ -117,22 +138,13 @@ impl<L: Logs> Pass<'_, L> {
                 header,
                 body_len,
             } => {
-                write!(line, "{}:{place} ", self.file)?;
-                self.show_event(line, &header, body_len)?;
-                if !self.holds(place, header.length) {
-                    line.push_str(", not the bytes of the file")?;
-                }
-                Ok(Answer::Gave)
+                self.show_event(line, place, &header, body_len)?;
+                return Ok(Answer::Gave);
             }
-            Step::CutTail { place } => {
-                write!(line, "{}:{place} cut tail", self.file)?;
-                Ok(Answer::Ended(None))
-            }
-            Step::End => {
-                write!(line, "{} end", self.file)?;
-                Ok(Answer::Ended(None))
-            }
+            Step::CutTail { place } => write!(line, "{}:{place} cut tail", self.file)?,
+            Step::End => write!(line, "{} end", self.file)?,
         }
+        Ok(Answer::Ended(None))
     }
 
     /// A step that was refused.

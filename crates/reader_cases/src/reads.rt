@@ -1,7 +1,7 @@
 //! Files in memory: their names and lengths, and reads of them.
 use binlog_frame::{Logs, MemoryLogs};
 use case_language::{Case, Refused, copies_of, number, source};
-use std::alloc::Global;
+use std::alloc::{AllocError, Global};
 use std::fmt::Write;
 
 /// The names and the lengths of a source's files.
@@ -29,6 +29,16 @@ pub fn names_of_files(alloc: Global, case: &Case) -> Result<String, Refused> {
     Ok(text)
 }
 
+/// How many bytes a read gave, and which.
+fn show_given(text: &mut String, bytes: &[u8]) -> Result<(), AllocError> {
+    let count = bytes.len();
+    write!(text, "{count}:")?;
+    for byte in bytes {
+        write!(text, " {byte:02x}")?;
+    }
+    Ok(())
+}
+
 /// A read, and the bytes that it gave. The file must be there.
 fn read_once(
     alloc: Global,
@@ -43,12 +53,7 @@ fn read_once(
     let mut buf = vec![in alloc; 0u8; count]?;
     match logs.read_at(file, offset, &mut buf) {
         Err(fault) => write!(text, "{fault:?}")?,
-        Ok(count) => {
-            write!(text, "{count}:")?;
-            for byte in &buf[..count] {
-                write!(text, " {byte:02x}")?;
-            }
-        }
+        Ok(count) => show_given(text, &buf[..count])?,
     }
     let (file, offset) = logs.reach();
     write!(text, "; reach {file}:{offset}\n")?;

@@ -75,18 +75,23 @@ fn push_form(alloc: Global, text: &mut String, spelled: &str) -> Result<bool, Al
     }
 }
 
+/// What a written form names, where that is written in another way.
+fn push_second(alloc: Global, once: &mut String) -> Result<(), AllocError> {
+    let mut twice = String::new(alloc);
+    push_form(alloc, &mut twice, once.as_str())?;
+    if once.as_str() != twice.as_str() {
+        once.push_str(" names ")?;
+        once.push_str(twice.as_str())?;
+    }
+    Ok(())
+}
+
 /// The written form of the set that a text names, or its fault. Behind a written form stands what it names, where that is written in
 /// another way.
 pub fn set_text(alloc: Global, spelled: &str) -> Result<String, Refused> {
     let mut once = String::new(alloc);
-    let mut twice = String::new(alloc);
-    let is_set = push_form(alloc, &mut once, with_source(alloc, spelled)?.as_str())?;
-    if is_set {
-        push_form(alloc, &mut twice, once.as_str())?;
-        if once.as_str() != twice.as_str() {
-            once.push_str(" names ")?;
-            once.push_str(twice.as_str())?;
-        }
+    if push_form(alloc, &mut once, with_source(alloc, spelled)?.as_str())? {
+        push_second(alloc, &mut once)?;
     }
     if once.is_empty() {
         once.push_str("nothing")?;

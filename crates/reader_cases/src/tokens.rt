@@ -1,17 +1,22 @@
 //! Tokens as texts.
-use binlog_select::{Token, TokenFault};
+use binlog_select::{Token, TokenFault, TokenRef};
 use case_language::Refused;
 use std::alloc::{AllocError, Global};
 use std::fmt::Write;
 
-/// What a token says, and behind it its text, from a copy of it.
-fn push_token(alloc: Global, text: &mut String, token: Token) -> Result<(), AllocError> {
+/// The parts of a token, and behind them its text.
+fn push_parts(text: &mut String, file: &str, token: TokenRef<'_>) -> Result<(), AllocError> {
     let (position, count) = (token.position, token.count);
-    let copy = token.as_ref().to_token(alloc)?;
     write!(text, "position {position}, count {count}, file ")?;
-    text.push_str(token.file.into_string().as_str())?;
+    text.push_str(file)?;
     text.push_str(", text ")?;
-    copy.as_ref().write(text)
+    token.write(text)
+}
+
+/// What a token says, by its file and a copy of it.
+fn push_token(alloc: Global, text: &mut String, token: Token) -> Result<(), AllocError> {
+    let copy = token.as_ref().to_token(alloc)?;
+    push_parts(text, token.file.into_string().as_str(), copy.as_ref())
 }
 
 /// What a token says, or its fault.
