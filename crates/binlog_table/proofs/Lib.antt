@@ -4,6 +4,7 @@ pub mod WholeDecimals
 pub mod Extents
 pub mod SetBits
 pub mod CellWalk
+pub mod PlacedCells
 pub mod RowImages
 pub mod ImageReadings
 pub mod RowReadings

@@ -17,6 +17,7 @@ pub mod Map
 pub mod SectionsShown
 pub mod MapWords
 pub mod RowImage
+pub mod CellPlaces
 pub mod MapBody
 pub mod MapShown
 pub mod MapLists

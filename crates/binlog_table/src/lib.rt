@@ -2,6 +2,7 @@
 #![tactic(auto)]
 
 mod cell;
+mod cell_places;
 mod column;
 mod columns;
 mod decimal;
@@ -27,6 +28,7 @@ mod value;
 mod value_names;
 
 pub use cell::{Cell, Date, DateTime, Time, Timestamp};
+pub use cell_places::{CellPlace, PlacedRow};
 pub use column::{ByteCount, Column, DecimalSize, EnumSize, Layout, Precision};
 pub use decimal_view::DecimalView;
 pub use digits::Digits;

@@ -1,0 +1,26 @@
+use Rattle.std.proofs.Common.{◌≡◌, ◌<◌, ◌≤◌, length, Some, slice_get, sym, ap, ◌∙◌, arith}
+use Rattle.binlog_table.specs.RowImage.{RowImage}
+use Rattle.binlog_table.proofs.PlacedCells.{places_count, place_at}
+use Rattle.binlog_table.proofs.cell_places.PlacedRow.cell.Goals as goal
+
+pub index-place-requires : goal.index-place-requires
+index-place-requires c =
+    let same = ap (λ (r : RowImage). length r.table.columns) c.self.view_is in
+    let count = places_count c.self.inside.map.now.columns c.self.inside.values.now c.self.inside.places.items c.self.invariant in
+    omega arith
+
+pub cell_in-requires-clause-within : goal.cell_in-requires-clause-within
+cell_in-requires-clause-within c =
+    let same = ap (λ (r : RowImage). length r.table.columns) c.self.view_is in
+    (place_at c.self.inside.map.now.columns c.self.inside.values.now c.self.inside.places.items c.args.column c.index-columns-column.result c.index-place.result.now c.self.invariant (omega arith) (rw c.columns-columns.ensures at c.index-columns-column.is) c.index-place.ensures).within
+
+pub cell_in-requires-clause-some : goal.cell_in-requires-clause-some
+cell_in-requires-clause-some c =
+    let same = ap (λ (r : RowImage). length r.table.columns) c.self.view_is in
+    (place_at c.self.inside.map.now.columns c.self.inside.values.now c.self.inside.places.items c.args.column c.index-columns-column.result c.index-place.result.now c.self.invariant (omega arith) (rw c.columns-columns.ensures at c.index-columns-column.is) c.index-place.ensures).some
+
+pub returns : goal.returns
+returns c =
+    let same = ap (λ (r : RowImage). length r.table.columns) c.self.view_is in
+    let at = place_at c.self.inside.map.now.columns c.self.inside.values.now c.self.inside.places.items c.args.column c.index-columns-column.result c.index-place.result.now c.self.invariant (omega arith) (rw c.columns-columns.ensures at c.index-columns-column.is) c.index-place.ensures in
+    sym (ap (λ (r : RowImage). slice_get r.cells c.args.column) c.self.view_is) ∙ at.cell ∙ ap Some (sym c.cell_in.ensures)

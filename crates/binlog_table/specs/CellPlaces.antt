@@ -1,0 +1,31 @@
+-- Where the cells of an image lie.
+use Rattle.std.specs.Prelude.{◌≡◌, ℕ, ◌≤◌, List, [], ◌∷◌, length, drop, Option, Some, None, IsSome, ⊤}
+use Rattle.binlog_table.specs.declared.column.Column.{Column}
+use Rattle.binlog_table.specs.declared.cell_places.CellPlace.{CellPlace}
+use Rattle.binlog_table.specs.Value.{Content, null}
+use Rattle.binlog_table.specs.Image.{cell_at, cells_at, cells_of}
+
+abbrev pub content_in : Option (Content × ℕ) → Content
+content_in None = null
+content_in (Some x) = x.0
+
+-- what stands at a place of these values
+abbrev pub read_from : Column → List ℕ → CellPlace → Option (Content × ℕ)
+read_from column values place = cell_at column place.is_present place.is_null (drop place.start values)
+
+abbrev pub cells_from : List Column → List ℕ → List CellPlace → List Content
+cells_from [] values places = []
+cells_from (column ∷ columns) values [] = []
+cells_from (column ∷ columns) values (place ∷ places) = content_in (read_from column values place) ∷ cells_from columns values places
+
+-- each column has a place at which its cell can be read
+abbrev pub ArePlaces : List Column → List ℕ → List CellPlace → Type 0
+ArePlaces [] values places = ⊤
+ArePlaces (column ∷ columns) values [] = ⊥
+ArePlaces (column ∷ columns) values (place ∷ places) =
+    (place.start ≤ length values) × IsSome (read_from column values place) × ArePlaces columns values places
+
+-- The places are those of the cells that stand behind `start`, of which the first is column i and number k of those that are present.
+pub record Fits (columns : List Column) (present nulls : List ℕ) (i k start : ℕ) (values : List ℕ) (places : List CellPlace) : Type 0 where
+  pub are : ArePlaces columns values places
+  pub same : cells_of (cells_at columns present nulls i k (drop start values)) ≡ cells_from columns values places
