@@ -1,4 +1,4 @@
-use Rattle.std.proofs.Common.{◌≡◌, ℕ, Option, Some, None, drop, option_map, refl, sym, ap, ◌∙◌}
+use Rattle.std.proofs.Common.{◌≡◌, ℕ, Option, Some, None, drop, option_map, refl, sym, subst, ap, ◌∙◌}
 use Rattle.std.proofs.lemmas.List.{take_rest}
 use Rattle.std.specs.Prelude.{IsSome}
 use Rattle.binlog_table.specs.declared.cell.Cell.{Cell}
@@ -8,7 +8,7 @@ use Rattle.binlog_table.specs.CellPlaces.{content_in}
 use Rattle.binlog_table.proofs.cell_places.cell_in.Goals as goal
 
 is_some : (o : Option (Cell × ℕ)) (read : Option (Content × ℕ)) → option_map (λ x. (view x.0, x.1)) o ≡ read → IsSome read → IsSome o
-is_some None read e h = let no : IsSome None = rw (sym e) at h in absurd cc
+is_some None read e h = let no : IsSome {T = Content × ℕ} None = subst (λ (r : Option (Content × ℕ)). IsSome r) (sym e) h in absurd cc
 is_some (Some x) read e h = refl
 
 view_of : (o : Option (Cell × ℕ)) (x : Cell × ℕ) (read : Option (Content × ℕ)) → option_map (λ x. (view x.0, x.1)) o ≡ read → o ≡ Some x → view x.0 ≡ content_in read

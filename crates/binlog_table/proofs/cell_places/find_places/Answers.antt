@@ -1,8 +1,7 @@
-use Rattle.std.proofs.Common.{◌≡◌, ◌+◌, ◌∷◌, ◌++◌, [], List, Some, None, cond, length, drop, append_assoc, append-nil, refl, sym, subst, ap, ◌∙◌, arith}
+use Rattle.std.proofs.Common.{◌≡◌, ◌+◌, ◌∷◌, [], Some, None, cond, drop, append_assoc, append-nil, refl, sym, subst, ap, ◌∙◌, arith}
 use Rattle.std.proofs.lemmas.List.{take_rest, drop-drop}
 use Rattle.binlog_table.specs.declared.cell_places.CellPlace.{CellPlace}
 use Rattle.binlog_table.specs.Image.{bit, cells_at, IsRead}
-use Rattle.binlog_table.specs.CellPlaces.{Fits}
 use Rattle.binlog_table.proofs.PlacedCells.{first_read, fits_more, fits_none}
 use Rattle.binlog_table.proofs.cell_places.find_places.Goals as goal
 use Rattle.binlog_table.proofs.cell_places.find_places.Goals.{then-is_present, else-is_present}

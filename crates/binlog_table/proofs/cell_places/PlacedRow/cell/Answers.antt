@@ -1,4 +1,4 @@
-use Rattle.std.proofs.Common.{◌≡◌, ◌<◌, ◌≤◌, length, Some, slice_get, sym, ap, ◌∙◌, arith}
+use Rattle.std.proofs.Common.{length, Some, slice_get, sym, ap, ◌∙◌, arith}
 use Rattle.binlog_table.specs.RowImage.{RowImage}
 use Rattle.binlog_table.proofs.PlacedCells.{places_count, place_at}
 use Rattle.binlog_table.proofs.cell_places.PlacedRow.cell.Goals as goal
