@@ -1,5 +1,5 @@
 //! Words of the command line: what they ask for, and the run that they order.
-use crate::outcome::{How, Job, run_files};
+use crate::outcome::{How, Job, Key, run_files, run_key};
 use crate::shown_orders::order_text;
 use binlogfeed::words::{Order, read_words};
 use binlogfeed::words_fault::{WordsFault, words_line, words_status};
@@ -33,15 +33,36 @@ fn files_named(alloc: Global, case: &Case, names: &[&str]) -> Result<Vec<Named>,
 
 /// Does what an order asks for, over the case's files, and says what came of it.
 fn perform(alloc: Global, case: &Case, order: Order<'_>, how: How) -> Result<String, Refused> {
-    let (job, files) = match order {
-        Order::Transactions { files } => (Job::Transactions, files),
+    let outcome = match order {
+        Order::Transactions { files } => {
+            let files = files_named(alloc, case, &files)?;
+            run_files(alloc, files, Job::Transactions, how)?
+        }
         Order::Read {
             filter,
             start,
             files,
-        } => (Job::Changes { filter, start }, files),
+        } => {
+            let files = files_named(alloc, case, &files)?;
+            run_files(alloc, files, Job::Changes { filter, start }, how)?
+        }
+        Order::History {
+            schema,
+            table,
+            key,
+            files,
+        } => {
+            let files = files_named(alloc, case, &files)?;
+            let text = key.as_str();
+            let key = Key {
+                schema,
+                table,
+                text,
+            };
+            run_key(alloc, files, key, how)?
+        }
     };
-    run_files(alloc, files_named(alloc, case, &files)?, job, how)?.text(alloc)
+    outcome.text(alloc)
 }
 
 /// What comes of words of the command line.

@@ -8,6 +8,7 @@ use binlog_feed::Start;
 use binlog_frame::MemoryLogs;
 use binlog_select::Filter;
 use binlogfeed::fault::{RunFault, fault_line, status};
+use binlogfeed::history::run_history;
 use binlogfeed::run::run;
 use binlogfeed::transactions::run_transactions;
 use case_language::{Case, Named, Reads, Refused, Room, SMALL_WINDOW, source};
@@ -64,7 +65,42 @@ pub fn run_files(alloc: Global, files: Vec<Named>, job: Job, how: How) -> Result
         Job::Transactions => run_transactions(alloc, logs, window, &mut out),
         Job::Changes { filter, start } => run(alloc, logs, filter, start, window, &mut out),
     };
-    let (status, end) = ended(alloc, &logs, answer)?;
+    outcome_of(alloc, &logs, out, answer)
+}
+
+/// The key of which a history is asked for.
+#[derive(Clone, Copy)]
+pub struct Key<'a> {
+    pub schema: &'a str,
+    pub table: &'a str,
+    pub text: &'a str,
+}
+
+/// Runs over files once, for the history of a key.
+pub fn run_key(
+    alloc: Global,
+    files: Vec<Named>,
+    key: Key<'_>,
+    how: How,
+) -> Result<Outcome, Refused> {
+    let (logs, window) = prepared(alloc, files, how)?;
+    let mut out = Narrow::new(alloc, how.room);
+    let (logs, answer) = run_history(
+        alloc, logs, key.schema, key.table, key.text, window, &mut out,
+    );
+    outcome_of(alloc, &logs, out, answer)
+}
+
+/// How a run came out, by its writer and its answer.
+fn outcome_of(
+    alloc: Global,
+    logs: &MemoryLogs,
+    out: Narrow,
+    answer: Result<u64, RunFault>,
+) -> Result<Outcome, Refused>
+    requires { IfErr answer (IsNamed (names_of logs.now)) }
+{
+    let (status, end) = ended(alloc, logs, answer)?;
     Ok(Outcome {
         received: out.received,
         flushes: out.flushes,

@@ -25,6 +25,21 @@ pub fn order_text(alloc: Global, order: Order<'_>) -> Result<String, Refused> {
             show_files(&mut text, &files)?;
             Ok(text)
         }
+        Order::History {
+            schema,
+            table,
+            key,
+            files,
+        } => {
+            let mut text = String::from_str(alloc, "history")?;
+            show_quoted(&mut text, schema)?;
+            show_quoted(&mut text, table)?;
+            text.push(' ')?;
+            text.push_str(key.as_str())?;
+            text.push_str("\nfiles")?;
+            show_files(&mut text, &files)?;
+            Ok(text)
+        }
     }
 }
 
