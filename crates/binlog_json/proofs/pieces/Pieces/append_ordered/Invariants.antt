@@ -1,0 +1,8 @@
+use Rattle.std.proofs.Common.{◌≡◌, ◌++◌, drop, false}
+use Rattle.serde_json.specs.Written.{members_text}
+use Rattle.binlog_json.specs.Listed.{listed}
+use Rattle.binlog_json.proofs.pieces.Pieces.append_ordered.Given as goal
+
+abbrev pub invariant-loop-column : goal.invariant-loop-column
+invariant-loop-column l =
+    l.out.items ++ members_text l.later (listed l.image (drop l.column-index l.column-items)) ≡ l.initial.out.items ++ members_text false (listed l.image l.column-items)
