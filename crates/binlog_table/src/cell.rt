@@ -1,3 +1,4 @@
+//! What a cell holds: nothing, null, or a value, with the types of dates and times.
 use crate::decimal_view::DecimalView;
 
 /// A day. No range is checked: months go to 15, and a day, a month or a year may be 0.

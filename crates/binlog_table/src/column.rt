@@ -1,3 +1,4 @@
+//! A column as its table map describes it, and its layout: what of its metadata a row is walked by.
 ghost use Rattle.std.specs.Prelude.{◌≡◌, ◌≤◌};
 ghost use Rattle.binlog_table.specs.DecimalDigits.{IsInRange};
 

@@ -1,3 +1,4 @@
+//! The columns of a table map, by their types, metadata and bits of signedness.
 ghost use Rattle.std.specs.Prelude.{◌≡◌, ◌≤◌, ◌<◌, ◌^◌, ◌&&◌, ◌+◌, length, vec_len, IfOk};
 ghost use Rattle.binlog_table.specs.MapResult.{Gives};
 ghost use Rattle.binlog_table.specs.Columns.{is_numeric, high_bit, next_numeric, columns_at};

@@ -1,3 +1,4 @@
+//! A decimal where it lies in a body.
 ghost use Rattle.std.specs.Prelude.{◌≡◌, ◌≤◌, length, is_some, true};
 ghost use Rattle.binlog_table.specs.Decimal.{decimal_len, digits_at, plain};
 ghost use Rattle.binlog_table.specs.DecimalDigits.{IsInRange};

@@ -1,3 +1,4 @@
+//! The digits of a decimal.
 ghost use Rattle.std.specs.Prelude.{◌≡◌, ◌<◌, ◌+◌, ◌++◌, [], ◌∷◌, length};
 ghost use Rattle.std.specs.List.{All};
 

@@ -1,3 +1,4 @@
+//! Why a table map or the body of a rows event is not read.
 ghost use Rattle.std.specs.Prelude.{◌≡◌};
 ghost use Rattle.binlog_table.specs.declared.fault.MapFault.TheVariants.{OutOfMemory};
 

@@ -1,3 +1,4 @@
+//! The optional fields of a table map.
 ghost use Rattle.std.specs.Prelude.{◌≡◌, ◌≤◌, ◌+◌, ◌*◌, length};
 ghost use Rattle.binlog_table.specs.MapResult.{GivesExactly};
 ghost use Rattle.binlog_table.specs.Fields.{bytes_at, number_at, string_at, name_at, is_utf8, text_of, with_field, fields_from, no_fields};

@@ -1,3 +1,4 @@
+//! The key of a table map: which columns it has, in its own order.
 ghost use Rattle.std.specs.Prelude.{◌≡◌, ◌≤◌, ◌<◌, [], length, option_map, IfOk, Ok, Err, true, slice_index_or, if◌then◌else◌};
 ghost use Rattle.std.specs.List.{All};
 ghost use Rattle.binlog_table.specs.MapResult.{Gives, GivesExactly};

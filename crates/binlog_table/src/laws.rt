@@ -1,3 +1,4 @@
+//! What holds of all values, images, rows and bodies: each has one reading.
 ghost use Rattle.std.specs.Prelude.{◌≡◌, ◌≤◌, ◌↔◌, ℕ, List, ◌++◌, length, take, drop, Option, Some, Ok, Bool, []};
 ghost use Rattle.binlog_table.specs.declared.column.Column.{Column};
 ghost use Rattle.binlog_table.specs.declared.rows_head.RowsHead.{RowsHead};

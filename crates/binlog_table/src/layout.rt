@@ -1,3 +1,4 @@
+//! The layout of a column, by its type and metadata.
 ghost use Rattle.std.specs.Prelude.{◌≡◌, ◌≤◌, ◌<◌, ◌+◌, IsTrue, IfOk, length};
 ghost use Rattle.binlog_table.specs.MapResult.{GivesExactly};
 ghost use Rattle.binlog_table.specs.Columns.{plain_layout, has_byte, byte_layout, has_pair, pair_layout, string_layout, bits_layout, decimal_layout, prefix_len, layout_at, byte_at, pair_at, real_type, string_len};

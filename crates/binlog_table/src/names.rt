@@ -1,3 +1,4 @@
+//! The names of columns, and the columns in the order of their names.
 ghost use Rattle.std.specs.Prelude.{◌≡◌, ◌≤◌, ◌<◌, ◌+◌, ◌-◌, true, false, length, map, option_map, IfOk, IfSome, vec_len};
 ghost use Rattle.std.specs.String.{string_bytes};
 ghost use Rattle.binlog_table.specs.MapResult.{Gives};

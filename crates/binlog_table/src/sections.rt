@@ -1,3 +1,4 @@
+//! The parts of the body of a table map, as they stand.
 ghost use Rattle.std.specs.Prelude.{◌≡◌, ◌≤◌, ◌+◌, ◌/◌};
 ghost use Rattle.binlog_table.specs.MapResult.{GivesExactly};
 ghost use Rattle.binlog_table.specs.Map.{sections_at, sections_after, counted};

@@ -1,3 +1,4 @@
+//! The names of the values of ENUM and SET columns.
 ghost use Rattle.std.specs.Prelude.{◌≡◌, ◌≤◌, ◌+◌, ◌==◌, [], length, map, option_map, unwrap_or, IfOk, vec_len};
 ghost use Rattle.binlog_table.specs.MapResult.{Gives};
 ghost use Rattle.binlog_table.specs.Names.{strings_at, list_in, value_names_of, value_names_at, value_names, used_up};
