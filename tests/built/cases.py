@@ -24,6 +24,14 @@ def judge(program: Path, _folder: Path) -> list[str]:
     return reasons + ([] if ended.returncode == 0 else [f"status {ended.returncode}, wanted 0"])
 
 
+def same_pieces(_program: Path, _folder: Path) -> list[str]:
+    """Compares the pieces that the three programs of cases have alike."""
+    texts = {path: path.read_bytes() for path in sorted(TOP.glob("crates/*/data/pieces.cases"))}
+    wanted = (TOP / "crates/reader_cases/data/pieces.cases").read_bytes()
+    others = [f"{path.relative_to(TOP)} isn't that of reader_cases" for path, text in texts.items() if text != wanted]
+    return others + ([] if len(texts) == 3 else [f"there are {len(texts)} files of pieces, wanted 3"])
+
+
 def checks() -> list[Check]:
-    """The one check of these programs, where the cases are there."""
-    return [Check("the cases over the shop's logs", judge)] if CASES.exists() else []
+    """The checks of these programs, where the cases are there."""
+    return [Check("the cases over the shop's logs", judge), Check("the pieces of all cases", same_pieces)] if CASES.exists() else []
