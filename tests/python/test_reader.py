@@ -242,10 +242,17 @@ class Ends(FolderTest):
         self.assertIsNone(events.fetchone())
         self.assertFalse((self.folder / "process").exists())
 
+    def close_when_it_runs(self, events):
+        """Closes a reader as soon as the stub has said its process."""
+        said = self.folder / "process"
+        while not (said.exists() and said.read_text().endswith("\n")):
+            time.sleep(0.01)
+        events.close()
+
     def test_close_while_another_thread_waits(self):
         program = self.stub(f"echo $$ > {self.folder}/process\nexec sleep 60")
         events = BinLogStreamReader("f", program=program)
-        closer = threading.Timer(0.3, events.close)
+        closer = threading.Thread(target=self.close_when_it_runs, args=(events,), daemon=True)
         closer.start()
         started = time.monotonic()
         self.assertEqual(list(events), [])

@@ -103,6 +103,8 @@ class Kills:
         self.schema, self.count, self.new_target, self.rows_of = schema, count, new_target, rows_of
         self.chance = random.Random(f"{schema} {count}")
         self.killed = self.inside = self.finished = 0
+        # Kills in a row that left no new place: the later ones come later, however fast the machine is just now.
+        self.in_vain = 0
         self.reasons = []
         self.said = tempfile.NamedTemporaryFile(prefix="binlogfeed-")
         self.begins, self.ends = self.measured()
@@ -127,7 +129,9 @@ class Kills:
         while self.wanted() and not self.reasons and time.monotonic() < deadline:
             target, places = self.new_target(), set()
             while not self.ended(target) and not self.reasons and time.monotonic() < deadline:
-                places.add(self.place(target))
+                place = self.place(target)
+                self.in_vain = self.in_vain + 1 if place in places else 0
+                places.add(place)
             self.finished += 1
             self.inside += len(places - {None})
             if not self.reasons and self.rows_of(target) != rows_wanted(self.schema):
@@ -146,7 +150,7 @@ class Kills:
 
     def ended(self, target):
         """Starts the replica, and kills it at some moment. Whether it came to its end before that."""
-        latest = self.begins + 0.6 * max(0.0, self.ends - self.begins)
+        latest = self.begins + 0.6 * max(0.01, self.ends - self.begins) * 1.5**self.in_vain
         status = Forked(target, self.schema, self.said.name).killed_after(self.chance.uniform(0.5 * self.begins, latest))
         if status == -signal.SIGKILL:
             self.killed += 1
