@@ -12,13 +12,12 @@ fails the run, and so does one that can't be applied, whose function can't be fo
 An edit is a file with a line 'file: src/NAME.rt' and pairs of lines 'old: TEXT' and 'new: TEXT'. Each TEXT stands in
 that file exactly once, inside one function.
 
-The crate itself must be proved. Where its library shows that, as behind `rt ci`, and no earlier check has left work in
-out/, the first check has an edit of each function. Second edits take the places of those that were there, and what was
-found of all others stands. Every function that no edit touches must be proved in the first check, or be unproved only
-with what it calls. Else the crate is checked first as it is.
+The crate itself must be proved, and a check stands on the work that its proof kept. Behind tests/proofs.py both are there:
+the library that `rt ci` proved, and what its checks of edits kept. Else the crate is checked first as it is. Every
+function that no edit of a check touches must be proved in it, or be unproved only with what it calls.
 
-The copies lie in .git/wrong-bodies, with what the first checks kept. Checks run side by side, one a processor or as
-many as RT_JOBS says. --only tries the edits whose name has TEXT. The last line is 'N passed, M failed'.
+The copies lie in .git/wrong-bodies, with what was kept. Checks run side by side, one a processor or as many as RT_JOBS
+says. --only tries the edits whose name has TEXT. The last line is 'N passed, M failed'.
 """
 import argparse
 import fcntl
@@ -39,8 +38,8 @@ from pathlib import Path
 ROOT = Path(__file__).resolve().parent.parent
 FOLDER = "wrong-bodies"
 PARTS = ("src", "specs", "proofs")
-# So many edits in one check over kept work: more would make the last checks of a run wait for one long one.
-MOST_IN_A_ROUND = 48
+# So many edits in one check: more would make the last checks of a run wait for one long one.
+MOST_IN_A_ROUND = 24
 LONGEST_CHECK = 3600
 
 HEAD = re.compile(r"^( *)(?:pub(?:\([^)]*\))? )?(?:const )?fn (\w+)")
@@ -49,7 +48,7 @@ SAID = re.compile(r"^fn (\S+): (.*)$", re.M)
 # An error's file, and what it says; a record without a field is told of on the second line.
 ERROR = re.compile(r"^(?:\./)?(\S+?):\d+:\d+: error: (.*(?:\n  .*)?)$", re.M)
 CALLS = re.compile(r"it calls (.*), which (?:is|are) not proved")
-CAME_TO_A_VERDICT = re.compile(r"^(?:logic=(?:not-)?proved|only=\d+ proved=)", re.M)
+CAME_TO_A_VERDICT = re.compile(r"^logic=(?:not-)?proved", re.M)
 # What antt says where a proof file names what an edit took away, or cites such a proof.
 NAMES_WENT = re.compile(r"has no field|is not in scope|has no `|was not admitted")
 
@@ -77,23 +76,6 @@ class Edit:
         return f"{self.crate}/{FOLDER}/{self.name}"
 
 
-@dataclass(frozen=True)
-class Round:
-    """A check: of the crate as it is where it has no edits, and else of these, planted together."""
-
-    edits: tuple = ()
-    # It stands on no proof of the crate.
-    is_first: bool = False
-    # The functions that are checked with what they call; all where none is named.
-    only: tuple = ()
-    # Edits of other functions that are planted too, as they were in the first check, and have their verdicts.
-    beside: tuple = ()
-
-    def is_base(self):
-        """Returns whether the next rounds stand on what this one proves."""
-        return self.is_first or not self.edits or bool(self.only)
-
-
 @dataclass
 class Crate:
     name: str
@@ -101,10 +83,6 @@ class Crate:
     edits: list = field(default_factory=list)
     # Why edits fail, by their name.
     failed: dict = field(default_factory=dict)
-    # Where the rounds stand on a first check: the names by which a check tells of the edits' functions, and the rounds that
-    # come one after the other.
-    keys: dict = field(default_factory=dict)
-    waiting: list = field(default_factory=list)
     refused: int = 0
     only_as_names_went: int = 0
     rounds: int = 0
@@ -333,9 +311,9 @@ def make_room(room, crate, crates, kept):
         link_tree(kept, room / "crates" / crate.name / "out/incremental")
 
 
-def check(room, crate, only):
+def check(room, crate):
     """Returns what a check of the crate in a copy says."""
-    words = ["rt", "check", "--jobs", "1", *(word for it in only for word in ("--only", it))]
+    words = ["rt", "check", "--jobs", "1"]
     how = {"stdin": subprocess.DEVNULL, "stdout": subprocess.PIPE, "stderr": subprocess.STDOUT, "errors": "replace"}
     try:
         return subprocess.run(words, cwd=room / "crates" / crate.name, timeout=LONGEST_CHECK, **how).stdout
@@ -343,28 +321,38 @@ def check(room, crate, only):
         return f"the check hadn't ended after {LONGEST_CHECK} seconds"
 
 
-def check_round(base, crate, crates, given):
-    """Checks the crate with a round's edits planted, and returns what was said and the seconds that it took.
+def kept_of(crate, base, edits):
+    """Returns where a proof of the crate left its work: `rt ci`, a check of our own, or before such a check, one by hand."""
+    own = [] if edits else [ROOT / "crates" / crate.name / "out/incremental"]
+    places = [*own, base / f"gate-{crate.name}", base / f"kept-{crate.name}"]
+    return next((it for it in places if it.is_dir()), places[-1])
 
-    What it proved is left for the rounds that stand on it.
+
+def check_round(base, crate, crates, edits):
+    """Checks the crate with these edits planted, and returns what was said and the seconds that it took.
+
+    What it proved without any edit is left for the rounds that stand on it.
     """
     start, room = time.time(), Path(tempfile.mkdtemp(prefix=f"{crate.name}-", dir=base))
-    kept, own = base / f"kept-{crate.name}", ROOT / "crates" / crate.name / "out/incremental"
-    is_opening = given.is_first or not given.edits
-    make_room(room, crate, crates, own if is_opening and own.is_dir() else kept)
-    edits = given.edits + given.beside
+    make_room(room, crate, crates, kept_of(crate, base, edits))
     for path in {it.path for it in edits}:
         file = room / "crates" / crate.name / path
         text = planted(file.read_text(), [it for it in edits if it.path == path])
         file.unlink()
         file.write_text(text)
-    said = check(room, crate, given.only)
-    made = room / "crates" / crate.name / "out/incremental"
-    if given.is_base() and CAME_TO_A_VERDICT.search(said) and made.is_dir():
-        shutil.rmtree(kept, ignore_errors=True)
-        os.rename(made, kept)
+    said = check(room, crate)
+    if not edits:
+        keep(room / "crates" / crate.name / "out/incremental", crate, base)
     shutil.rmtree(room)
     return said, time.time() - start
+
+
+def keep(made, crate, base):
+    """Puts what a check of the crate as it is proved in the place of what was kept before."""
+    for it in (base / f"gate-{crate.name}", base / f"kept-{crate.name}"):
+        shutil.rmtree(it, ignore_errors=True)
+    if made.is_dir():
+        os.rename(made, base / f"kept-{crate.name}")
 
 
 # The verdicts
@@ -430,15 +418,14 @@ def first_error(out):
     return next((it for it in lines if it.startswith("error") or ": error" in it), lines[-1] if lines else "nothing was said")[:200]
 
 
-def settle(crate, given, out):
+def settle(crate, edits, out):
     """Takes down the verdicts of a round, and returns the lists of edits to try again."""
-    edits = given.edits
-    is_alone = len(edits) == 1 and not given.beside
+    is_alone = len(edits) == 1
     if not CAME_TO_A_VERDICT.search(out):
         if is_alone:
             crate.failed[edits[0].name] = f"BAD EDIT: no contract was tried, since it doesn't compile: {first_error(out)}"
         return [] if is_alone else halves(edits)
-    verdicts, strangers = judge(edits + given.beside, out)
+    verdicts, strangers = judge(edits, out)
     again = []
     for edit in edits:
         if verdicts[edit] == UNKNOWN:
@@ -447,9 +434,9 @@ def settle(crate, given, out):
             again.append(edit)
         else:
             take_down(crate, edit, verdicts[edit])
-    if len(again) < len(edits) or given.beside:
-        return [again] if again else []
-    return halves(again)
+    if len(again) == len(edits):
+        return halves(again)
+    return [again] if again else []
 
 
 def take_down(crate, edit, verdict):
@@ -475,78 +462,53 @@ def halves(edits):
 def try_all(base, chosen, crates, jobs):
     """Checks rounds of edits until each has its verdict, side by side; rounds that follow on another go before those of other crates."""
     by_size = sorted(chosen, key=lambda it: -sum(file.stat().st_size for file in sources(it)))
-    queue, running = deque((it, opening_of(it, crates)) for it in by_size), {}
+    queue, running = deque((it, edits) for it in by_size for edits in opening_of(it, base)), {}
     with ThreadPoolExecutor(jobs) as pool:
         while queue or running:
             while queue and len(running) < jobs:
-                crate, given = queue.popleft()
-                running[pool.submit(check_round, base, crate, crates, given)] = crate, given
+                crate, edits = queue.popleft()
+                running[pool.submit(check_round, base, crate, crates, edits)] = crate, edits
             for done in wait(running, return_when=FIRST_COMPLETED).done:
-                crate, given = running.pop(done)
+                crate, edits = running.pop(done)
                 said, seconds = done.result()
                 crate.rounds += 1
                 crate.seconds += seconds
-                rounds = (after_round if given.edits else after_clean)(crate, given, said, seconds)
+                rounds = (after_round if edits else after_clean)(crate, edits, said, seconds)
                 queue.extendleft((crate, it) for it in reversed(rounds))
                 if not any(it is crate for it, _ in [*queue, *running.values()]):
                     tell(crate)
 
 
-def opening_of(crate, crates):
-    """Returns the check that a crate begins with.
+def rounds_of(crate):
+    """Returns the crate's edits in the lists that are planted together."""
+    return [part for layer in layers(crate.edits) for part in parts_of(layer)]
 
-    Without edits it is short over kept work, and needed where nothing else shows that the crate is proved.
-    """
-    has_own = (ROOT / "crates" / crate.name / "out/incremental").is_dir()
-    is_known = is_of_the_gate(crate) or is_built(crate, crates)
-    return Round(tuple(layers(crate.edits)[0]), is_first=True) if is_known and not has_own else Round()
+
+def opening_of(crate, base):
+    """Returns the checks that a crate begins with: one without edits, where `rt ci` hasn't shown that the crate is proved."""
+    is_known = is_of_the_gate(crate) and (base / f"gate-{crate.name}").is_dir()
+    return rounds_of(crate) if is_known else [[]]
 
 
 def after_clean(crate, _, said, seconds):
     """Returns the rounds of a crate that is proved without any edit."""
     if re.search(r"^logic=proved ", said, re.M):
         print(f"{crate.name}: proved as it is, {seconds:.0f} s", flush=True)
-        return [Round(tuple(part)) for layer in layers(crate.edits) for part in parts_of(layer)]
+        return rounds_of(crate)
     for edit in crate.edits:
         crate.failed[edit.name] = f"not tried, since the crate itself isn't proved: {first_error(said)}"
     return []
 
 
-def after_round(crate, given, said, seconds):
-    """Returns the rounds that follow on a round: of a first check that can't stand, all begin anew with the clean crate."""
-    why = spoils(given, said) if given.is_first else None
-    if why:
-        print(f"{crate.name}: {len(given.edits)} edits in a first check, {seconds:.0f} s: {why}, so the crate is checked as it is", flush=True)
-        return [Round()]
+def after_round(crate, edits, said, seconds):
+    """Returns the rounds that follow on a round."""
     before, failed = crate.refused, len(crate.failed)
-    again = settle(crate, given, said)
+    again = settle(crate, edits, said)
     for name in list(crate.failed)[failed:]:
         print(f"{crate.name}/{FOLDER}/{name}: {crate.failed[name]}")
     came_out = f"{crate.refused - before} refused, {len(crate.failed) - failed} not, {sum(map(len, again))} to try again"
-    print(f"{crate.name}: {len(given.edits)} edits in one check, {seconds:.0f} s: {came_out}", flush=True)
-    if given.is_first:
-        told = dict(SAID.findall(said))
-        crate.keys = {it: keys_of(it, told) for it in crate.edits}
-        crate.waiting += [narrowed(crate, it, given.edits) for it in layers(crate.edits)[1:]]
-    if not crate.keys:
-        return [Round(tuple(it)) for it in again]
-    crate.waiting += [narrowed(crate, it) for it in again]
-    return [crate.waiting.pop(0)] if crate.waiting else []
-
-
-def narrowed(crate, edits, first=()):
-    """Returns a round that checks no more than the edits' functions, beside the first check's edits of others."""
-    functions = {(it.path, it.function) for it in edits}
-    beside = tuple(it for it in first if (it.path, it.function) not in functions)
-    return Round(tuple(edits), only=tuple(key for it in edits for key in crate.keys[it]), beside=beside)
-
-
-def spoils(given, said):
-    """Returns why nothing can stand on a first check, if so."""
-    if not CAME_TO_A_VERDICT.search(said):
-        return f"no contract was tried ({first_error(said)})"
-    strangers = judge(given.edits, said)[1]
-    return f"{strangers[0]} failed, which no edit touches" if strangers else None
+    print(f"{crate.name}: {len(edits)} edits in one check, {seconds:.0f} s: {came_out}", flush=True)
+    return again
 
 
 def tell(crate):
@@ -558,9 +520,9 @@ def tell(crate):
 
 
 def clear(base):
-    """Removes the copies, and leaves what the first checks kept."""
+    """Removes the copies, and leaves what was kept."""
     for it in base.iterdir():
-        if it.is_dir() and not it.name.startswith("kept-"):
+        if it.is_dir() and not it.name.startswith(("kept-", "gate-")):
             shutil.rmtree(it)
 
 

@@ -23,7 +23,7 @@ impl Model for ByteCount {
 }
 
 impl ByteCount {
-    pub fn new(bytes: u8) -> ByteCount
+    pub(crate) fn new(bytes: u8) -> ByteCount
         requires some { 1 ≤ bytes }
         requires few { bytes ≤ 8 }
         ensures { result ≡ bytes }
@@ -59,7 +59,7 @@ impl Model for EnumSize {
 }
 
 impl EnumSize {
-    pub fn new(bytes: u8) -> EnumSize
+    pub(crate) fn new(bytes: u8) -> EnumSize
         requires some { 1 ≤ bytes }
         requires few { bytes ≤ 2 }
         ensures { result ≡ bytes }
@@ -95,7 +95,7 @@ impl Model for Precision {
 }
 
 impl Precision {
-    pub fn new(digits: u8) -> Precision
+    pub(crate) fn new(digits: u8) -> Precision
         requires { digits ≤ 6 }
         ensures { result ≡ digits }
     {
@@ -130,7 +130,7 @@ impl Model for DecimalSize {
 }
 
 impl DecimalSize {
-    pub fn new(precision: u8, scale: u8) -> DecimalSize
+    pub(crate) fn new(precision: u8, scale: u8) -> DecimalSize
         requires { IsInRange (record { precision = precision; scale = scale }) }
         ensures { result ≡ record { precision = precision; scale = scale } }
     {
