@@ -55,8 +55,8 @@ def judge_stories(table: str, program: Path, folder: Path) -> list[str]:
 
 
 def judge_told(program: Path, folder: Path) -> list[str]:
-    """The story that README.md tells, by its command: the lines that stand below it."""
-    lines = (TOP / "README.md").read_text(encoding="utf-8").splitlines()
+    """The story that docs/USAGE.md tells, by its command: the lines that stand below it."""
+    lines = (TOP / "docs/USAGE.md").read_text(encoding="utf-8").splitlines()
     at = next(number for number, line in enumerate(lines) if line.startswith("    ./binlogfeed history "))
     words = [str(TOP / word) if word.startswith("examples/") else word for word in shlex.split(lines[at])[1:]]
     told = takewhile(lambda line: line.startswith("    {"), lines[at + 2 :])
@@ -120,7 +120,7 @@ def checks() -> list[Check]:
         Check("the shop's changes", partial(judge_shop, "read", "read.jsonl")),
         Check("the shop's transactions", partial(judge_shop, "transactions", "transactions.tsv")),
         *[Check(f"the shop's stories of {table}", partial(judge_stories, table)) for table in SHOP_KEYS],
-        Check("the story in README.md", judge_told),
+        Check("the story in docs/USAGE.md", judge_told),
         Check("the bank's tables", judge_bank),
         Check("the bank's transactions", judge_bank_units),
     ]
