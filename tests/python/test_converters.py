@@ -1,5 +1,6 @@
-"""The converters. What is wanted is worked out by hand from MySQL's description of each type."""
+"""The converters. What is wanted is worked out by hand from MySQL's description of each type, or a server showed it."""
 import datetime
+import json
 import struct
 import unittest
 from decimal import Decimal
@@ -177,6 +178,49 @@ class Json(unittest.TestCase):
         for raw in ("0e", "ff00", "0403", "0cffffffffff01", "0ff602050a00", *cut):
             with self.subTest(raw=raw), self.assertRaises(ValueError):
                 json_binary.from_raw(bytes.fromhex(raw))
+
+    def test_documents_of_a_server(self):
+        """Documents as a MySQL 5.7 server stored them, each with the text that the server showed for it.
+
+        They were copied by hand from the table file `mysql_json_test.MYD` of MariaDB's tests (the package mariadb-test-data). A row
+        of a log has the same bytes for such a column.
+        """
+        for raw, text in (
+            ("050000", "0"), ("0581ff", "-127"), ("058000", "128"), ("05ff7f", "32767"), ("050080", "-32768"),
+            ("07ffff0000", "65535"), ("0700000100", "65536"), ("0700000080", "-2147483648"), ("07ffffff7f", "2147483647"),
+            ("09ffffffff00000000", "4294967295"), ("090100000000000080", "-9223372036854775807"),
+            ("0affffffffffffff7f", "9223372036854775807"), ("0affffffffffffffff", "18446744073709551615"),
+            ("0b1f85eb51b81e0940", "3.14"), ("0b273108acfc2eb6c0", "-5678.987"), ("0b0000000000001000", "2.2250738585072014e-308"),
+            ("0400", "null"), ("0401", "true"), ("0402", "false"), ("0c00", '""'), ("0c0127", '"\'"'),
+            ("0c22416e656c20487573616b6f7669c487202d20746573743a20c491c5bec5a1c487c48d", '"Anel Husaković - test: đžšćč"'),
+            ("0200000400", "[]"), ("0000000400", "{}"), ("02010008000c070000", '[""]'), ("0001000c000b0000000c0b0000", '{"": ""}'),
+            ("0001000e000b00030004010076616c", '{"val": true}'), ("0001000e000b00030004000076616c", '{"val": null}'),
+            ("000200240012000400160004000c1a000c1f006b6579316b6579320476616c310476616c32", '{"key1": "val1", "key2": "val2"}'),
+            (
+                "0002002c001200010013000100021400021e00616202000a0005010005020002000e000c0a000c0c0001780179",
+                '{"a": [1, 2], "b": ["x", "y"]}',
+            ),
+            (
+                "0209002900050100050200050300050400050500021f000c23000c25000c270000000400016101620163",
+                '[1, 2, 3, 4, 5, [], "a", "b", "c"]',
+            ),
+            ("0204001e000c10000400000c17000501000670726566697806737566666978", '["prefix", null, "suffix", 1]'),
+            ("0001001e000b0009000c14006b6579200a206b65790976616c200a2076616c", '{"key \\n key": "val \\n val"}'),
+        ):  # fmt: skip
+            self.check(bytes.fromhex(raw), json.loads(text))
+
+    def test_opaque_values_of_a_server(self):
+        """Values of other types from the same file: the server showed 0.0, `2015-01-15`, `23:24:25.000000` and so on."""
+        for raw, wanted in (
+            ("0ff60402018000", Decimal("0.0")),
+            ("0f0a0800000000001e9519", datetime.date(2015, 1, 15)),
+            ("0f0b080000001976010000", datetime.timedelta(hours=23, minutes=24, seconds=25)),
+            ("0f0c0800000019761f9519", datetime.datetime(2015, 1, 15, 23, 24, 25)),
+            ("0f0c08000000033ef5a419", datetime.datetime(2019, 12, 26, 19, 56, 3)),
+            ("0f1002cafe", b"\xca\xfe"), ("0f0d0432303139", b"2019"), ("0ffc04cafebabe", b"\xca\xfe\xba\xbe"),
+            ("0ffe0a61626300000000000000", b"abc\0\0\0\0\0\0\0"), ("0c03622c63", "b,c"),
+        ):  # fmt: skip
+            self.check(bytes.fromhex(raw), wanted)
 
     def test_cut_documents(self):
         raw = b"\x00\x02\x00(\x00\x12\x00\x04\x00\x16\x00\x04\x00\x0c\x1a\x00\x0c!\x00key1key2\x06value1\x06value2"
