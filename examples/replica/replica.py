@@ -4,6 +4,7 @@
     replica.py sqlite:FILE SCHEMA LOGS
     replica.py postgres:CONNECTION SCHEMA LOGS
 
+postgres takes psycopg where that is installed, else the program psql; psycopg:CONNECTION and psql:CONNECTION name one of them.
 LOGS is the server's index file, the folder that has one, or a pattern in quotes. The tables stand in the target already, by the
 same names and with their primary keys. Each run takes what is new in the logs, and ends.
 
@@ -78,7 +79,7 @@ def conversion(word: str) -> tuple[str, Callable[[Any], Any]]:
 def given_words() -> argparse.Namespace:
     """Reads the command line."""
     parser = argparse.ArgumentParser(description=__doc__, formatter_class=argparse.RawDescriptionHelpFormatter)
-    parser.add_argument("target", help="sqlite:FILE or postgres:CONNECTION")
+    parser.add_argument("target", help="sqlite:FILE, postgres:CONNECTION, psycopg:CONNECTION or psql:CONNECTION")
     parser.add_argument("schema", help="the schema whose tables are kept")
     parser.add_argument("logs", help="where the logs are")
     parser.add_argument("--program", default="binlogfeed", metavar="PATH", help="the program (binlogfeed)")

@@ -11,6 +11,11 @@ from typing import Any
 import psql
 from binlogfeed import RowsEvent
 
+try:
+    import psycopg
+except ImportError:  # it isn't installed, or finds no libpq
+    psycopg = None
+
 # The table that has the place, in one row.
 PLACE = "binlogfeed_place"
 
@@ -19,8 +24,8 @@ class TargetError(Exception):
     """The target isn't what the log's changes were made on, or another process moved it on."""
 
 
-# What a target that can't go on raises. psycopg's errors, as others, are shown with their trace.
-ERRORS = (TargetError, sqlite3.Error, psql.PsqlError)
+# What a target that can't go on raises.
+ERRORS = (TargetError, sqlite3.Error, psql.PsqlError, *([psycopg.Error] if psycopg else []))
 
 
 class Target:
@@ -132,18 +137,20 @@ class Sqlite(Target):
 
 
 class Postgres(Target):
-    """A PostgreSQL server: through psycopg where that is installed, else through the program psql."""
+    """A PostgreSQL server: through psycopg where that is installed, else through the program psql, unless one of them is named."""
 
     mark = "%s"
 
-    def __init__(self, words: str) -> None:
-        """Connects."""
-        try:
-            import psycopg
-
-            self._connection = psycopg.connect(words, autocommit=True)
-        except ModuleNotFoundError:
+    def __init__(self, words: str, client: str = "") -> None:
+        """Connects. The client is `psycopg` or `psql`."""
+        if not client:
+            client = "psycopg" if psycopg else "psql"
+        if client == "psql":
             self._connection = psql.Connection(words)
+        elif psycopg:
+            self._connection = psycopg.connect(words, autocommit=True)
+        else:
+            raise TargetError("psycopg isn't installed: apt-get install python3-psycopg, or pip install 'psycopg[binary]'")
         super().__init__()
 
     def execute(self, statement: str, values: Sequence[Any] = ()) -> int:
@@ -180,9 +187,14 @@ def plain(values: Iterable[Any]) -> list[Any]:
 def opened(words: str) -> Iterator[Target]:
     """The target that the command line names, until it is left."""
     kind, _, rest = words.partition(":")
-    if kind not in ("sqlite", "postgres"):
+    if kind == "sqlite":
+        target: Target = Sqlite(rest)
+    elif kind == "postgres":
+        target = Postgres(rest)
+    elif kind in ("psql", "psycopg"):
+        target = Postgres(rest, kind)
+    else:
         raise TargetError(f"no target: {words}")
-    target = Sqlite(rest) if kind == "sqlite" else Postgres(rest)
     try:
         yield target
     finally:

@@ -59,9 +59,9 @@ def rows_wanted(schema):
     return SHOP_ROWS if schema == "shop" else in_order(bank_rows())
 
 
-def started(target, schema):
+def started(target, schema, python=sys.executable):
     """A process that keeps the replica."""
-    words = [sys.executable, str(REPLICA), "--program", PROGRAM, *CONVERT[schema], target, schema, LOGS[schema]]
+    words = [python, str(REPLICA), "--program", PROGRAM, *CONVERT[schema], target, schema, LOGS[schema]]
     return subprocess.Popen(words, stdout=subprocess.DEVNULL, stderr=subprocess.PIPE)
 
 
@@ -248,6 +248,14 @@ class Sqlite(FolderTest):
         self.assertEqual(process.returncode, 1)
 
 
+def python_with_psycopg():
+    """This Python, or the system's, if psycopg is there for it."""
+    for python in (sys.executable, "/usr/bin/python3"):
+        if shutil.which(python) and subprocess.run([python, "-c", "import psycopg"], capture_output=True, check=False).returncode == 0:
+            return python
+    return None
+
+
 class PostgresServer:
     """A PostgreSQL server in a folder of its own."""
 
@@ -287,7 +295,7 @@ class PostgresServer:
         connection = psql.Connection(self.words(name))
         connection.execute(TABLES[schema].read_text().replace(", balance TEXT", ", balance NUMERIC(12, 2)").rstrip(";\n"))
         connection.close()
-        return f"postgres:{self.words(name)}"
+        return f"psql:{self.words(name)}"
 
     def rows_of(self, target, place=None):
         """The rows of a target's tables, or its place."""
@@ -308,7 +316,7 @@ class PostgresServer:
     all(map(shutil.which, ("postgres", "initdb", "pg_ctl", "psql"))), "there is no PostgreSQL: postgres, initdb, pg_ctl and psql"
 )
 class Postgres(unittest.TestCase):
-    """The replica in PostgreSQL."""
+    """The replica in PostgreSQL, by psql, and by psycopg where that is installed."""
 
     @classmethod
     def setUpClass(cls):
@@ -322,6 +330,28 @@ class Postgres(unittest.TestCase):
             with started(target, "shop") as process:
                 self.assertEqual(process.stderr.read(), b"")
             self.assertEqual(self.server.rows_of(target), SHOP_ROWS)
+
+    def test_psycopg(self):
+        python = python_with_psycopg()
+        if not python:
+            self.skipTest("there is no psycopg (apt-get install python3-psycopg)")
+        target = self.server.new_target("shop").replace("psql:", "psycopg:")
+        for _ in range(2):
+            with started(target, "shop", python) as process:
+                self.assertEqual(process.stderr.read(), b"")
+            self.assertEqual(self.server.rows_of(target), SHOP_ROWS)
+        target = self.server.new_target("bank").replace("psql:", "psycopg:")
+        with started(target, "bank", python) as process:
+            self.assertEqual(process.stderr.read(), b"")
+        self.assertEqual(self.rows_with_text(target), in_order(bank_rows()))
+
+    def test_psycopg_says_what_is_wrong(self):
+        """A table that isn't there, by psycopg; or that it isn't installed."""
+        python = python_with_psycopg() or sys.executable
+        with started(f"psycopg:{self.server.words('postgres')}", "shop", python) as process:
+            said = process.stderr.read().decode()
+        self.assertEqual(process.returncode, 1)
+        self.assertRegex(said, r"\Areplica: (the target has no table|relation \"customer\" does not exist|psycopg isn't installed)")
 
     def test_killed(self):
         kills = Kills("bank", KILLS["postgres"], lambda: self.server.new_target("bank"), self.rows_with_text)
