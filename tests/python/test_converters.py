@@ -180,7 +180,7 @@ class Json(unittest.TestCase):
                 json_binary.from_raw(bytes.fromhex(raw))
 
     def test_documents_of_a_server(self):
-        """Documents as a MySQL 5.7 server stored them, each with the text that the server showed for it.
+        """Documents as a MySQL 5.7.28 server stored them, each with the text that the server showed for it.
 
         They were copied by hand from the table file `mysql_json_test.MYD` of MariaDB's tests (the package mariadb-test-data). A row
         of a log has the same bytes for such a column.

@@ -44,6 +44,26 @@ class Documents(FolderTest):
         self.assertEqual((ended.returncode, ended.stderr), (0, ""))
         return ended.stdout
 
+    def test_first_result(self):
+        commands, line = blocks("README.md", "Install, and a first result")
+        self.assertIn(line, self.shown(commands.splitlines()[1]).splitlines(keepends=True))
+
+    def test_readme_is_one_page(self):
+        self.assertLessEqual((TOP / "README.md").read_text(encoding="utf-8").count("\n"), 100)
+
+    def test_reading(self):
+        read, lines, _, code, _, again = blocks("docs/USAGE.md", "Reading files")
+        shown = self.shown(read)
+        self.assertEqual(shown, (TOP / "examples/shop/read.jsonl").read_text(encoding="utf-8"))
+        self.assertLessEqual(set(lines.splitlines()), set(shown.splitlines()))
+        self.assertTrue((TOP / "examples/shop/last_rows.py").read_text(encoding="utf-8").endswith(code))
+        self.shown(again)
+        self.assertEqual((self.folder / "first").read_text() + (self.folder / "rest").read_text(), shown)
+
+    def test_many_files_at_once(self):
+        (block,) = blocks("docs/USAGE.md", "Many files at once")
+        self.assertEqual(self.shown(block), (TOP / "examples/shop/read.jsonl").read_text(encoding="utf-8"))
+
     def test_readme(self):
         (block,) = blocks("README.md", "In Python")
         self.assertEqual(self.shown(block), README_SHOWS)
