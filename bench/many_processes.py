@@ -12,6 +12,7 @@ import argparse
 import os
 import pathlib
 import shlex
+import shutil
 import subprocess
 import sys
 import time
@@ -24,13 +25,12 @@ MANY = TOP / "examples" / "many_machines" / "read.py"
 def make(folder, count, size):
     """A log under many names: their bytes are stored once. None has a ROTATE, so none has to name the next."""
     logs = folder / "logs"
-    logs.mkdir(parents=True, exist_ok=True)
+    shutil.rmtree(logs, ignore_errors=True)
+    logs.mkdir(parents=True)
     first = logs / "binlog.000001"
     subprocess.run([TOP / "bench" / "make_log.py", first, str(size), "shop"], stdout=subprocess.DEVNULL, check=True)
     for number in range(2, count + 1):
-        link = logs / f"binlog.{number:06}"
-        link.unlink(missing_ok=True)
-        os.link(first, link)
+        os.link(first, logs / f"binlog.{number:06}")
     return [logs / f"binlog.{number:06}" for number in range(1, count + 1)]
 
 
@@ -52,7 +52,8 @@ def many_at_once(program, logs, parts, processes):
 def commands(given, logs):
     """The commands by their names in the table."""
     parts = given.folder / "parts"
-    parts.mkdir(exist_ok=True)
+    shutil.rmtree(parts, ignore_errors=True)
+    parts.mkdir()
     found = {"`binlogfeed read FILE..`": shlex.join([str(given.program), "read", *map(str, logs)])}
     for processes in given.processes:
         found[f"`xargs -P {processes}`, and `cat`"] = many_at_once(given.program, logs, parts, processes)
