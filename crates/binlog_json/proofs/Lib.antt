@@ -7,7 +7,7 @@ pub mod Putting
 pub mod NameOrders
 pub mod Floats
 pub mod Quoting
-pub mod PieceTexts
+pub mod ColumnTexts
 pub mod LineParts
 pub mod KeyFloats
 pub mod Visiting

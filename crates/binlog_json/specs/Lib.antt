@@ -5,7 +5,6 @@ pub mod Line
 pub mod Joining
 pub mod Listed
 pub mod Written
-pub mod Pieces
 pub mod PlainText
 pub mod Keys
 pub mod Histories

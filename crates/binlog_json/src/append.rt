@@ -2,6 +2,7 @@
 ghost use Rattle.std.specs.Prelude.{◌≡◌, ◌++◌, OnOk, decimal};
 ghost use Rattle.std.specs.Fmt.{signed_decimal};
 ghost use Rattle.json.specs.Print.{quoted};
+ghost use Rattle.binlog_json.specs.Joining.{comma_if};
 ghost use Rattle.binlog_json.specs.PlainText.{IsPlain};
 
 use crate::plain::is_plain;
@@ -23,6 +24,16 @@ pub(crate) fn append_integer(out: &mut Vec<u8>, number: i64) -> Result<(), Alloc
 {
     let mut buffer = itoa::Buffer::new();
     out.extend_from_slice(buffer.format(number).as_bytes())
+}
+
+/// A comma, where something stands before it.
+pub(crate) fn append_comma(out: &mut Vec<u8>, later: bool) -> Result<(), AllocError>
+    ensures { OnOk result (out.new.items ≡ out.old.items ++ comma_if later) }
+{
+    if later {
+        out.push(b',')?;
+    }
+    Ok(())
 }
 
 /// A text that needs no escape, in quotes.

@@ -1,0 +1,89 @@
+-- The texts of an image's columns, in the order of their names.
+use Rattle.std.proofs.Common.{◌≡◌, ℕ, zero, suc, ◌+◌, ◌<◌, ◌≤◌, List, [], ◌∷◌, ◌++◌, Bool, true, false, cond, not, ◌||◌, length, drop, get_or, slice_get, slice_index_or, Some, append_assoc, drop_of_length-le, drop-cons, add-one, refl, ap, sym, ◌∙◌, arith}
+use Rattle.json.specs.Print.{quoted}
+use Rattle.serde_json.specs.Data.{Data, Members, member}
+use Rattle.serde_json.specs.Written.{compact_text, members_text}
+use Rattle.binlog_table.specs.declared.cell.Cell.{Cell}
+use Rattle.binlog_table.specs.declared.cell.Cell.TheVariants as cells
+use Rattle.binlog_table.specs.MapWords.{value_names_in}
+use Rattle.binlog_table.specs.NameOrder.{IsNameOrder, name_of}
+use Rattle.binlog_table.specs.RowImage.{RowImage}
+use Rattle.binlog_table.specs.Value.{view, absent}
+use Rattle.binlog_json.specs.Images.{cell_in, value_data, image_members}
+use Rattle.binlog_json.specs.Joining.{comma_if}
+use Rattle.binlog_json.specs.Listed.{listed}
+use Rattle.binlog_json.specs.Values.{content_data, is_absent}
+use Rattle.binlog_json.specs.Written.{member_text, column_text}
+use Rattle.binlog_json.proofs.NameOrders.{image_members-listed}
+
+present_at : (c : Cell) → (c ≡ cells.Absent → ⊥) → is_absent (view c) ≡ false
+present_at cells.Absent h = absurd (h refl)
+present_at cells.Null h = refl
+present_at (cells.Int z) h = refl
+present_at (cells.UInt n) h = refl
+present_at (cells.Decimal d) h = refl
+present_at (cells.Year n) h = refl
+present_at (cells.Date d) h = refl
+present_at (cells.DateTime d) h = refl
+present_at (cells.Time t) h = refl
+present_at (cells.Timestamp t) h = refl
+present_at (cells.Bits n) h = refl
+present_at (cells.Enum n) h = refl
+present_at (cells.Set n) h = refl
+present_at (cells.Bytes b) h = refl
+present_at (cells.Raw b) h = refl
+
+index_of_get : {A : Type 0} (xs : List A) (i : ℕ) (x z : A) → slice_get xs i ≡ Some x → slice_index_or xs i z ≡ x
+index_of_get [] i x z e = absurd (cc)
+index_of_get (y ∷ xs) zero x z e = cc
+index_of_get (y ∷ xs) (suc i) x z e = index_of_get xs i x z e
+
+index_past : {A : Type 0} (xs : List A) (i : ℕ) (z : A) → length xs ≤ i → slice_index_or xs i z ≡ z
+index_past [] i z h = refl
+index_past (y ∷ xs) zero z h = absurd (omega arith)
+index_past (y ∷ xs) (suc i) z h = index_past xs i z (omega arith)
+
+-- a column that the image has no cell for is absent
+pub past_is_absent : (image : RowImage) (column : ℕ) → length image.cells ≤ column → is_absent (cell_in image column) ≡ true
+past_is_absent image column h = ap is_absent (index_past image.cells column absent h)
+
+pub absent_is : (image : RowImage) (column : ℕ) (cell : Cell) → slice_get image.cells column ≡ Some (view cell) → cell ≡ cells.Absent → is_absent (cell_in image column) ≡ true
+absent_is image column cell at is = ap is_absent (index_of_get image.cells column (view cell) absent at ∙ ap view is)
+
+pub present_is : (image : RowImage) (column : ℕ) (cell : Cell) → slice_get image.cells column ≡ Some (view cell) → (cell ≡ cells.Absent → ⊥) → is_absent (cell_in image column) ≡ false
+present_is image column cell at some = ap is_absent (index_of_get image.cells column (view cell) absent at) ∙ present_at cell some
+
+-- the text of a present column
+pub column_is : (later : Bool) (image : RowImage) (column : ℕ) (cell : Cell) (name : List ℕ) → slice_get image.cells column ≡ Some (view cell) → (cell ≡ cells.Absent → ⊥)
+    → slice_get image.table.names column ≡ Some name
+    → column_text later image column ≡ comma_if later ++ (quoted name ++ (58 ∷ compact_text (content_data (value_names_in image.table column) (view cell))))
+column_is later image column cell name at some named =
+    rw (index_of_get image.cells column (view cell) absent at, present_at cell some, index_of_get image.table.names column name [] named) refl
+
+pub then_value : (old comma name value a q t : List ℕ) → comma ≡ old ++ a → name ≡ comma ++ (q ++ 58 ∷ []) → value ≡ name ++ t → value ≡ old ++ (a ++ (q ++ (58 ∷ t)))
+then_value old comma name value a q t is_comma is_name is_value = rw (is_value, is_name, is_comma) (simp append_assoc)
+
+step_at : (b later : Bool) (name : List ℕ) (d : Data) (rest : Members)
+    → members_text later (cond b rest (member name d rest)) ≡ cond b [] (comma_if later ++ member_text name d) ++ members_text (not b || later) rest
+step_at true later name d rest = refl
+step_at false later name d rest = simp append_assoc
+
+-- the next column of the loop
+pub members_more : (image : RowImage) (order start out new : List ℕ) (k : ℕ) (later now : Bool) → k < length order
+    → out ++ members_text later (listed image (drop k order)) ≡ start → new ≡ out ++ column_text later image (get_or order k 0)
+    → now ≡ (not (is_absent (cell_in image (get_or order k 0))) || later)
+    → new ++ members_text now (listed image (drop (k + 1) order)) ≡ start
+members_more image order start out new k later now below inv appended then_later =
+    let column = get_or order k 0 in
+    let first : drop k order ≡ column ∷ drop (suc k) order = drop-cons order k 0 below in
+    let step = step_at (is_absent (cell_in image column)) later (name_of image.table.names column) (value_data image column) (listed image (drop (suc k) order)) in
+    let next : k + 1 ≡ suc k = add-one k in
+    rw (next, appended, then_later, append_assoc, ← step) (rw first at inv)
+
+pub members_end : (image : RowImage) (order old start out new : List ℕ) (k : ℕ) (later : Bool) → out ++ members_text later (listed image (drop k order)) ≡ start ++ members_text false (listed image order)
+    → length order ≤ k → start ≡ old ++ 123 ∷ [] → new ≡ out ++ 125 ∷ [] → IsNameOrder image.table.names order → new ≡ old ++ (123 ∷ members_text false (image_members image))
+members_end image order old start out new k later inv end begun closed is =
+    let none : drop k order ≡ [] = drop_of_length-le order {i = k} end in
+    let last : out ++ 125 ∷ [] ≡ start ++ members_text false (listed image order) = rw none at inv in
+    let whole : (old ++ 123 ∷ []) ++ members_text false (listed image order) ≡ old ++ (123 ∷ members_text false (listed image order)) = append_assoc old (123 ∷ []) _ in
+    closed ∙ last ∙ ap (λ s. s ++ members_text false (listed image order)) begun ∙ whole ∙ ap (λ ms. old ++ (123 ∷ members_text false ms)) (sym (image_members-listed image order is))

@@ -1,0 +1,78 @@
+//! Images as objects, written in the order of the columns' names.
+ghost use Rattle.std.specs.Prelude.{◌≡◌, ◌++◌, ◌||◌, not, OnOk, IfOk};
+ghost use Rattle.serde_json.specs.Data.{object};
+ghost use Rattle.serde_json.specs.Written.{compact_text};
+ghost use Rattle.binlog_json.specs.Images.{cell_in, image_members};
+ghost use Rattle.binlog_json.specs.Values.{is_absent};
+ghost use Rattle.binlog_json.specs.Written.{column_text};
+
+use crate::append::append_comma;
+use crate::room::Room;
+use crate::values::{append_member_name, append_value};
+use binlog_table::{Cell, PlacedRow, RowView};
+use std::alloc::AllocError;
+use std::mem;
+
+/// Appends an image as an object: its present columns, in the order of their names.
+pub(crate) fn append_image(
+    out: &mut Vec<u8>,
+    room: &mut Room,
+    image: &RowView<'_>,
+) -> Result<(), AllocError>
+    ensures { OnOk result (out.new.items
+        ≡ out.old.items ++ compact_text (object (image_members image.now))) }
+{
+    let places = mem::replace(&mut room.places, Vec::new(room.alloc));
+    let row = PlacedRow::of(image, places)?;
+    let written = append_columns(out, room, image, &row);
+    room.places = row.into_room();
+    written
+}
+
+/// Appends an image whose cells were found.
+fn append_columns(
+    out: &mut Vec<u8>,
+    room: &mut Room,
+    image: &RowView<'_>,
+    row: &PlacedRow<'_>,
+) -> Result<(), AllocError>
+    requires { row.now ≡ image.now }
+    ensures { OnOk result (out.new.items
+        ≡ out.old.items ++ compact_text (object (image_members image.now))) }
+{
+    out.push(b'{')?;
+    let mut later = false;
+    for column in image.name_order() {
+        later = append_column(out, room, image, row, *column, later)?;
+    }
+    out.push(b'}')?;
+    Ok(())
+}
+
+/// Appends the member of a column, behind a comma where a member stands before it, unless the column is absent. Whether a member
+/// stands there then.
+fn append_column(
+    out: &mut Vec<u8>,
+    room: &mut Room,
+    image: &RowView<'_>,
+    row: &PlacedRow<'_>,
+    column: usize,
+    later: bool,
+) -> Result<bool, AllocError>
+    requires { row.now ≡ image.now }
+    ensures text { OnOk result (out.new.items ≡ out.old.items ++ column_text later image.now column) }
+    ensures later { IfOk result (λ now. now ≡ (not (is_absent (cell_in image.now column)) || later)) }
+{
+    if column >= image.column_count() {
+        return Ok(later);
+    }
+    match row.cell(column) {
+        Cell::Absent => Ok(later),
+        present => {
+            append_comma(out, later)?;
+            append_member_name(out, &mut room.quoter, image.column_name(column))?;
+            append_value(out, room, image, column, present)?;
+            Ok(true)
+        }
+    }
+}
