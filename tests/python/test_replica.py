@@ -23,8 +23,8 @@ REPLICA = TOP / "examples/replica/replica.py"
 TABLES = {"shop": TOP / "examples/replica/shop.sql", "bank": TOP / "tests/python/bank.sql"}
 LOGS = {"shop": str(SHOP[0].parent / "binlog.0*"), "bank": str(BANK[0].parent / "binlog.0*")}
 CONVERT = {"shop": ["--convert", "product.weight=float"], "bank": []}
-# How often the replica is killed while it works: over the shop's logs, over the bank's, and in PostgreSQL.
-KILLS = {"shop": 60, "bank": 160, "postgres": 24}
+# How often the replica is killed while it works: over the shop's logs, over the bank's, and in PostgreSQL by each client.
+KILLS = {"shop": 60, "bank": 160, "postgres": 24, "psycopg": 12}
 # How long it may take at most.
 SECONDS = 120
 
@@ -355,6 +355,15 @@ class Postgres(unittest.TestCase):
 
     def test_killed(self):
         kills = Kills("bank", KILLS["postgres"], lambda: self.server.new_target("bank"), self.rows_with_text)
+        kills.run()
+        kills.judge(self)
+
+    @unittest.skipUnless(targets.psycopg, "this Python has no psycopg")
+    def test_killed_with_psycopg(self):
+        def new_target():
+            return self.server.new_target("bank").replace("psql:", "psycopg:")
+
+        kills = Kills("bank", KILLS["psycopg"], new_target, self.rows_with_text)
         kills.run()
         kills.judge(self)
 
