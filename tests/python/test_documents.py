@@ -51,6 +51,16 @@ class Documents(FolderTest):
     def test_readme_is_one_page(self):
         self.assertLessEqual((TOP / "README.md").read_text(encoding="utf-8").count("\n"), 100)
 
+    def test_going_on_and_history(self):
+        (block,) = blocks("README.md", "Options")
+        story = self.shown(block)
+        lines = (TOP / "examples/shop/read.jsonl").read_text(encoding="utf-8")
+        self.assertEqual((self.folder / "first").read_text(encoding="utf-8").count("\n"), 5)
+        self.assertEqual((self.folder / "first").read_text(encoding="utf-8") + (self.folder / "rest").read_text(encoding="utf-8"), lines)
+        # Customer 1 is put in, and never changed.
+        of_one = [it for it in lines.splitlines(keepends=True) if '"table":"customer"' in it and '"id":1,' in it]
+        self.assertEqual(story, "".join(of_one))
+
     def test_reading(self):
         read, lines, _, code, _, again = blocks("docs/USAGE.md", "Reading files")
         shown = self.shown(read)
