@@ -33,7 +33,7 @@ present_at (cells.Set n) h = refl
 present_at (cells.Bytes b) h = refl
 present_at (cells.Raw b) h = refl
 
-index_of_get : {A : Type 0} (xs : List A) (i : ℕ) (x z : A) → slice_get xs i ≡ Some x → slice_index_or xs i z ≡ x
+pub index_of_get : {A : Type 0} (xs : List A) (i : ℕ) (x z : A) → slice_get xs i ≡ Some x → slice_index_or xs i z ≡ x
 index_of_get [] i x z e = absurd (cc)
 index_of_get (y ∷ xs) zero x z e = cc
 index_of_get (y ∷ xs) (suc i) x z e = index_of_get xs i x z e
@@ -54,11 +54,9 @@ pub present_is : (image : RowImage) (column : ℕ) (cell : Cell) → slice_get i
 present_is image column cell at some = ap is_absent (index_of_get image.cells column (view cell) absent at) ∙ present_at cell some
 
 -- the text of a present column
-pub column_is : (later : Bool) (image : RowImage) (column : ℕ) (cell : Cell) (name : List ℕ) → slice_get image.cells column ≡ Some (view cell) → (cell ≡ cells.Absent → ⊥)
-    → slice_get image.table.names column ≡ Some name
-    → column_text later image column ≡ comma_if later ++ (quoted name ++ (58 ∷ compact_text (content_data (value_names_in image.table column) (view cell))))
-column_is later image column cell name at some named =
-    rw (index_of_get image.cells column (view cell) absent at, present_at cell some, index_of_get image.table.names column name [] named) refl
+pub column_is : (later : Bool) (image : RowImage) (column : ℕ) (cell : Cell) → slice_get image.cells column ≡ Some (view cell) → (cell ≡ cells.Absent → ⊥)
+    → column_text later image column ≡ comma_if later ++ (quoted (name_of image.table.names column) ++ (58 ∷ compact_text (content_data (value_names_in image.table column) (view cell))))
+column_is later image column cell at some = rw (index_of_get image.cells column (view cell) absent at, present_at cell some) refl
 
 pub then_value : (old comma name value a q t : List ℕ) → comma ≡ old ++ a → name ≡ comma ++ (q ++ 58 ∷ []) → value ≡ name ++ t → value ≡ old ++ (a ++ (q ++ (58 ∷ t)))
 then_value old comma name value a q t is_comma is_name is_value = rw (is_value, is_name, is_comma) (simp append_assoc)

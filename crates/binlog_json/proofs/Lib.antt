@@ -8,6 +8,8 @@ pub mod NameOrders
 pub mod Floats
 pub mod Quoting
 pub mod ColumnTexts
+pub mod LabelTexts
 pub mod LineParts
 pub mod KeyFloats
 pub mod Visiting
+pub mod Pairs

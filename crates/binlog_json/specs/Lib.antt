@@ -4,6 +4,7 @@ pub mod Images
 pub mod Line
 pub mod Joining
 pub mod Listed
+pub mod Labels
 pub mod Written
 pub mod PlainText
 pub mod Keys

@@ -23,6 +23,18 @@ pub(crate) fn push_padded(text: &mut String, number: u32, width: usize) -> Resul
     text.push_str(digits)
 }
 
+/// The number in two digits, or in more where it has more.
+pub(crate) fn push_pair(text: &mut String, number: u16) -> Result<(), AllocError>
+    ensures { OnOk result (string_bytes text.new ≡ string_bytes text.old ++ padded 2 number) }
+{
+    if number >= 100 {
+        return push_padded(text, u32::from(number), 2);
+    }
+    let pair = number as u8;
+    text.push((b'0' + pair / 10) as char)?;
+    text.push((b'0' + pair % 10) as char)
+}
+
 fn push_zeros(text: &mut String, count: usize) -> Result<(), AllocError>
     ensures { OnOk result (string_bytes text.new ≡ string_bytes text.old ++ replicate count 48) }
 {

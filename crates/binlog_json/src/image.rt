@@ -3,12 +3,14 @@ ghost use Rattle.std.specs.Prelude.{◌≡◌, ◌++◌, ◌||◌, not, OnOk, If
 ghost use Rattle.serde_json.specs.Data.{object};
 ghost use Rattle.serde_json.specs.Written.{compact_text};
 ghost use Rattle.binlog_json.specs.Images.{cell_in, image_members};
+ghost use Rattle.binlog_json.specs.Labels.{AreLabels};
 ghost use Rattle.binlog_json.specs.Values.{is_absent};
 ghost use Rattle.binlog_json.specs.Written.{column_text};
 
 use crate::append::append_comma;
+use crate::labels::{KeptLabels, Labels};
 use crate::room::Room;
-use crate::values::{append_member_name, append_value};
+use crate::values::append_value;
 use binlog_table::{Cell, PlacedRow, RowView};
 use std::alloc::AllocError;
 use std::mem;
@@ -17,14 +19,18 @@ use std::mem;
 pub(crate) fn append_image(
     out: &mut Vec<u8>,
     room: &mut Room,
+    kept: &mut KeptLabels,
     image: &RowView<'_>,
 ) -> Result<(), AllocError>
     ensures { OnOk result (out.new.items
         ≡ out.old.items ++ compact_text (object (image_members image.now))) }
 {
+    let map = image.map();
+    let labels = kept.at(map.table_id())?;
+    labels.take(map, &mut room.quoter)?;
     let places = mem::replace(&mut room.places, Vec::new(room.alloc));
     let row = PlacedRow::of(image, places)?;
-    let written = append_columns(out, room, image, &row);
+    let written = append_columns(out, room, labels, image, &row);
     room.places = row.into_room();
     written
 }
@@ -33,17 +39,19 @@ pub(crate) fn append_image(
 fn append_columns(
     out: &mut Vec<u8>,
     room: &mut Room,
+    labels: &Labels,
     image: &RowView<'_>,
     row: &PlacedRow<'_>,
 ) -> Result<(), AllocError>
-    requires { row.now ≡ image.now }
+    requires row { row.now ≡ image.now }
+    requires labels { AreLabels image.now.table.names labels.now.text.items labels.now.bounds.items }
     ensures { OnOk result (out.new.items
         ≡ out.old.items ++ compact_text (object (image_members image.now))) }
 {
     out.push(b'{')?;
     let mut later = false;
     for column in image.name_order() {
-        later = append_column(out, room, image, row, *column, later)?;
+        later = append_column(out, room, labels, image, row, *column, later)?;
     }
     out.push(b'}')?;
     Ok(())
@@ -54,12 +62,14 @@ fn append_columns(
 fn append_column(
     out: &mut Vec<u8>,
     room: &mut Room,
+    labels: &Labels,
     image: &RowView<'_>,
     row: &PlacedRow<'_>,
     column: usize,
     later: bool,
 ) -> Result<bool, AllocError>
-    requires { row.now ≡ image.now }
+    requires row { row.now ≡ image.now }
+    requires labels { AreLabels image.now.table.names labels.now.text.items labels.now.bounds.items }
     ensures text { OnOk result (out.new.items ≡ out.old.items ++ column_text later image.now column) }
     ensures later { IfOk result (λ now. now ≡ (not (is_absent (cell_in image.now column)) || later)) }
 {
@@ -70,7 +80,7 @@ fn append_column(
         Cell::Absent => Ok(later),
         present => {
             append_comma(out, later)?;
-            append_member_name(out, &mut room.quoter, image.column_name(column))?;
+            out.extend_from_slice(labels.label(column))?;
             append_value(out, room, image, column, present)?;
             Ok(true)
         }

@@ -7,6 +7,7 @@ mod digits;
 mod gtid;
 mod image;
 mod key;
+mod labels;
 mod names;
 mod plain;
 mod room;

@@ -6,7 +6,7 @@ ghost use Rattle.binlog_table.specs.Value.{view as cell_view};
 ghost use Rattle.binlog_json.specs.Values.{shown_text};
 ghost use Rattle.binlog_json.specs.Texts.{sign_text, decimal_text, fraction_text, day_text, clock_text, date_text, date_time_text, time_text, timestamp_text};
 
-use crate::digits::{push_fraction, push_number, push_padded, push_point, push_whole};
+use crate::digits::{push_fraction, push_number, push_padded, push_pair, push_point, push_whole};
 use binlog_table::{Cell, Date, DateTime, DecimalView, Time, Timestamp};
 use std::alloc::AllocError;
 
@@ -43,20 +43,20 @@ fn push_day(text: &mut String, year: u32, month: u8, day: u8) -> Result<(), Allo
 {
     push_padded(text, year, 4)?;
     text.push('-')?;
-    push_padded(text, u32::from(month), 2)?;
+    push_pair(text, u16::from(month))?;
     text.push('-')?;
-    push_padded(text, u32::from(day), 2)
+    push_pair(text, u16::from(day))
 }
 
 fn push_clock(text: &mut String, hour: u16, minute: u8, second: u8) -> Result<(), AllocError>
     ensures { OnOk result (string_bytes text.new
         ≡ string_bytes text.old ++ clock_text hour minute second) }
 {
-    push_padded(text, u32::from(hour), 2)?;
+    push_pair(text, hour)?;
     text.push(':')?;
-    push_padded(text, u32::from(minute), 2)?;
+    push_pair(text, u16::from(minute))?;
     text.push(':')?;
-    push_padded(text, u32::from(second), 2)
+    push_pair(text, u16::from(second))
 }
 
 pub(crate) fn push_date(text: &mut String, date: Date) -> Result<(), AllocError>

@@ -1,25 +1,28 @@
 use Rattle.std.proofs.Common.{◌≡◌, ◌∙◌, ap, sym, refl, append-nil, ◌++◌, slice_get, Some, arith}
 use Rattle.json.specs.Print.{quoted}
 use Rattle.binlog_table.specs.RowImage.{RowImage}
+use Rattle.binlog_table.specs.NameOrder.{name_of}
 use Rattle.binlog_table.specs.Value.{view}
 use Rattle.binlog_json.proofs.ColumnTexts.{past_is_absent, absent_is, present_is, column_is, then_value}
 use Rattle.binlog_json.proofs.image.append_column.Goals as goal
 
 pub returns-then-column-column_count : goal.returns-then-column-column_count
 returns-then-column-column_count c =
-    rw (past_is_absent c.args.image.now c.args.column (let count = c.column_count.ensures.cells in omega arith)) (record { text = sym (append-nil _); later = refl; })
+    rw (past_is_absent c.args.image.now c.args.column (let count = c.column_count.ensures.cells in omega arith)) (record { text = sym (append-nil _); later = refl })
 
 pub returns-in-Absent : goal.returns-in-Absent
 returns-in-Absent c =
-    let at : slice_get c.args.image.now.cells c.args.column ≡ Some (view c.cell.result) = ap (λ (r : RowImage). slice_get r.cells c.args.column) (sym c.requires) ∙ c.cell.ensures in
-    rw (absent_is c.args.image.now c.args.column c.cell.result at c.in-Absent.is) (record { text = sym (append-nil _); later = refl; })
+    let at : slice_get c.args.image.now.cells c.args.column ≡ Some (view c.cell.result) = ap (λ (r : RowImage). slice_get r.cells c.args.column) (sym c.requires.row) ∙ c.cell.ensures in
+    rw (absent_is c.args.image.now c.args.column c.cell.result at c.in-Absent.is) (record { text = sym (append-nil _); later = refl })
 
 pub returns-in_ok-append_value-in_default : goal.returns-in_ok-append_value-in_default
 returns-in_ok-append_value-in_default c =
-    let at : slice_get c.args.image.now.cells c.args.column ≡ Some (view c.cell.result) = ap (λ (r : RowImage). slice_get r.cells c.args.column) (sym c.requires) ∙ c.cell.ensures in
-    let text = then_value c.args.out.now.items c.append_comma.new.out.items c.append_member_name.new.out.items c.append_value.new.out.items _ (quoted c.column_name.result.now) _
-    c.in_ok-append_comma-in_default.ensures c.in_ok-append_member_name-in_default.ensures c.in_ok-append_value-in_default.ensures in
+    let at : slice_get c.args.image.now.cells c.args.column ≡ Some (view c.cell.result) = ap (λ (r : RowImage). slice_get r.cells c.args.column) (sym c.requires.row) ∙ c.cell.ensures in
+    let below = c.column_count.ensures.names in
+    let label = c.label.ensures c.args.image.now.table.names c.requires.labels (omega arith) in
+    let text = then_value c.args.out.now.items c.append_comma.new.out.items c.extend_from_slice.new.self.items c.append_value.new.out.items _ (quoted (name_of c.args.image.now.table.names c.args.column)) _
+    c.in_ok-append_comma-in_default.ensures (c.in_ok-extend_from_slice-in_default.ensures.items ∙ ap (λ l. c.append_comma.new.out.items ++ l) label) c.in_ok-append_value-in_default.ensures in
     record {
-      text = text ∙ ap (λ t. c.args.out.now.items ++ t) (sym (column_is c.args.later c.args.image.now c.args.column c.cell.result c.column_name.result.now at c.in_default.not-Absent c.column_name.ensures));
+      text = text ∙ ap (λ t. c.args.out.now.items ++ t) (sym (column_is c.args.later c.args.image.now c.args.column c.cell.result at c.in_default.not-Absent));
       later = rw (present_is c.args.image.now c.args.column c.cell.result at c.in_default.not-Absent) refl;
     }

@@ -1,0 +1,114 @@
+//! The names of a table's columns as they stand in front of members, kept from image to image by the body of the table's map.
+ghost use Rattle.std.specs.Prelude.{◌≡◌, ◌<◌, ℕ, List, length, true, Ok, OnOk};
+ghost use Rattle.std.proofs.Props.{props};
+ghost use Rattle.binlog_table.specs.Map.{Map, map_at};
+ghost use Rattle.binlog_json.specs.Labels.{AreLabels, label_text};
+
+use crate::append::Quoter;
+use crate::values::append_member_name;
+use binlog_table::TableMap;
+use std::alloc::{AllocError, Global};
+
+/// How many tables' labels are kept.
+const TABLES: usize = 16;
+
+/// The labels of a table's columns, one behind another, where each begins and ends, and the body of the map that has the names.
+#[derive(Drop)]
+pub(crate) struct Labels {
+    /// Whether they are those of the body.
+    are_known: bool,
+    body: Vec<u8>,
+    text: Vec<u8>,
+    bounds: Vec<(usize, usize)>,
+    ghost known: { are_known ≡ true → (map : Map) → map_at body.items ≡ Ok map → AreLabels map.names text.items bounds.items } by { Prim.hlevel props },
+}
+
+impl Labels {
+    ghost use Rattle.std.specs.Prelude.{◌≡◌, ◌<◌, ℕ, List, length, true, Ok, OnOk};
+    ghost use Rattle.binlog_json.specs.Labels.{AreLabels, label_text};
+
+    fn new(alloc: Global) -> Labels {
+        Labels {
+            are_known: false,
+            body: Vec::new(alloc),
+            text: Vec::new(alloc),
+            bounds: Vec::new(alloc),
+        }
+    }
+
+    /// Takes the labels of a map's columns in place of those that it held, unless it holds these.
+    pub(crate) fn take(&mut self, map: &TableMap, quoter: &mut Quoter) -> Result<(), AllocError>
+        ensures { OnOk result (AreLabels map.now.names self.new.text.items self.new.bounds.items) }
+    {
+        if self.are_known && map.spells(&self.body) {
+            return Ok(());
+        }
+        self.are_known = false;
+        write_labels(&mut self.text, &mut self.bounds, quoter, map)?;
+        self.body.clear();
+        self.body.extend_from_slice(map.body())?;
+        self.are_known = true;
+        Ok(())
+    }
+
+    /// The label of a column.
+    pub(crate) fn label(&self, column: usize) -> &[u8]
+        ensures { (names : List (List ℕ)) → AreLabels names self.now.text.items self.now.bounds.items → column < length names
+            → result.now ≡ label_text names column }
+    {
+        let Some((start, end)) = self.bounds.get(column) else {
+            return &[];
+        };
+        match self.text.get(*start..*end) {
+            None => &[],
+            Some(label) => label,
+        }
+    }
+}
+
+/// Writes the labels of a map's columns in place of others.
+fn write_labels(
+    text: &mut Vec<u8>,
+    bounds: &mut Vec<(usize, usize)>,
+    quoter: &mut Quoter,
+    map: &TableMap,
+) -> Result<(), AllocError>
+    ensures { OnOk result (AreLabels map.now.names text.new.items bounds.new.items) }
+{
+    text.clear();
+    bounds.clear();
+    for column in 0..map.column_count() {
+        let start = text.len();
+        append_member_name(text, quoter, map.column_name(column))?;
+        bounds.push((start, text.len()))?;
+    }
+    Ok(())
+}
+
+/// The labels of some tables, each at a place that its table's id has.
+#[derive(Drop)]
+pub(crate) struct KeptLabels {
+    alloc: Global,
+    tables: Vec<Labels>,
+}
+
+impl KeptLabels {
+    pub(crate) fn new(alloc: Global) -> KeptLabels {
+        KeptLabels {
+            alloc,
+            tables: Vec::new(alloc),
+        }
+    }
+
+    /// What is kept at the place of a table.
+    pub(crate) fn at(&mut self, table_id: u64) -> Result<&mut Labels, AllocError> {
+        let place = (table_id % TABLES as u64) as usize;
+        for _missing in self.tables.len()..place + 1 {
+            self.tables.push(Labels::new(self.alloc))?;
+        }
+        match self.tables.get_mut(place) {
+            None => Err(AllocError),
+            Some(labels) => Ok(labels),
+        }
+    }
+}
