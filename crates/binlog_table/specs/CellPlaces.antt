@@ -1,5 +1,5 @@
 -- Where the cells of an image lie.
-use Rattle.std.specs.Prelude.{◌≡◌, ℕ, ◌≤◌, List, [], ◌∷◌, length, drop, Option, Some, None, IsSome, ⊤}
+use Rattle.std.specs.Prelude.{◌≡◌, ℕ, ◌+◌, ◌≤◌, List, [], ◌∷◌, length, drop, Option, Some, None, ⊤}
 use Rattle.binlog_table.specs.declared.column.Column.{Column}
 use Rattle.binlog_table.specs.declared.cell_places.CellPlace.{CellPlace}
 use Rattle.binlog_table.specs.Value.{Content, null}
@@ -18,12 +18,19 @@ cells_from [] values places = []
 cells_from (column ∷ columns) values [] = []
 cells_from (column ∷ columns) values (place ∷ places) = content_in (read_from column values place) ∷ cells_from columns values places
 
+-- from a place on, up to its end, a cell can be read
+pub record IsPlace (column : Column) (values : List ℕ) (place : CellPlace) : Type 0 where
+  pub cell : Content
+  pub len : ℕ
+  pub is : read_from column values place ≡ Some (cell, len)
+  pub ends : place.end ≡ place.start + len
+  pub within : place.end ≤ length values
+
 -- each column has a place at which its cell can be read
 abbrev pub ArePlaces : List Column → List ℕ → List CellPlace → Type 0
 ArePlaces [] values places = ⊤
 ArePlaces (column ∷ columns) values [] = ⊥
-ArePlaces (column ∷ columns) values (place ∷ places) =
-    (place.start ≤ length values) × IsSome (read_from column values place) × ArePlaces columns values places
+ArePlaces (column ∷ columns) values (place ∷ places) = IsPlace column values place × ArePlaces columns values places
 
 -- The places are those of the cells that stand behind `start`, of which the first is column i and number k of those that are present.
 pub record Fits (columns : List Column) (present nulls : List ℕ) (i k start : ℕ) (values : List ℕ) (places : List CellPlace) : Type 0 where

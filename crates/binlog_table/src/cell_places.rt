@@ -2,23 +2,25 @@
 ghost use Rattle.std.specs.Prelude.{◌≡◌, ◌≤◌, ◌+◌, ℕ, length, Some, IsSome, IfSome, OnOk};
 ghost use Rattle.binlog_table.specs.Value.{Content, view};
 ghost use Rattle.binlog_table.specs.Image.{cell_at, cells_at, IsRead};
-ghost use Rattle.binlog_table.specs.CellPlaces.{Fits, read_from, content_in};
+ghost use Rattle.binlog_table.specs.CellPlaces.{Fits, IsPlace, read_from, content_in};
 
 use crate::cell::Cell;
 use crate::column::Column;
 use crate::extent::{extent_len, extent_of};
-use crate::image::{bit, cell_at, set_bits};
+use crate::image::{bit, set_bits};
 use crate::row_view::RowView;
 use crate::table_map::TableMap;
+use crate::value::known_value;
 use std::alloc::AllocError;
 use std::marker::Model;
 
-/// Whether a column is present and null, and where its value begins among the values of its image.
+/// Whether a column is present and null, and where its value begins and ends among the values of its image.
 #[derive(Clone, Copy, Drop)]
 pub struct CellPlace {
     pub(crate) is_present: bool,
     pub(crate) is_null: bool,
     pub(crate) start: usize,
+    pub(crate) end: usize,
 }
 
 /// How many bytes a cell takes that can be read.
@@ -60,6 +62,7 @@ fn find_places(
             is_present,
             is_null,
             start,
+            end: start + len,
         })?;
         start += len;
         if is_present {
@@ -71,13 +74,16 @@ fn find_places(
 
 /// The cell at a place among these values.
 fn cell_in<'a>(column: &Column, place: CellPlace, values: &'a [u8]) -> Cell<'a>
-    requires within { place.start ≤ length values.now }
-    requires some { IsSome (read_from column.now values.now place) }
+    requires { IsPlace column.now values.now place }
     ensures { view result ≡ content_in (read_from column.now values.now place) }
 {
-    let bytes = &values[place.start..];
-    let (cell, _) = cell_at(column, place.is_present, place.is_null, bytes).unwrap();
-    cell
+    if !place.is_present {
+        return Cell::Absent;
+    }
+    if place.is_null {
+        return Cell::Null;
+    }
+    known_value(column, &values[place.start..place.end])
 }
 
 /// An image of a row whose cells are found without a walk. It owns the room of their places, and gives it back.

@@ -1,5 +1,5 @@
 //! Decimals: groups of digits, the highest first.
-ghost use Rattle.std.specs.Prelude.{◌≡◌, ◌≤◌, ◌<◌, ◌^◌, ◌+◌, ◌-◌, ◌*◌, ◌%◌, ◌/◌, ◌++◌, length, take, map, option_map, is_some, IfSome};
+ghost use Rattle.std.specs.Prelude.{◌≡◌, ◌≤◌, ◌<◌, ◌^◌, ◌+◌, ◌-◌, ◌*◌, ◌%◌, ◌/◌, ◌++◌, length, take, map, option_map, is_some, true, Some, IfSome};
 ghost use Rattle.byteorder.specs.Endian.{big_number};
 ghost use Rattle.binlog_table.specs.DecimalShown.{decimal_view};
 ghost use Rattle.binlog_table.specs.Decimal.{plain, group_len, group_at, nines_at, digits_at, digits_of, after_group, after_nines, after_digits, plain_byte, appended, both, decimal_len, decimal_of};
@@ -147,6 +147,20 @@ pub(crate) fn decimal_of(size: DecimalSize, text: &[u8]) -> Option<DecimalView<'
         })
     } else {
         None
+    }
+}
+
+/// The decimal of bytes that are known to spell one.
+#[tactic(auto, unfolding(crate::specs::Decimal::decimal_of))]
+pub(crate) fn known_decimal(size: DecimalSize, text: &[u8]) -> DecimalView<'_>
+    requires whole { length text.now ≡ decimal_len size.precision size.scale }
+    requires known { is_some (decimal_of size.precision size.scale text.now) ≡ true }
+    ensures { decimal_of size.precision size.scale text.now ≡ Some (decimal_view result) }
+{
+    DecimalView {
+        text,
+        precision: size.precision(),
+        scale: size.scale(),
     }
 }
 

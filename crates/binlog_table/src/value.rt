@@ -1,11 +1,11 @@
 //! What the bytes of a value mean.
-ghost use Rattle.std.specs.Prelude.{◌≡◌, ◌≤◌, option_map, is_some};
+ghost use Rattle.std.specs.Prelude.{◌≡◌, ◌≤◌, option_map, is_some, true, Some};
 ghost use Rattle.binlog_table.specs.Extent.{HasExtent, extent_of};
 ghost use Rattle.binlog_table.specs.Value.{value_of, view};
 
 use crate::cell::Cell;
 use crate::column::{Column, Layout};
-use crate::decimal::decimal_of;
+use crate::decimal::{decimal_of, known_decimal};
 use crate::number::{big, little, little_signed};
 use crate::time::{date_of, date_time_of, time_of, timestamp_of};
 
@@ -38,6 +38,19 @@ pub(crate) fn value_of<'a>(column: &Column, text: &'a [u8]) -> Option<Cell<'a>>
         Layout::Decimal(size) => Some(Cell::Decimal(decimal_of(*size, text)?)),
         Layout::Enum(size) => Some(Cell::Enum(little(text, size.get()) as u16)),
         Layout::Set(width) => Some(Cell::Set(little(text, width.get()))),
+    }
+}
+
+/// What the whole text of a value means that is known to mean something.
+#[tactic(auto, unfolding(crate::specs::Value::value_of))]
+pub(crate) fn known_value<'a>(column: &Column, text: &'a [u8]) -> Cell<'a>
+    requires extent { HasExtent (extent_of column.now.layout) text.now }
+    requires known { is_some (value_of column.now text.now) ≡ true }
+    ensures { value_of column.now text.now ≡ Some (view result) }
+{
+    match &column.layout {
+        Layout::Decimal(size) => Cell::Decimal(known_decimal(*size, text)),
+        _ => value_of(column, text).unwrap(),
     }
 }
 

@@ -1,25 +1,30 @@
-use Rattle.std.proofs.Common.{◌≡◌, ℕ, Option, Some, None, drop, option_map, refl, sym, subst, ap, ◌∙◌}
-use Rattle.std.proofs.lemmas.List.{take_rest}
-use Rattle.std.specs.Prelude.{IsSome}
-use Rattle.binlog_table.specs.declared.cell.Cell.{Cell}
-use Rattle.binlog_table.specs.Value.{Content, view}
-use Rattle.binlog_table.specs.Image.{cell_at}
-use Rattle.binlog_table.specs.CellPlaces.{content_in}
+use Rattle.std.proofs.Common.{◌≡◌, Bool, true, false, not, is_some, refl, sym, ap, ◌∙◌}
+use Rattle.binlog_table.proofs.Extents.{some_is}
+use Rattle.binlog_table.proofs.PlacedCells.{text_is, absent_is, null_is}
 use Rattle.binlog_table.proofs.cell_places.cell_in.Goals as goal
 
-is_some : (o : Option (Cell × ℕ)) (read : Option (Content × ℕ)) → option_map (λ x. (view x.0, x.1)) o ≡ read → IsSome read → IsSome o
-is_some None read e h = let no : IsSome {T = Content × ℕ} None = subst (λ (r : Option (Content × ℕ)). IsSome r) (sym e) h in absurd cc
-is_some (Some x) read e h = refl
+is_false : (b : Bool) → not b ≡ true → b ≡ false
+is_false true h = absurd cc
+is_false false h = refl
 
-view_of : (o : Option (Cell × ℕ)) (x : Cell × ℕ) (read : Option (Content × ℕ)) → option_map (λ x. (view x.0, x.1)) o ≡ read → o ≡ Some x → view x.0 ≡ content_in read
-view_of o x read e is = ap content_in (ap (option_map (λ x. (view x.0, x.1))) (sym is) ∙ e)
+is_true : (b : Bool) → not b ≡ false → b ≡ true
+is_true true h = refl
+is_true false h = absurd cc
 
-pub unwrap-requires : goal.unwrap-requires
-unwrap-requires c =
-    is_some c.cell_at.result (cell_at c.args.column.now c.args.place.is_present c.args.place.is_null (drop c.args.place.start c.args.values.now))
-    (rw (take_rest c.args.values.now c.args.place.start) at c.cell_at.ensures.value) c.requires.some
+pub returns-then-not-place : goal.returns-then-not-place
+returns-then-not-place c = sym (absent_is c.args.column.now c.args.values.now c.args.place (is_false _ c.if-not-place.true))
+
+pub returns-then-place : goal.returns-then-place
+returns-then-place c = sym (null_is c.args.column.now c.args.values.now c.args.place (is_true _ c.if-not-place.false) c.if-place.true)
+
+pub known_value-requires-clause-extent : goal.known_value-requires-clause-extent
+known_value-requires-clause-extent c = (text_is c.args.column.now c.args.values.now c.args.place (is_true _ c.if-not-place.false) c.if-place.false c.requires).extent
+
+pub known_value-requires-clause-known : goal.known_value-requires-clause-known
+known_value-requires-clause-known c =
+    ap is_some (text_is c.args.column.now c.args.values.now c.args.place (is_true _ c.if-not-place.false) c.if-place.false c.requires).is
 
 pub returns : goal.returns
 returns c =
-    view_of c.cell_at.result c.unwrap.result (cell_at c.args.column.now c.args.place.is_present c.args.place.is_null (drop c.args.place.start c.args.values.now))
-    (rw (take_rest c.args.values.now c.args.place.start) at c.cell_at.ensures.value) c.unwrap.ensures
+    let text = text_is c.args.column.now c.args.values.now c.args.place (is_true _ c.if-not-place.false) c.if-place.false c.requires in
+    some_is _ _ (sym c.known_value.ensures ∙ text.is) ∙ sym text.read

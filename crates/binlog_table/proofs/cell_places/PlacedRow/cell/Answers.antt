@@ -9,15 +9,10 @@ index-place-requires c =
     let count = places_count c.self.inside.map.now.columns c.self.inside.values.now c.self.inside.places.items c.self.invariant in
     omega arith
 
-pub cell_in-requires-clause-within : goal.cell_in-requires-clause-within
-cell_in-requires-clause-within c =
+pub cell_in-requires : goal.cell_in-requires
+cell_in-requires c =
     let same = ap (λ (r : RowImage). length r.table.columns) c.self.view_is in
-    (place_at c.self.inside.map.now.columns c.self.inside.values.now c.self.inside.places.items c.args.column c.index-columns-column.result c.index-place.result.now c.self.invariant (omega arith) (rw c.columns-columns.ensures at c.index-columns-column.is) c.index-place.ensures).within
-
-pub cell_in-requires-clause-some : goal.cell_in-requires-clause-some
-cell_in-requires-clause-some c =
-    let same = ap (λ (r : RowImage). length r.table.columns) c.self.view_is in
-    (place_at c.self.inside.map.now.columns c.self.inside.values.now c.self.inside.places.items c.args.column c.index-columns-column.result c.index-place.result.now c.self.invariant (omega arith) (rw c.columns-columns.ensures at c.index-columns-column.is) c.index-place.ensures).some
+    (place_at c.self.inside.map.now.columns c.self.inside.values.now c.self.inside.places.items c.args.column c.index-columns-column.result c.index-place.result.now c.self.invariant (omega arith) (rw c.columns-columns.ensures at c.index-columns-column.is) c.index-place.ensures).place
 
 pub returns : goal.returns
 returns c =
