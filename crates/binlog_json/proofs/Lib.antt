@@ -13,3 +13,6 @@ pub mod LineParts
 pub mod KeyFloats
 pub mod Visiting
 pub mod Pairs
+pub mod Indexes
+pub mod Placing
+pub mod Absorbing

@@ -9,3 +9,4 @@ pub mod Written
 pub mod PlainText
 pub mod Keys
 pub mod Histories
+pub mod Index
