@@ -1,4 +1,5 @@
 //! The verbs of table maps, rows, values and lines.
+use crate::histories::history_text;
 use crate::images::images_text;
 use crate::json_lines::{judge_lines, judge_lines_again};
 use crate::maps::{map_cuts_text, map_size_text, map_text};
@@ -25,6 +26,7 @@ impl Verbs for RowVerbs {
         match verb {
             "lines" => judge_lines(rt.alloc(), case),
             "lines-again" => judge_lines_again(rt.alloc(), case),
+            "history" => Ok(Verdict::of(case, history_text(rt.alloc(), case, words)?)),
             _ => Ok(Verdict::of(case, text_of(rt.alloc(), pieces, verb, words)?)),
         }
     }
