@@ -1,9 +1,8 @@
 -- The labels of columns, kept behind one another.
-use Rattle.std.proofs.Common.{◌≡◌, ℕ, zero, suc, ◌+◌, ◌-◌, ◌<◌, ◌≤◌, nat_lt, List, [], ◌∷◌, ◌++◌, Bool, true, false, length, take, drop, slice_get, slice_index_or, Some, Result, Ok, ltb-true, ltb-false, length-append, refl, ap, sym, subst, ◌∙◌, arith}
+use Rattle.std.proofs.Common.{◌≡◌, ℕ, zero, suc, ◌+◌, ◌-◌, ◌<◌, ◌≤◌, nat_lt, List, [], ◌∷◌, ◌++◌, Bool, true, false, length, take, drop, slice_get, slice_index_or, Some, ltb-true, ltb-false, length-append, refl, ap, sym, subst, ◌∙◌, arith}
 use Rattle.std.proofs.lemmas.List.{take-append-le, take_all}
 use Rattle.json.specs.Print.{quoted}
-use Rattle.binlog_table.specs.Map.{Map, map_at}
-use Rattle.binlog_json.specs.Labels.{label_text, IsLabel, AreWritten, AreLabels}
+use Rattle.binlog_json.specs.Labels.{label_text, IsLabel, AreWritten}
 use Rattle.binlog_json.proofs.ColumnTexts.{index_of_get}
 
 slice_longer : (text more : List ℕ) (s n : ℕ) → s + n ≤ length text → take n (drop s (text ++ more)) ≡ take n (drop s text)
