@@ -7,8 +7,9 @@ LOGS is the server's index file, the folder that has one, or a pattern in quotes
 of this machine. With it they are those of a cluster, to whose machines the logs, the program and FOLDER are known under the
 same paths.
 
-This rests on one fact: a transaction or a statement never crosses files. So the lines of a list of files are those of its
-files, one after the other, up to the first fault. That is no proved law yet: the tests compare the bytes.
+This rests on one fact: a transaction or a statement never crosses files. So the changes of a list of files are those of its
+files, one after the other, up to the first fault, where each is read with an empty file of the next one's name behind it. That is
+a proved law (`files_are_read_apart`, docs/GUARANTEES.md). That this script joins the lines so is only tested: by their bytes.
 """
 from __future__ import annotations
 
