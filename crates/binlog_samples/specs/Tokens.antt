@@ -5,6 +5,7 @@ use Rattle.binlog_select.specs.declared.token.Token.{Token}
 use Rattle.binlog_feed.specs.Story.{LogFile}
 use Rattle.binlog_feed.specs.Changes.{RowChange}
 use Rattle.binlog_feed.specs.Continues.{Continues}
+use Rattle.binlog_feed.specs.FeedLaws.{fed_apart}
 use Rattle.binlog_feed.specs.Tokens.{Judgement, judge, rest, end_after}
 use Rattle.binlog_feed.specs.Tokens.Judgement.{NoFile, Fits, NoChange, Faulty, NoTransaction}
 use Rattle.binlog_feed.specs.declared.fault.LogFault.{LogFault}
@@ -164,6 +165,19 @@ FaultInEarlier =
     Judges bad_before 153 0 second_name Fits × Judges bad_before 153 1 second_name Fits × Judges bad_before 999 0 second_name NoTransaction
     × Judges bad_before 153 1 first_name (faulty 0 0 BadMagic)
     × Rests bad_before (token 153 0 second_name) (second_change ∷ []) × Ends bad_before 153 0 second_name None × Has bad_before [] (fault_at 0 0 BadMagic)
+
+-- ---- files that are read apart
+
+-- what files come to, each by itself
+abbrev pub ComeApartTo : List LogFile → List Brief → Option LogFault → Type 0
+ComeApartTo files those end = (map brief (fed_apart (λ change. true) 0 files).changes ≡ those) × ((fed_apart (λ change. true) 0 files).end ≡ end)
+
+-- a fault has the number of its file in the list, and ends what comes: also one of a ROTATE, by the next one's name
+abbrev pub FilesApart : Type 0
+FilesApart =
+    ComeApartTo two_files (first_change ∷ second_change ∷ []) None × ComeApartTo bad_in_second (first_change ∷ []) (fault_at 1 306 BadRows)
+    × ComeApartTo rotates_past (first_change ∷ []) (fault_at 0 371 RotationMismatch)
+    × ComeApartTo second_rotates_past (first_change ∷ second_change ∷ []) (fault_at 1 371 RotationMismatch) × ComeApartTo bad_before [] (fault_at 0 0 BadMagic)
 
 -- ---- files that go on
 
