@@ -12,10 +12,6 @@ pub fn sample_values()
     ensures sets { Sets }
     ensures texts { Texts }
     ensures blobs { Blobs }
-{}
-
-/// What bytes of decimals say.
-pub fn sample_decimals()
     ensures decimals { Decimals }
     ensures decimal_groups { DecimalGroups }
     ensures decimal_groups_below_zero { DecimalGroupsBelowZero }
