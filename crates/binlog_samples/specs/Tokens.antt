@@ -1,4 +1,4 @@
--- Tokens over small files: how they are judged, and what stands behind them.
+-- Tokens over small files: how they are judged, and what stands behind them; and such files read apart, and gone on.
 use Rattle.std.specs.Prelude.{◌≡◌, ℕ, List, [], ◌∷◌, ◌++◌, take, map, Option, Some, None, Bool, true, codes}
 use Rattle.binlog_select.specs.declared.kind.ChangeKind.TheVariants.{Insert}
 use Rattle.binlog_select.specs.declared.token.Token.{Token}

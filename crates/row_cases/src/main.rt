@@ -1,4 +1,4 @@
-//! Carries out cases of table maps, rows, values and the lines of changes.
+//! Carries out cases of table maps, rows, values, the lines of changes, and the places of a key's changes.
 #![tactic(auto)]
 
 mod cells;

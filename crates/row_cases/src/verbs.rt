@@ -1,4 +1,4 @@
-//! The verbs of table maps, rows, values and lines.
+//! The verbs of table maps, rows, values, lines and histories.
 use crate::histories::history_text;
 use crate::images::images_text;
 use crate::json_lines::{judge_lines, judge_lines_again};
