@@ -15,7 +15,7 @@ MARK = re.compile("%[%s]")
 
 
 class PsqlError(Exception):
-    """psql ended. It says why on standard error."""
+    """psql ended, and says why on standard error; or a value is none that PostgreSQL has."""
 
 
 class Answer(NamedTuple):

@@ -12,10 +12,11 @@ from binlogfeed.follow import Follower
 
 FILTERS = ("only-events", "only-tables", "ignored-tables", "only-schemas", "ignored-schemas", "auto-position")
 HELP = """LOGS is the server's index file (binlog.index), the folder that has one, or a pattern in quotes ('/copies/binlog.*').
-The place in FILE is kept once the lines before it are written and flushed. After a kill the last second's lines may come
-again; a line's token tells them. One process uses FILE at a time, and FILE.lock says so.
+The place in FILE is kept once the lines before it are written and flushed. After a kill the last lines may come again; a
+line's token tells them. One process uses FILE at a time, and FILE.lock says so.
 
-Exit status: that of `binlogfeed read`, and 6 where logs that were still to be read are gone. docs/USAGE.md says what to do."""
+Exit status: that of `binlogfeed read`; 3 also where FILE keeps no place, 4 where another process uses it; 6 where logs that
+were still to be read are gone, and 70 where the program can't be started. docs/USAGE.md says what to do."""
 
 
 def given_words() -> argparse.Namespace:

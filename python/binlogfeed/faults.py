@@ -35,7 +35,7 @@ class LogFault(BinlogfeedError):
 
 
 class WordsRefused(BinlogfeedError):
-    """The program refused an option's value, or two of the files have one name."""
+    """The program refused its words (no file, say) or an option's value, or two of the files have one name."""
 
     status = 2
 
@@ -52,7 +52,7 @@ class TokenRefused(BinlogfeedError):
 
 
 class FileFault(BinlogfeedError):
-    """A file can't be opened, read or written."""
+    """A file can't be opened, read or written, logs can't be listed, or another process uses the kept place."""
 
     status = 4
 

@@ -89,7 +89,7 @@ def check_without_gap(logs: Sequence[Path]) -> None:
 def beginning(path: Path) -> str | None:
     """A digest of a log's first event, which has the server and the time; None where that isn't whole yet.
 
-    Another log under the same name, as RESET BINARY LOGS makes it, has another.
+    Another log under the same name, as RESET MASTER makes it, has another.
     """
     try:
         with open(path, "rb") as log:
