@@ -60,16 +60,16 @@ two_to_seven = uint 2 ∷ uint 3 ∷ uint 4 ∷ uint 5 ∷ uint 6 ∷ uint 7 ∷
 -- ---- the bytes of bitmaps
 
 -- no null; the first and the last are; the first and the last aren't there, and the last of the others is null; a byte is wanting, or left
-abbrev pub EightColumns : Type 0
-EightColumns =
+abbrev pub RowsOfEight : Type 0
+RowsOfEight =
     Has (of_tiny write 8 "08 ff 00 01 02 03 04 05 06 07 08") (new (uint 1 ∷ two_to_seven ++ uint 8 ∷ []) ∷ [])
     × Has (of_tiny write 8 "08 ff 81 02 03 04 05 06 07") (new (null ∷ two_to_seven ++ null ∷ []) ∷ [])
     × Has (of_tiny delete 8 "08 7e 20 02 03 04 05 06") (old (absent ∷ uint 2 ∷ uint 3 ∷ uint 4 ∷ uint 5 ∷ uint 6 ∷ null ∷ absent ∷ []) ∷ [])
     × HasNone (of_tiny write 8 "08 ff 00 01 02 03 04 05 06 07") × HasNone (of_tiny write 8 "08 ff 00 01 02 03 04 05 06 07 08 00")
 
 -- no null; the ninth is; the first isn't there, and the ninth, the eighth of those that are, is null; a byte is wanting; another width
-abbrev pub NineColumns : Type 0
-NineColumns =
+abbrev pub RowsOfNine : Type 0
+RowsOfNine =
     Has (of_tiny write 9 "09 ff 01 00 00 01 02 03 04 05 06 07 08 09") (new (uint 1 ∷ two_to_seven ++ uint 8 ∷ uint 9 ∷ []) ∷ [])
     × Has (of_tiny write 9 "09 ff 01 00 01 01 02 03 04 05 06 07 08") (new (uint 1 ∷ two_to_seven ++ uint 8 ∷ null ∷ []) ∷ [])
     × Has (of_tiny write 9 "09 fe 01 80 02 03 04 05 06 07 08") (new (absent ∷ two_to_seven ++ uint 8 ∷ null ∷ []) ∷ [])
@@ -82,8 +82,8 @@ FewOfNine =
     × Has (of_tiny update 9 "09 00 01 01 00 00 09 00 01") (changed (absents 8 ++ uint 9 ∷ []) (uint 1 ∷ absents 8) ∷ [])
 
 -- the first, the tenth and the last are null; few are there; an update from the 9th, 10th and 17th to the first, the 16th and the 17th
-abbrev pub SeventeenColumns : Type 0
-SeventeenColumns =
+abbrev pub RowsOfSeventeen : Type 0
+RowsOfSeventeen =
     Has (of_tiny write 17 "11 ff ff 01 01 02 01 02 03 04 05 06 07 08 09 0b 0c 0d 0e 0f 10")
     (new (null ∷ two_to_seven ++ uint 8 ∷ uint 9 ∷ null ∷ uint 11 ∷ uint 12 ∷ uint 13 ∷ uint 14 ∷ uint 15 ∷ uint 16 ∷ null ∷ []) ∷ [])
     × Has (of_tiny write 17 "11 01 80 01 02 01 11") (new (uint 1 ∷ absents 14 ++ null ∷ uint 17 ∷ []) ∷ [])

@@ -1,8 +1,10 @@
-//! The definitions of values of columns, over their bytes.
+//! The definitions of values of columns, dates and times among them, and of packed numbers, over their bytes.
 ghost use Rattle.binlog_samples.specs.Values.{Integers, WideIntegers, Floats, BitFields, Enums, Sets, Texts, Blobs};
 ghost use Rattle.binlog_samples.specs.Values.{Decimals, DecimalGroups, DecimalGroupsBelowZero, WideDecimals, BadDecimals};
+ghost use Rattle.binlog_samples.specs.Times.{Dates, DateTimes, Times, TimesBelowZero, Timestamps};
+ghost use Rattle.binlog_samples.specs.Packed.{PackedNumbers, LongNumbers, NoNumbers};
 
-/// What bytes of values say.
+/// What bytes of values and of packed numbers say.
 pub fn sample_values()
     ensures integers { Integers }
     ensures wide_integers { WideIntegers }
@@ -17,4 +19,12 @@ pub fn sample_values()
     ensures decimal_groups_below_zero { DecimalGroupsBelowZero }
     ensures wide_decimals { WideDecimals }
     ensures bad_decimals { BadDecimals }
+    ensures dates { Dates }
+    ensures date_times { DateTimes }
+    ensures times { Times }
+    ensures times_below_zero { TimesBelowZero }
+    ensures timestamps { Timestamps }
+    ensures packed_numbers { PackedNumbers }
+    ensures long_numbers { LongNumbers }
+    ensures no_numbers { NoNumbers }
 {}
