@@ -1,8 +1,11 @@
 -- The labels of columns, kept behind one another.
 use Rattle.std.proofs.Common.{◌≡◌, ℕ, zero, suc, ◌+◌, ◌-◌, ◌<◌, ◌≤◌, nat_lt, List, [], ◌∷◌, ◌++◌, Bool, true, false, length, take, drop, slice_get, slice_index_or, Some, ltb-true, ltb-false, length-append, refl, ap, sym, subst, ◌∙◌, arith}
 use Rattle.std.proofs.lemmas.List.{take-append-le, take_all}
+use Rattle.std.proofs.lemmas.Str.{IsUtf8-from_is_utf8, is_utf8-from_IsUtf8}
+use Rattle.std.specs.Str.{IsUtf8, is_utf8}
 use Rattle.json.specs.Print.{quoted}
-use Rattle.binlog_json.specs.Labels.{label_text, IsLabel, AreWritten}
+use Rattle.json.proofs.Printed.Utf8.{IsUtf8-key}
+use Rattle.binlog_json.specs.Labels.{label_text, IsLabel, AreWritten, AreLabels}
 use Rattle.binlog_json.proofs.ColumnTexts.{index_of_get}
 
 slice_longer : (text more : List ℕ) (s n : ℕ) → s + n ≤ length text → take n (drop s (text ++ more)) ≡ take n (drop s text)
@@ -19,14 +22,15 @@ longer names text more new column b h is =
       ordered = h.ordered;
       within = omega arith;
       is = rw is (slice_longer text more b.0 (b.1 - b.0) (omega arith) ∙ h.is);
+      utf8 = h.utf8;
     }
 
 at_end : (text more : List ℕ) → drop (length text) (text ++ more) ≡ more
 at_end [] more = refl
 at_end (x ∷ text) more = at_end text more
 
-newest : (names : List (List ℕ)) (text new : List ℕ) (k : ℕ) → new ≡ text ++ label_text names k → IsLabel names new k (length text, length new)
-newest names text new k is =
+newest : (names : List (List ℕ)) (text new : List ℕ) (k : ℕ) → new ≡ text ++ label_text names k → is_utf8 (label_text names k) ≡ true → IsLabel names new k (length text, length new)
+newest names text new k is utf8 =
     let len : length new ≡ length text + length (label_text names k) = ap length is ∙ length-append text (label_text names k) in
     let size : length new - length text ≡ length (label_text names k) = omega arith in
     record {
@@ -34,6 +38,7 @@ newest names text new k is =
       within = omega arith;
       is = ap (λ n. take n (drop (length text) new)) size ∙ ap (λ t. take (length (label_text names k)) (drop (length text) t)) is
           ∙ ap (take (length (label_text names k))) (at_end text (label_text names k)) ∙ take_all (length (label_text names k)) (label_text names k) (omega arith);
+      utf8 = utf8;
     }
 
 index_front : (bounds : List (ℕ × ℕ)) (x : ℕ × ℕ) (i : ℕ) → i < length bounds → slice_index_or (bounds ++ x ∷ []) i (0, 0) ≡ slice_index_or bounds i (0, 0)
@@ -46,24 +51,36 @@ index_last [] x = refl
 index_last (b ∷ bounds) x = index_last bounds x
 
 each_at : (b : Bool) (names : List (List ℕ)) (text new : List ℕ) (bounds : List (ℕ × ℕ)) → AreWritten names text bounds → new ≡ text ++ label_text names (length bounds)
-    → (column : ℕ) → column < length bounds + 1 → nat_lt column (length bounds) ≡ b → IsLabel names new column (slice_index_or (bounds ++ (length text, length new) ∷ []) column (0, 0))
-each_at true names text new bounds each is column below before =
+    → is_utf8 (label_text names (length bounds)) ≡ true → (column : ℕ) → column < length bounds + 1 → nat_lt column (length bounds) ≡ b → IsLabel names new column (slice_index_or (bounds ++ (length text, length new) ∷ []) column (0, 0))
+each_at true names text new bounds each is utf8 column below before =
     let lower : column < length bounds = ltb-true column (length bounds) before in
     subst (IsLabel names new column) (sym (index_front bounds (length text, length new) column lower))
     (longer names text (label_text names (length bounds)) new column _ (each column lower) is)
-each_at false names text new bounds each is column below before =
+each_at false names text new bounds each is utf8 column below before =
     let upper : length bounds ≤ column = ltb-false column (length bounds) before in
     let same : length bounds ≡ column = omega arith in
     subst (λ c. IsLabel names new c (slice_index_or (bounds ++ (length text, length new) ∷ []) c (0, 0))) same
-    (subst (IsLabel names new (length bounds)) (sym (index_last bounds (length text, length new))) (newest names text new (length bounds) is))
+    (subst (IsLabel names new (length bounds)) (sym (index_last bounds (length text, length new))) (newest names text new (length bounds) is utf8))
 
-pub each_more : (names : List (List ℕ)) (text new : List ℕ) (bounds after : List (ℕ × ℕ)) (k : ℕ) → AreWritten names text bounds → length bounds ≡ k → new ≡ text ++ label_text names k
+pub each_more : (names : List (List ℕ)) (text new : List ℕ) (bounds after : List (ℕ × ℕ)) (k : ℕ) → AreWritten names text bounds → length bounds ≡ k → new ≡ text ++ label_text names k → is_utf8 (label_text names k) ≡ true
     → after ≡ bounds ++ (length text, length new) ∷ [] → AreWritten names new after
-each_more names text new bounds after k each count is pushed column below =
+each_more names text new bounds after k each count is utf8 pushed column below =
     let len : length after ≡ length bounds + 1 = ap length pushed ∙ length-append bounds ((length text, length new) ∷ []) in
     let more : new ≡ text ++ label_text names (length bounds) = rw count is in
+    let whole : is_utf8 (label_text names (length bounds)) ≡ true = rw count utf8 in
     subst (λ bs. IsLabel names new column (slice_index_or bs column (0, 0))) (sym pushed)
-    (each_at (nat_lt column (length bounds)) names text new bounds each more column (omega arith) refl)
+    (each_at (nat_lt column (length bounds)) names text new bounds each more whole column (omega arith) refl)
 
 pub named_label : (names : List (List ℕ)) (text new : List ℕ) (k : ℕ) (name : List ℕ) → slice_get names k ≡ Some name → new ≡ text ++ (quoted name ++ 58 ∷ []) → new ≡ text ++ label_text names k
 named_label names text new k name at is = is ∙ ap (λ n. text ++ (quoted n ++ 58 ∷ [])) (sym (index_of_get names k name [] at))
+
+pub named_utf8 : (names : List (List ℕ)) (k : ℕ) (name : List ℕ) → slice_get names k ≡ Some name → IsUtf8 name → is_utf8 (label_text names k) ≡ true
+named_utf8 names k name at text =
+    ap (λ n. is_utf8 (quoted n ++ 58 ∷ [])) (index_of_get names k name [] at) ∙ is_utf8-from_IsUtf8 (quoted name ++ 58 ∷ []) (IsUtf8-key name text)
+
+-- a label is text
+pub label_utf8 : (names : List (List ℕ)) (text : List ℕ) (bounds : List (ℕ × ℕ)) (column : ℕ) (label : List ℕ) → AreLabels names text bounds → column < length names
+    → label ≡ label_text names column → IsUtf8 label
+label_utf8 names text bounds column label h below is =
+    let all = h.all in
+    subst IsUtf8 (sym is) (IsUtf8-from_is_utf8 (label_text names column) (h.each column (omega arith)).utf8)

@@ -5,12 +5,10 @@ pub mod PlainText
 pub mod Folding
 pub mod Putting
 pub mod NameOrders
-pub mod Floats
 pub mod Quoting
 pub mod ColumnTexts
 pub mod LabelTexts
 pub mod LineParts
-pub mod KeyFloats
 pub mod Visiting
 pub mod Pairs
 pub mod Indexes

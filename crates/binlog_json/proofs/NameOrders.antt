@@ -61,7 +61,7 @@ turn image order is ms x y i j =
     (λ e. ap (value_data image) (same_name image.table.names order x y is.ascending i j e))
 
 -- put in the order of the names, the columns give the same members
-pub image_members-ordered : (image : RowImage) (order : List ℕ) → IsNameOrder image.table.names order → image_members image ≡ fold (put_column image) no_members order
+image_members-ordered : (image : RowImage) (order : List ℕ) → IsNameOrder image.table.names order → image_members image ≡ fold (put_column image) no_members order
 image_members-ordered image order is =
     same_fold (put_column image) (λ x. In x order) (turn image order is) (range_with_len 0 (length image.table.names)) order no_members is.each (all_in order order (λ x i. i))
 

@@ -7,7 +7,7 @@ use Rattle.std.proofs.lemmas.Simd.{length-chunk, leading_from_mask_l, zip2_splat
 use Rattle.std.proofs.lemmas.Str.{IsUtf8-from_ascii, is_utf8-from_IsUtf8}
 use Rattle.std.specs.Bool.{OnTrue}
 use Rattle.std.specs.List.{prefix_len}
-use Rattle.std.specs.Str.{is_utf8}
+use Rattle.std.specs.Str.{IsUtf8, is_utf8}
 use lib.Lanes.{chunk, mask_l, zip2, top}
 use Rattle.json.specs.Print.{escape}
 use Rattle.json.proofs.Printed.Plain.{escape_on_plain}
@@ -90,5 +90,8 @@ plain_ascii (x ∷ text) h zero = ascii_byte x (h zero (omega arith) (omega arit
 plain_ascii (x ∷ text) h (suc k) = plain_ascii text (λ j p q. h (suc j) (omega arith) (omega arith)) k
 
 -- plain text is UTF-8
+pub plain_text : (text : List ℕ) → IsPlain text → IsUtf8 text
+plain_text text h = IsUtf8-from_ascii text (plain_ascii text h)
+
 pub plain_utf8 : (text : List ℕ) → IsPlain text → is_utf8 text ≡ true
-plain_utf8 text h = is_utf8-from_IsUtf8 text (IsUtf8-from_ascii text (plain_ascii text h))
+plain_utf8 text h = is_utf8-from_IsUtf8 text (plain_text text h)

@@ -1,5 +1,6 @@
 -- The names of columns as they stand in front of members, kept behind one another.
-use Rattle.std.specs.Prelude.{◌≡◌, ℕ, ◌-◌, ◌<◌, ◌≤◌, List, [], ◌∷◌, ◌++◌, length, take, drop, slice_index_or}
+use Rattle.std.specs.Prelude.{◌≡◌, ℕ, ◌-◌, ◌<◌, ◌≤◌, List, [], ◌∷◌, ◌++◌, length, take, drop, slice_index_or, true}
+use Rattle.std.specs.Str.{is_utf8}
 use Rattle.json.specs.Print.{quoted}
 use Rattle.binlog_table.specs.NameOrder.{name_of}
 
@@ -12,6 +13,7 @@ pub record IsLabel (names : List (List ℕ)) (text : List ℕ) (column : ℕ) (b
   pub ordered : bounds.0 ≤ bounds.1
   pub within : bounds.1 ≤ length text
   pub is : take (bounds.1 - bounds.0) (drop bounds.0 text) ≡ label_text names column
+  pub utf8 : is_utf8 (label_text names column) ≡ true
 
 -- the first columns' labels
 abbrev pub AreWritten : List (List ℕ) → List ℕ → List (ℕ × ℕ) → Type 0

@@ -1,5 +1,5 @@
-//! Numbers and strings of JSON, at the end of a text.
-ghost use Rattle.std.specs.Prelude.{◌≡◌, ◌++◌, OnOk, decimal};
+//! Integers and strings of JSON, at the end of a text.
+ghost use Rattle.std.specs.Prelude.{◌≡◌, ◌++◌, OnOk, string_bytes};
 ghost use Rattle.std.specs.Fmt.{signed_decimal};
 ghost use Rattle.json.specs.Print.{quoted};
 ghost use Rattle.binlog_json.specs.Joining.{comma_if};
@@ -10,40 +10,32 @@ use json::Writer;
 use std::alloc::{AllocError, Global};
 use std::mem;
 
-/// The number in decimal digits.
-pub(crate) fn append_number(out: &mut Vec<u8>, number: u64) -> Result<(), AllocError>
-    ensures { OnOk result (out.new.items ≡ out.old.items ++ decimal number) }
-{
-    let mut buffer = itoa::Buffer::new();
-    out.extend_from_slice(buffer.format(number).as_bytes())
-}
-
 /// The number in decimal digits, with its sign where it is below zero.
-pub(crate) fn append_integer(out: &mut Vec<u8>, number: i64) -> Result<(), AllocError>
-    ensures { OnOk result (out.new.items ≡ out.old.items ++ signed_decimal number) }
+pub(crate) fn append_integer(out: &mut String, number: i64) -> Result<(), AllocError>
+    ensures { OnOk result (string_bytes out.new ≡ string_bytes out.old ++ signed_decimal number) }
 {
     let mut buffer = itoa::Buffer::new();
-    out.extend_from_slice(buffer.format(number).as_bytes())
+    out.push_str(buffer.format(number))
 }
 
 /// A comma, where something stands before it.
-pub(crate) fn append_comma(out: &mut Vec<u8>, later: bool) -> Result<(), AllocError>
-    ensures { OnOk result (out.new.items ≡ out.old.items ++ comma_if later) }
+pub(crate) fn append_comma(out: &mut String, later: bool) -> Result<(), AllocError>
+    ensures { OnOk result (string_bytes out.new ≡ string_bytes out.old ++ comma_if later) }
 {
     if later {
-        out.push(b',')?;
+        out.push(',')?;
     }
     Ok(())
 }
 
 /// A text that needs no escape, in quotes.
-pub(crate) fn append_plain(out: &mut Vec<u8>, text: &[u8]) -> Result<(), AllocError>
+pub(crate) fn append_plain(out: &mut String, text: &[u8]) -> Result<(), AllocError>
     requires { IsPlain text.now }
-    ensures { OnOk result (out.new.items ≡ out.old.items ++ quoted text.now) }
+    ensures { OnOk result (string_bytes out.new ≡ string_bytes out.old ++ quoted text.now) }
 {
-    out.push(b'"')?;
-    out.extend_from_slice(text)?;
-    out.push(b'"')?;
+    out.push('"')?;
+    out.push_str(unsafe { str::from_utf8_unchecked(text) })?;
+    out.push('"')?;
     Ok(())
 }
 
@@ -63,8 +55,8 @@ impl Quoter {
     }
 
     /// The text as a string, in quotes and escaped.
-    pub(crate) fn append(&mut self, out: &mut Vec<u8>, text: &str) -> Result<(), AllocError>
-        ensures { OnOk result (out.new.items ≡ out.old.items ++ quoted text.now) }
+    pub(crate) fn append(&mut self, out: &mut String, text: &str) -> Result<(), AllocError>
+        ensures { OnOk result (string_bytes out.new ≡ string_bytes out.old ++ quoted text.now) }
     {
         if !is_plain(text.as_bytes()) {
             return self.append_escaped(out, text);
@@ -73,14 +65,14 @@ impl Quoter {
     }
 
     /// The text as a string, in quotes, each byte judged for itself.
-    pub(crate) fn append_escaped(&mut self, out: &mut Vec<u8>, text: &str) -> Result<(), AllocError>
-        ensures { OnOk result (out.new.items ≡ out.old.items ++ quoted text.now) }
+    pub(crate) fn append_escaped(&mut self, out: &mut String, text: &str) -> Result<(), AllocError>
+        ensures { OnOk result (string_bytes out.new ≡ string_bytes out.old ++ quoted text.now) }
     {
         self.room.clear();
         let mut writer = Writer::new(mem::replace(&mut self.room, Vec::new(self.alloc)));
         let written = writer.string(text);
         self.room = writer.into_inner();
         written?;
-        out.extend_from_slice(&self.room)
+        out.push_str(unsafe { str::from_utf8_unchecked(&self.room) })
     }
 }

@@ -1,5 +1,5 @@
 //! The text of a GTID, kept from line to line: the changes of a transaction have one.
-ghost use Rattle.std.specs.Prelude.{◌≡◌, ◌++◌, is_some, true, Some, OnOk};
+ghost use Rattle.std.specs.Prelude.{◌≡◌, ◌++◌, is_some, true, Some, OnOk, string_bytes};
 ghost use Rattle.serde_json.specs.Written.{compact_text};
 ghost use Rattle.binlog_json.specs.Line.{gtid_data};
 
@@ -12,37 +12,37 @@ use uuid::Uuid;
 #[derive(Drop)]
 pub(crate) struct GtidText {
     gtid: Option<(Uuid, u64)>,
-    text: Vec<u8>,
-    ghost spelled: { is_some gtid ≡ true → text.items ≡ compact_text (gtid_data gtid) },
+    text: String,
+    ghost spelled: { is_some gtid ≡ true → string_bytes text ≡ compact_text (gtid_data gtid) },
 }
 
 impl GtidText {
-    ghost use Rattle.std.specs.Prelude.{◌≡◌, ◌++◌, Some, OnOk, true};
+    ghost use Rattle.std.specs.Prelude.{◌≡◌, ◌++◌, Some, OnOk, true, string_bytes};
     ghost use Rattle.serde_json.specs.Written.{compact_text};
     ghost use Rattle.binlog_json.specs.Line.{gtid_data};
 
     pub(crate) fn new(alloc: Global) -> GtidText {
         GtidText {
             gtid: None,
-            text: Vec::new(alloc),
+            text: String::new(alloc),
         }
     }
 
     /// Appends a GTID.
     pub(crate) fn append(
         &mut self,
-        out: &mut Vec<u8>,
+        out: &mut String,
         room: &mut Room,
         source: Uuid,
         number: u64,
     ) -> Result<(), AllocError>
-        ensures { OnOk result (out.new.items
-            ≡ out.old.items ++ compact_text (gtid_data (Some (source, number)))) }
+        ensures { OnOk result (string_bytes out.new
+            ≡ string_bytes out.old ++ compact_text (gtid_data (Some (source, number)))) }
     {
         if !self.is_of(source, number) {
             self.spell(room, source, number)?;
         }
-        out.extend_from_slice(&self.text)
+        out.push_str(self.text.as_str())
     }
 
     /// Whether the text is known to be that of a GTID.
@@ -57,7 +57,7 @@ impl GtidText {
 
     /// Takes the text of a GTID in place of the one that it held.
     fn spell(&mut self, room: &mut Room, source: Uuid, number: u64) -> Result<(), AllocError>
-        ensures { OnOk result (self.new.text.items
+        ensures { OnOk result (string_bytes self.new.text
             ≡ compact_text (gtid_data (Some (source, number)))) }
     {
         self.gtid = None;
@@ -69,13 +69,13 @@ impl GtidText {
 }
 
 fn append_gtid(
-    out: &mut Vec<u8>,
+    out: &mut String,
     room: &mut Room,
     source: Uuid,
     number: u64,
 ) -> Result<(), AllocError>
-    ensures { OnOk result (out.new.items
-        ≡ out.old.items ++ compact_text (gtid_data (Some (source, number)))) }
+    ensures { OnOk result (string_bytes out.new
+        ≡ string_bytes out.old ++ compact_text (gtid_data (Some (source, number)))) }
 {
     let mut buffer = Uuid::encode_buffer();
     let source = source.hyphenated().encode_lower(&mut buffer);

@@ -1,5 +1,5 @@
 //! Images as objects, written in the order of the columns' names.
-ghost use Rattle.std.specs.Prelude.{◌≡◌, ◌++◌, ◌||◌, not, OnOk, IfOk};
+ghost use Rattle.std.specs.Prelude.{◌≡◌, ◌++◌, ◌||◌, not, OnOk, IfOk, string_bytes};
 ghost use Rattle.serde_json.specs.Data.{object};
 ghost use Rattle.serde_json.specs.Written.{compact_text};
 ghost use Rattle.binlog_json.specs.Images.{cell_in, image_members};
@@ -17,13 +17,13 @@ use std::mem;
 
 /// Appends an image as an object: its present columns, in the order of their names.
 pub(crate) fn append_image(
-    out: &mut Vec<u8>,
+    out: &mut String,
     room: &mut Room,
     kept: &mut KeptLabels,
     image: &RowView<'_>,
 ) -> Result<(), AllocError>
-    ensures { OnOk result (out.new.items
-        ≡ out.old.items ++ compact_text (object (image_members image.now))) }
+    ensures { OnOk result (string_bytes out.new
+        ≡ string_bytes out.old ++ compact_text (object (image_members image.now))) }
 {
     let map = image.map();
     let labels = kept.at(map.table_id())?;
@@ -37,30 +37,30 @@ pub(crate) fn append_image(
 
 /// Appends an image whose cells were found.
 fn append_columns(
-    out: &mut Vec<u8>,
+    out: &mut String,
     room: &mut Room,
     labels: &Labels,
     image: &RowView<'_>,
     row: &PlacedRow<'_>,
 ) -> Result<(), AllocError>
     requires row { row.now ≡ image.now }
-    requires labels { AreLabels image.now.table.names labels.now.text.items labels.now.bounds.items }
-    ensures { OnOk result (out.new.items
-        ≡ out.old.items ++ compact_text (object (image_members image.now))) }
+    requires labels { AreLabels image.now.table.names (string_bytes labels.now.text) labels.now.bounds.items }
+    ensures { OnOk result (string_bytes out.new
+        ≡ string_bytes out.old ++ compact_text (object (image_members image.now))) }
 {
-    out.push(b'{')?;
+    out.push_str("{")?;
     let mut later = false;
     for column in image.name_order() {
         later = append_column(out, room, labels, image, row, *column, later)?;
     }
-    out.push(b'}')?;
+    out.push_str("}")?;
     Ok(())
 }
 
 /// Appends the member of a column, behind a comma where a member stands before it, unless the column is absent. Whether a member
 /// stands there then.
 fn append_column(
-    out: &mut Vec<u8>,
+    out: &mut String,
     room: &mut Room,
     labels: &Labels,
     image: &RowView<'_>,
@@ -69,8 +69,8 @@ fn append_column(
     later: bool,
 ) -> Result<bool, AllocError>
     requires row { row.now ≡ image.now }
-    requires labels { AreLabels image.now.table.names labels.now.text.items labels.now.bounds.items }
-    ensures text { OnOk result (out.new.items ≡ out.old.items ++ column_text later image.now column) }
+    requires labels { AreLabels image.now.table.names (string_bytes labels.now.text) labels.now.bounds.items }
+    ensures text { OnOk result (string_bytes out.new ≡ string_bytes out.old ++ column_text later image.now column) }
     ensures later { IfOk result (λ now. now ≡ (not (is_absent (cell_in image.now column)) || later)) }
 {
     if column >= image.column_count() {
@@ -79,8 +79,9 @@ fn append_column(
     match row.cell(column) {
         Cell::Absent => Ok(later),
         present => {
+            let label = labels.label(column);
             append_comma(out, later)?;
-            out.extend_from_slice(labels.label(column))?;
+            out.push_str(unsafe { str::from_utf8_unchecked(label) })?;
             append_value(out, room, image, column, present)?;
             Ok(true)
         }

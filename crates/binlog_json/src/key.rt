@@ -1,13 +1,15 @@
 //! The keys of a row change.
-ghost use Rattle.std.specs.Prelude.{◌≡◌, ◌<◌, length, IfOk, IfSome, option_map, string_bytes};
-ghost use Rattle.serde_json.specs.View.{view as value_view};
+ghost use Rattle.std.specs.Prelude.{◌≡◌, ◌<◌, ◌++◌, length, is_some, IfOk, IfSome, OnOk, option_map, string_bytes};
+ghost use Rattle.serde_json.specs.Written.{compact_text};
 ghost use Rattle.binlog_feed.specs.Changes.{view};
-ghost use Rattle.binlog_json.specs.Keys.{has_key as is_of_key, image_key as key_of_image, is_text, key_data, key_text_of, value_in, value_in_either};
+ghost use Rattle.binlog_json.specs.Keys.{has_key as is_of_key, image_key as key_of_image, is_text, key_text_of, value_in, value_in_either};
+ghost use Rattle.binlog_json.specs.Written.{text_if};
 
-use crate::tree::cell_value;
+use crate::append::append_comma;
+use crate::room::Room;
+use crate::values::append_value;
 use binlog_feed::Change;
 use binlog_table::{Cell, RowView, Side};
-use serde_json::Value;
 use std::alloc::{AllocError, Global};
 
 /// The key of the row as it was, or as it is then: the values of the primary key's columns as a compact JSON array, in key order.
@@ -21,19 +23,6 @@ pub fn key_text(
     side: Side,
 ) -> Result<Option<String>, AllocError>
     ensures { IfOk result (λ text. option_map string_bytes text ≡ key_text_of (view change.now) side) }
-{
-    match key_value(alloc, change, side)? {
-        None => Ok(None),
-        Some(key) => {
-            let text = key.to_string(alloc)?;
-            Ok(Some(text))
-        }
-    }
-}
-
-/// The key on a side as an array.
-fn key_value(alloc: Global, change: &Change<'_>, side: Side) -> Result<Option<Value>, AllocError>
-    ensures { IfOk result (λ key. option_map value_view key ≡ key_data (view change.now) side) }
 {
     match side {
         Side::Before => match change.before() {
@@ -52,54 +41,70 @@ fn image_key(
     alloc: Global,
     image: &RowView<'_>,
     other: Option<RowView<'_>>,
-) -> Result<Option<Value>, AllocError>
+) -> Result<Option<String>, AllocError>
     requires { IfSome other (λ second. second.table ≡ image.now.table) }
-    ensures { IfOk result (λ key. option_map value_view key ≡ key_of_image image.now other.entry) }
+    ensures { IfOk result (λ text. option_map string_bytes text
+        ≡ option_map compact_text (key_of_image image.now other.entry)) }
 {
     let columns = image.key();
     if columns.is_empty() {
         return Ok(None);
     }
-    let mut values = Vec::new(alloc);
+    let mut room = Room::new(alloc);
+    let mut text = String::new(alloc);
+    text.push_str("[")?;
+    let mut later = false;
     for column in columns {
-        match value_of_either(alloc, image, &other, *column)? {
-            None => return Ok(None),
-            Some(value) => values.push(value)?,
+        append_comma(&mut text, later)?;
+        later = append_of_either(&mut text, &mut room, image, &other, *column)?;
+        if !later {
+            return Ok(None);
         }
     }
-    Ok(Some(Value::Array(values)))
+    text.push_str("]")?;
+    Ok(Some(text))
 }
 
-/// The value of a column in an image, or else in another one.
-fn value_of_either(
-    alloc: Global,
+/// Appends the value of a column in an image, or else in another one. Whether one of them has the column.
+fn append_of_either(
+    out: &mut String,
+    room: &mut Room,
     image: &RowView<'_>,
     other: &Option<RowView<'_>>,
     column: usize,
-) -> Result<Option<Value>, AllocError>
+) -> Result<bool, AllocError>
     requires column { column < length image.now.table.columns }
     requires table { IfSome other.now (λ second. second.table ≡ image.now.table) }
-    ensures { IfOk result (λ value. option_map value_view value ≡ value_in_either image.now other.now column) }
+    ensures text { OnOk result (string_bytes out.new
+        ≡ string_bytes out.old ++ text_if (value_in_either image.now other.now column)) }
+    ensures has { IfOk result (λ has. has ≡ is_some (value_in_either image.now other.now column)) }
 {
-    match value_of(alloc, image, column)? {
-        Some(value) => Ok(Some(value)),
-        None => match other {
-            None => Ok(None),
-            Some(second) => value_of(alloc, second, column),
-        },
+    if append_of(out, room, image, column)? {
+        return Ok(true);
+    }
+    match other {
+        None => Ok(false),
+        Some(second) => append_of(out, room, second, column),
     }
 }
 
-/// The value of a column, where the image has the column.
-fn value_of(alloc: Global, image: &RowView<'_>, column: usize) -> Result<Option<Value>, AllocError>
+/// Appends the value of a column, where the image has the column. Whether it has.
+fn append_of(
+    out: &mut String,
+    room: &mut Room,
+    image: &RowView<'_>,
+    column: usize,
+) -> Result<bool, AllocError>
     requires { column < length image.now.table.columns }
-    ensures { IfOk result (λ value. option_map value_view value ≡ value_in image.now column) }
+    ensures text { OnOk result (string_bytes out.new
+        ≡ string_bytes out.old ++ text_if (value_in image.now column)) }
+    ensures has { IfOk result (λ has. has ≡ is_some (value_in image.now column)) }
 {
     match image.value(column) {
-        Cell::Absent => Ok(None),
+        Cell::Absent => Ok(false),
         cell => {
-            let value = cell_value(alloc, image, column, cell)?;
-            Ok(Some(value))
+            append_value(out, room, image, column, cell)?;
+            Ok(true)
         }
     }
 }

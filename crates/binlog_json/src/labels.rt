@@ -1,5 +1,5 @@
 //! The names of a table's columns as they stand in front of members, kept from image to image by the body of the table's map.
-ghost use Rattle.std.specs.Prelude.{◌≡◌, ◌<◌, ℕ, List, length, true, Ok, OnOk};
+ghost use Rattle.std.specs.Prelude.{◌≡◌, ◌<◌, ℕ, List, length, true, Ok, OnOk, string_bytes};
 ghost use Rattle.std.proofs.Props.{props};
 ghost use Rattle.binlog_table.specs.Map.{Map, map_at};
 ghost use Rattle.binlog_json.specs.Labels.{AreLabels, label_text};
@@ -18,27 +18,27 @@ pub(crate) struct Labels {
     /// Whether they are those of the body.
     are_known: bool,
     body: Vec<u8>,
-    text: Vec<u8>,
+    text: String,
     bounds: Vec<(usize, usize)>,
-    ghost known: { are_known ≡ true → (map : Map) → map_at body.items ≡ Ok map → AreLabels map.names text.items bounds.items } by { Prim.hlevel props },
+    ghost known: { are_known ≡ true → (map : Map) → map_at body.items ≡ Ok map → AreLabels map.names (string_bytes text) bounds.items } by { Prim.hlevel props },
 }
 
 impl Labels {
-    ghost use Rattle.std.specs.Prelude.{◌≡◌, ◌<◌, ℕ, List, length, true, Ok, OnOk};
+    ghost use Rattle.std.specs.Prelude.{◌≡◌, ◌<◌, ℕ, List, length, true, Ok, OnOk, string_bytes};
     ghost use Rattle.binlog_json.specs.Labels.{AreLabels, label_text};
 
     fn new(alloc: Global) -> Labels {
         Labels {
             are_known: false,
             body: Vec::new(alloc),
-            text: Vec::new(alloc),
+            text: String::new(alloc),
             bounds: Vec::new(alloc),
         }
     }
 
     /// Takes the labels of a map's columns in place of those that it held, unless it holds these.
     pub(crate) fn take(&mut self, map: &TableMap, quoter: &mut Quoter) -> Result<(), AllocError>
-        ensures { OnOk result (AreLabels map.now.names self.new.text.items self.new.bounds.items) }
+        ensures { OnOk result (AreLabels map.now.names (string_bytes self.new.text) self.new.bounds.items) }
     {
         if self.are_known && map.spells(&self.body) {
             return Ok(());
@@ -53,13 +53,13 @@ impl Labels {
 
     /// The label of a column.
     pub(crate) fn label(&self, column: usize) -> &[u8]
-        ensures { (names : List (List ℕ)) → AreLabels names self.now.text.items self.now.bounds.items → column < length names
+        ensures { (names : List (List ℕ)) → AreLabels names (string_bytes self.now.text) self.now.bounds.items → column < length names
             → result.now ≡ label_text names column }
     {
         let Some((start, end)) = self.bounds.get(column) else {
             return &[];
         };
-        match self.text.get(*start..*end) {
+        match self.text.as_bytes().get(*start..*end) {
             None => &[],
             Some(label) => label,
         }
@@ -68,12 +68,12 @@ impl Labels {
 
 /// Writes the labels of a map's columns in place of others.
 fn write_labels(
-    text: &mut Vec<u8>,
+    text: &mut String,
     bounds: &mut Vec<(usize, usize)>,
     quoter: &mut Quoter,
     map: &TableMap,
 ) -> Result<(), AllocError>
-    ensures { OnOk result (AreLabels map.now.names text.new.items bounds.new.items) }
+    ensures { OnOk result (AreLabels map.now.names (string_bytes text.new) bounds.new.items) }
 {
     text.clear();
     bounds.clear();

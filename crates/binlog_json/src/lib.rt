@@ -2,7 +2,6 @@
 #![tactic(auto)]
 
 mod append;
-mod cells;
 mod digits;
 mod gtid;
 mod image;
@@ -14,7 +13,6 @@ mod names;
 mod plain;
 mod room;
 mod texts;
-mod tree;
 mod values;
 mod visit;
 mod writer;
@@ -22,6 +20,5 @@ mod writer;
 pub use index_laws::{histories_are_held, indexes_go_on};
 pub use key::{has_key, key_text};
 pub use key_index::KeyIndex;
-pub use tree::line;
 pub use visit::{HistoryFault, history};
-pub use writer::LineWriter;
+pub use writer::{LineWriter, line};

@@ -5,7 +5,6 @@ ghost use Rattle.binlog_table.specs.MapWords.{value_names_in};
 ghost use Rattle.binlog_json.specs.Values.{bytes_data, whole_number, enum_data, set_data, members_in};
 ghost use Rattle.binlog_json.specs.Joining.{comma_if};
 
-use crate::append::append_comma;
 use binlog_table::RowView;
 use std::alloc::AllocError;
 
@@ -82,6 +81,8 @@ pub(crate) fn append_member(
 fn append_name(text: &mut Vec<u8>, later: bool, name: &[u8]) -> Result<(), AllocError>
     ensures { OnOk result (text.new.items ≡ text.old.items ++ (comma_if later ++ name.now)) }
 {
-    append_comma(text, later)?;
+    if later {
+        text.push(b',')?;
+    }
     text.extend_from_slice(name)
 }

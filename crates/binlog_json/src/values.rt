@@ -1,5 +1,5 @@
 //! Values of columns as JSON, at the end of a text.
-ghost use Rattle.std.specs.Prelude.{◌≡◌, ◌<◌, ◌++◌, ◌∷◌, [], length, OnOk};
+ghost use Rattle.std.specs.Prelude.{◌≡◌, ◌<◌, ◌++◌, ◌∷◌, [], length, OnOk, string_bytes};
 ghost use Rattle.json.specs.Print.{quoted};
 ghost use Rattle.serde_json.specs.Data.{string};
 ghost use Rattle.serde_json.specs.Written.{compact_text};
@@ -7,7 +7,8 @@ ghost use Rattle.binlog_table.specs.Value.{view as cell_view};
 ghost use Rattle.binlog_table.specs.MapWords.{value_names_in};
 ghost use Rattle.binlog_json.specs.Values.{content_data, bytes_data, encoded_data, enum_data, set_data, shown_text};
 
-use crate::append::{Quoter, append_integer, append_number, append_plain};
+use crate::append::{Quoter, append_integer, append_plain};
+use crate::digits::push_number;
 use crate::names::{append_names, enum_name, is_named};
 use crate::plain::is_plain;
 use crate::room::Room;
@@ -18,20 +19,20 @@ use std::alloc::AllocError;
 
 /// The value of a column with this cell.
 pub(crate) fn append_value(
-    out: &mut Vec<u8>,
+    out: &mut String,
     room: &mut Room,
     image: &RowView<'_>,
     column: usize,
     cell: Cell<'_>,
 ) -> Result<(), AllocError>
     requires { column < length image.now.table.columns }
-    ensures { OnOk result (out.new.items ≡ out.old.items ++ compact_text
+    ensures { OnOk result (string_bytes out.new ≡ string_bytes out.old ++ compact_text
         (content_data (value_names_in image.now.table column) (cell_view cell.entry))) }
 {
     match cell {
-        Cell::Absent | Cell::Null => out.extend_from_slice(b"null"),
+        Cell::Absent | Cell::Null => out.push_str("null"),
         Cell::Int(number) => append_integer(out, number),
-        Cell::UInt(number) | Cell::Bits(number) => append_number(out, number),
+        Cell::UInt(number) | Cell::Bits(number) => push_number(out, number),
         Cell::Enum(number) => append_enum(out, room, image, column, number),
         Cell::Set(number) => append_set(out, room, image, column, number),
         Cell::Bytes(bytes) => append_bytes(out, room, bytes),
@@ -41,9 +42,9 @@ pub(crate) fn append_value(
 }
 
 /// A decimal, a date or a time.
-fn append_shown(out: &mut Vec<u8>, room: &mut Room, cell: Cell<'_>) -> Result<(), AllocError>
-    ensures { OnOk result (out.new.items
-        ≡ out.old.items ++ compact_text (string (shown_text (cell_view cell.entry)))) }
+fn append_shown(out: &mut String, room: &mut Room, cell: Cell<'_>) -> Result<(), AllocError>
+    ensures { OnOk result (string_bytes out.new
+        ≡ string_bytes out.old ++ compact_text (string (shown_text (cell_view cell.entry)))) }
 {
     room.text.clear();
     push_cell(&mut room.text, cell)?;
@@ -51,55 +52,55 @@ fn append_shown(out: &mut Vec<u8>, room: &mut Room, cell: Cell<'_>) -> Result<()
 }
 
 fn append_enum(
-    out: &mut Vec<u8>,
+    out: &mut String,
     room: &mut Room,
     image: &RowView<'_>,
     column: usize,
     number: u16,
 ) -> Result<(), AllocError>
     requires { column < length image.now.table.columns }
-    ensures { OnOk result (out.new.items ≡ out.old.items ++ compact_text
+    ensures { OnOk result (string_bytes out.new ≡ string_bytes out.old ++ compact_text
         (enum_data (value_names_in image.now.table column) number)) }
 {
     match enum_name(image, column, number) {
-        None => append_number(out, u64::from(number)),
+        None => push_number(out, u64::from(number)),
         Some(name) => append_bytes(out, room, name),
     }
 }
 
 fn append_set(
-    out: &mut Vec<u8>,
+    out: &mut String,
     room: &mut Room,
     image: &RowView<'_>,
     column: usize,
     number: u64,
 ) -> Result<(), AllocError>
     requires { column < length image.now.table.columns }
-    ensures { OnOk result (out.new.items ≡ out.old.items ++ compact_text
+    ensures { OnOk result (string_bytes out.new ≡ string_bytes out.old ++ compact_text
         (set_data (value_names_in image.now.table column) number)) }
 {
     if !is_named(image, column, number) {
-        return append_number(out, number);
+        return push_number(out, number);
     }
     room.names.clear();
     append_names(&mut room.names, image, column, number)?;
     append_text(out, &mut room.quoter, &mut room.text, &room.names)
 }
 
-fn append_bytes(out: &mut Vec<u8>, room: &mut Room, bytes: &[u8]) -> Result<(), AllocError>
-    ensures { OnOk result (out.new.items ≡ out.old.items ++ compact_text (bytes_data bytes.now)) }
+fn append_bytes(out: &mut String, room: &mut Room, bytes: &[u8]) -> Result<(), AllocError>
+    ensures { OnOk result (string_bytes out.new ≡ string_bytes out.old ++ compact_text (bytes_data bytes.now)) }
 {
     append_text(out, &mut room.quoter, &mut room.text, bytes)
 }
 
 /// A string where the bytes are UTF-8, else an object with the bytes in base64.
 fn append_text(
-    out: &mut Vec<u8>,
+    out: &mut String,
     quoter: &mut Quoter,
     room: &mut String,
     bytes: &[u8],
 ) -> Result<(), AllocError>
-    ensures { OnOk result (out.new.items ≡ out.old.items ++ compact_text (bytes_data bytes.now)) }
+    ensures { OnOk result (string_bytes out.new ≡ string_bytes out.old ++ compact_text (bytes_data bytes.now)) }
 {
     if is_plain(bytes) {
         return append_plain(out, bytes);
@@ -112,33 +113,33 @@ fn append_text(
 
 /// An object of one member: the bytes in base64.
 fn append_encoded(
-    out: &mut Vec<u8>,
+    out: &mut String,
     quoter: &mut Quoter,
     room: &mut String,
     name: &str,
     bytes: &[u8],
 ) -> Result<(), AllocError>
-    ensures { OnOk result (out.new.items
-        ≡ out.old.items ++ compact_text (encoded_data name.now bytes.now)) }
+    ensures { OnOk result (string_bytes out.new
+        ≡ string_bytes out.old ++ compact_text (encoded_data name.now bytes.now)) }
 {
     room.clear();
     STANDARD.encode_string(bytes, room)?;
-    out.push(b'{')?;
+    out.push('{')?;
     append_member_name(out, quoter, name)?;
     quoter.append(out, room.as_str())?;
-    out.push(b'}')?;
+    out.push('}')?;
     Ok(())
 }
 
 /// The name of a member, with its colon.
 pub(crate) fn append_member_name(
-    out: &mut Vec<u8>,
+    out: &mut String,
     quoter: &mut Quoter,
     name: &str,
 ) -> Result<(), AllocError>
-    ensures { OnOk result (out.new.items ≡ out.old.items ++ (quoted name.now ++ 58 ∷ [])) }
+    ensures { OnOk result (string_bytes out.new ≡ string_bytes out.old ++ (quoted name.now ++ 58 ∷ [])) }
 {
     quoter.append(out, name)?;
-    out.push(b':')?;
+    out.push(':')?;
     Ok(())
 }

@@ -1,9 +1,10 @@
-use Rattle.std.proofs.Common.{◌≡◌, ◌∙◌, ap, sym, refl, append-nil, ◌++◌, slice_get, Some, arith}
+use Rattle.std.proofs.Common.{◌≡◌, ◌∙◌, ap, sym, refl, append-nil, ◌++◌, slice_get, Some, string_bytes, arith}
 use Rattle.json.specs.Print.{quoted}
 use Rattle.binlog_table.specs.RowImage.{RowImage}
 use Rattle.binlog_table.specs.NameOrder.{name_of}
 use Rattle.binlog_table.specs.Value.{view}
 use Rattle.binlog_json.proofs.ColumnTexts.{past_is_absent, absent_is, present_is, column_is, then_value}
+use Rattle.binlog_json.proofs.LabelTexts.{label_utf8}
 use Rattle.binlog_json.proofs.image.append_column.Goals as goal
 
 pub returns-then-column-column_count : goal.returns-then-column-column_count
@@ -15,14 +16,20 @@ returns-in-Absent c =
     let at : slice_get c.args.image.now.cells c.args.column ≡ Some (view c.cell.result) = ap (λ (r : RowImage). slice_get r.cells c.args.column) (sym c.requires.row) ∙ c.cell.ensures in
     rw (absent_is c.args.image.now c.args.column c.cell.result at c.in-Absent.is) (record { text = sym (append-nil _); later = refl })
 
+pub from_utf8_unchecked-requires : goal.from_utf8_unchecked-requires
+from_utf8_unchecked-requires c =
+    let names = c.args.image.now.table.names in
+    let below = c.column_count.ensures.names in
+    label_utf8 names (string_bytes c.args.labels.now.text) c.args.labels.now.bounds.items c.args.column c.label-label.result.now c.requires.labels (omega arith) (c.label-label.ensures names c.requires.labels (omega arith))
+
 pub returns-in_ok-append_value-in_default : goal.returns-in_ok-append_value-in_default
 returns-in_ok-append_value-in_default c =
     let at : slice_get c.args.image.now.cells c.args.column ≡ Some (view c.cell.result) = ap (λ (r : RowImage). slice_get r.cells c.args.column) (sym c.requires.row) ∙ c.cell.ensures in
     let below = c.column_count.ensures.names in
-    let label = c.label.ensures c.args.image.now.table.names c.requires.labels (omega arith) in
-    let text = then_value c.args.out.now.items c.append_comma.new.out.items c.extend_from_slice.new.self.items c.append_value.new.out.items _ (quoted (name_of c.args.image.now.table.names c.args.column)) _
-    c.in_ok-append_comma-in_default.ensures (c.in_ok-extend_from_slice-in_default.ensures.items ∙ ap (λ l. c.append_comma.new.out.items ++ l) label) c.in_ok-append_value-in_default.ensures in
+    let label = c.label-label.ensures c.args.image.now.table.names c.requires.labels (omega arith) in
+    let text = then_value (string_bytes c.args.out.now) (string_bytes c.append_comma.new.out) (string_bytes c.push_str.new.self) (string_bytes c.append_value.new.out) _ (quoted (name_of c.args.image.now.table.names c.args.column)) _
+    c.in_ok-append_comma-in_default.ensures (c.in_ok-push_str-in_default.ensures.bytes ∙ ap (λ l. string_bytes c.append_comma.new.out ++ l) (c.from_utf8_unchecked.ensures ∙ label)) c.in_ok-append_value-in_default.ensures in
     record {
-      text = text ∙ ap (λ t. c.args.out.now.items ++ t) (sym (column_is c.args.later c.args.image.now c.args.column c.cell.result at c.in_default.not-Absent));
+      text = text ∙ ap (λ t. string_bytes c.args.out.now ++ t) (sym (column_is c.args.later c.args.image.now c.args.column c.cell.result at c.in_default.not-Absent));
       later = rw (present_is c.args.image.now c.args.column c.cell.result at c.in_default.not-Absent) refl;
     }

@@ -1,10 +1,10 @@
-use Rattle.std.proofs.Common.{◌≡◌, ◌++◌, List, map, drop, option_map}
-use Rattle.serde_json.specs.Data.{Data}
-use Rattle.serde_json.specs.View.{view}
+use Rattle.std.proofs.Common.{◌≡◌, ◌++◌, drop, false, option_map, string_bytes}
+use Rattle.serde_json.specs.View.{items_of}
+use Rattle.serde_json.specs.Written.{items_text}
 use Rattle.binlog_json.specs.Keys.{values_in}
 use Rattle.binlog_json.proofs.key.image_key.Given as goal
 
 abbrev pub invariant-loop-column : goal.invariant-loop-column
 invariant-loop-column l =
-    values_in l.image l.other l.columns
-    ≡ option_map (λ (rest : List Data). map view l.values.items ++ rest) (values_in l.image l.other (drop l.column-index l.columns))
+    option_map (λ values. string_bytes l.text ++ items_text l.later (items_of values)) (values_in l.image l.other (drop l.column-index l.columns))
+    ≡ option_map (λ values. string_bytes l.initial.text ++ items_text false (items_of values)) (values_in l.image l.other l.columns)
