@@ -46,6 +46,14 @@ fn filter_of(alloc: Global, options: &[String]) -> Result<Filter, Refused> {
     Ok(filter)
 }
 
+/// What a feed is opened with, beside its source.
+fn first_parts(alloc: Global, reading: Reading<'_>) -> Result<(Filter, Start, Vec<u8>), Refused> {
+    let filter = filter_of(alloc, reading.options)?;
+    let start = start_of(alloc, reading.options)?;
+    let window = vec![in alloc; 0u8; reading.window]?;
+    Ok((filter, start, window))
+}
+
 /// What a feed that wasn't opened is opened with again: the window that came back, or one that is large enough. There is none where it
 /// isn't opened again.
 fn next_window(
@@ -53,9 +61,11 @@ fn next_window(
     way: Way,
     fault: OpenFeedFault,
     back: Vec<u8>,
+    had: usize,
     seen: &Cell<Seen>,
     told: &mut Told,
 ) -> Result<Option<Vec<u8>>, Refused> {
+    told.compare_windows(had, back.len())?;
     match fault {
         OpenFeedFault::Read { file } if way.opens_again() => {
             told.note_failure(file, seen.get().reach)?;
@@ -84,9 +94,7 @@ pub fn open_feed<L: Logs + Drop>(
     reading: Reading<'_>,
     told: &mut Told,
 ) -> Result<Option<Feed<L>>, Refused> {
-    let start = start_of(alloc, reading.options)?;
-    let window = vec![in alloc; 0u8; reading.window]?;
-    let filter = filter_of(alloc, reading.options)?;
+    let (filter, start, window) = first_parts(alloc, reading)?;
     let mut parts = (logs, filter, start, window);
     for _ in 0..MOST_OPENINGS {
         let (logs, filter, start, window) = parts;
@@ -94,8 +102,7 @@ pub fn open_feed<L: Logs + Drop>(
         match Feed::open(alloc, logs, filter, start, window) {
             Ok(feed) => return Ok(Some(feed)),
             Err((fault, logs, filter, start, back)) => {
-                told.compare_windows(had, back.len())?;
-                match next_window(alloc, reading.way, fault, back, seen, told)? {
+                match next_window(alloc, reading.way, fault, back, had, seen, told)? {
                     None => return Ok(None),
                     Some(window) => parts = (logs, filter, start, window),
                 }
