@@ -5,6 +5,7 @@ mod bodies;
 mod feed;
 mod filters;
 mod frames;
+mod looks;
 mod opening;
 mod parts;
 mod reading;

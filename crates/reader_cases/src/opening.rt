@@ -1,5 +1,6 @@
 //! Files of the system: their names and lengths, and what the layers tell of them.
-use crate::reading::tell_source;
+use crate::looks::looks_of;
+use crate::reading::{plain_of, tell_source};
 use crate::reads::show_names;
 use crate::watched::{Seen, Watched};
 use crate::ways::{Layer, Reading};
@@ -28,7 +29,7 @@ pub fn judge_open<R: Files + AllocGlobal>(
         "names" => Ok(Verdict::of(case, names_at(rt, &borrowed)?)),
         layer => {
             let layer = Layer::of(layer)?;
-            each_window(rt, case, layer, &borrowed, &held_at(rt, &borrowed)?)
+            read_opened(rt, case, layer, &borrowed, &held_at(rt, &borrowed)?)
         }
     }
 }
@@ -60,17 +61,37 @@ fn held_at<R: Files + AllocGlobal>(rt: &R, paths: &[&str]) -> Result<Vec<Named>,
     Ok(held)
 }
 
-/// Reads the files of paths with each of the case's windows.
-fn each_window<R: Files + AllocGlobal>(
+/// Reads the files of paths, which hold so much.
+fn read_opened<R: Files + AllocGlobal>(
     rt: &R,
     case: &Case,
     layer: Layer,
     paths: &[&str],
     held: &[Named],
 ) -> Result<Verdict, Refused> {
+    let plain = plain_of(rt.alloc(), held, layer)?;
+    let looks = looks_of(rt.alloc(), &plain)?;
+    let reading = Reading {
+        looks: &looks,
+        ..Reading::plain(layer, case.reads, 0)
+    };
+    each_window(rt, case, paths, held, reading)
+}
+
+/// Reads the files of paths with each of the case's windows.
+fn each_window<R: Files + AllocGlobal>(
+    rt: &R,
+    case: &Case,
+    paths: &[&str],
+    held: &[Named],
+    reading: Reading<'_>,
+) -> Result<Verdict, Refused> {
     let mut runs = 0u64;
     for window in &case.windows {
-        let reading = Reading::plain(layer, case.reads, *window);
+        let reading = Reading {
+            window: *window,
+            ..reading
+        };
         let came = tell_at(rt, paths, held, reading)?;
         if !case.wants(came.as_str()) {
             return Ok(Verdict::Differs { came });

@@ -1,5 +1,6 @@
 //! Frames, units and the feed over a case's files, step by step.
 use crate::frames::{Pass, Shown};
+use crate::looks::{Looking, looks_of};
 use crate::starts::open_feed;
 use crate::steps::{Told, tell_all};
 use crate::sweeps::sweep;
@@ -7,7 +8,7 @@ use crate::watched::{Seen, Watched};
 use crate::ways::{Layer, Reading, Way};
 use binlog_feed::Units;
 use binlog_frame::Logs;
-use case_language::{Case, Named, Refused, SMALL_WINDOW, Verdict, copies_of, source};
+use case_language::{Case, Named, Reads, Refused, SMALL_WINDOW, Verdict, copies_of, source};
 use std::alloc::Global;
 use std::cell::Cell;
 
@@ -35,6 +36,7 @@ pub fn tell_source<L: Logs + Drop>(
         Layer::Frames(shown) => tell_frames(alloc, logs, seen, held, shown, reading, &mut told)?,
         Layer::Units => tell_units(alloc, logs, seen, reading.window, &mut told)?,
         Layer::Feed => tell_feed(alloc, logs, seen, reading, &mut told)?,
+        Layer::Looks => tell_looks(alloc, logs, seen, reading, &mut told)?,
     }
     told.note_reads(seen);
     Ok(told)
@@ -105,7 +107,39 @@ fn tell_feed<L: Logs + Drop>(
     }
 }
 
-/// `frames`, `events`, `units` and `feed`, with a word for the way of reading and options of a filter behind it.
+fn tell_looks<L: Logs + Drop>(
+    alloc: Global,
+    logs: L,
+    seen: &Cell<Seen>,
+    reading: Reading<'_>,
+    told: &mut Told,
+) -> Result<(), Refused> {
+    match open_feed(alloc, logs, seen, reading, told)? {
+        None => Ok(()),
+        Some(feed) => {
+            let mut looking = Looking::new(alloc, feed, reading.looks, seen);
+            tell_all(alloc, &mut looking, seen, told)
+        }
+    }
+}
+
+/// What a plain feed tells of files that are looked into; nothing of others.
+pub fn plain_of(alloc: Global, files: &[Named], layer: Layer) -> Result<Told, Refused> {
+    let reads = Reads {
+        failing: 0,
+        most: 0,
+    };
+    match layer {
+        Layer::Looks => tell(
+            alloc,
+            files,
+            Reading::plain(Layer::Feed, reads, SMALL_WINDOW),
+        ),
+        _ => Ok(Told::new(alloc, false)),
+    }
+}
+
+/// `frames`, `events`, `units`, `feed` and `looks`, with a word for the way of reading and options of a filter behind it.
 pub fn judge_reading(
     alloc: Global,
     case: &Case,
@@ -118,9 +152,12 @@ pub fn judge_reading(
         return Err(Refused::UnknownWord);
     }
     let way = Way::of(word);
+    let plain = plain_of(alloc, &case.files, layer)?;
+    let looks = looks_of(alloc, &plain)?;
     let reading = Reading {
         way,
         options,
+        looks: &looks,
         ..Reading::plain(layer, case.reads, SMALL_WINDOW)
     };
     match way {
@@ -131,13 +168,14 @@ pub fn judge_reading(
 
 /// Whether a layer can be read in a way, with options.
 fn is_offered(layer: Layer, way: &str, options: &[String]) -> bool {
-    match layer {
-        Layer::Frames(_) => options.is_empty() && way != "each-turn" && way != "opened",
-        Layer::Units => {
-            options.is_empty() && way != "back" && way != "each-turn" && way != "opened"
-        }
-        Layer::Feed => way != "back",
-    }
+    let takes_options = matches!(layer, Layer::Feed | Layer::Looks);
+    let has_way = match way {
+        "back" => matches!(layer, Layer::Frames(_)),
+        "each-turn" | "opened" => matches!(layer, Layer::Feed),
+        "each-cut" => !matches!(layer, Layer::Looks),
+        _ => true,
+    };
+    has_way && (takes_options || options.is_empty())
 }
 
 /// The word for the way of reading, if there is one, and the options behind it.

@@ -25,7 +25,9 @@ impl Verbs for ReaderVerbs {
         words: &[String],
     ) -> Result<Verdict, Refused> {
         match verb {
-            "frames" | "events" | "units" | "feed" => judge_reading(rt.alloc(), case, verb, words),
+            "frames" | "events" | "units" | "feed" | "looks" => {
+                judge_reading(rt.alloc(), case, verb, words)
+            }
             "open" => judge_open(rt, case, words),
             _ => Ok(Verdict::of(case, text_of(rt.alloc(), pieces, case, verb, words)?)),
         }

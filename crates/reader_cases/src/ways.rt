@@ -1,5 +1,6 @@
 //! What is read of files, and in which way.
 use crate::frames::Shown;
+use crate::looks::Look;
 use crate::watched::Turning;
 use case_language::{Reads, Refused};
 
@@ -9,6 +10,8 @@ pub enum Layer {
     Frames(Shown),
     Units,
     Feed,
+    /// A feed that is looked into.
+    Looks,
 }
 
 impl Layer {
@@ -19,6 +22,7 @@ impl Layer {
             "events" => Ok(Layer::Frames(Shown::Event)),
             "units" => Ok(Layer::Units),
             "feed" => Ok(Layer::Feed),
+            "looks" => Ok(Layer::Looks),
             _ => Err(Refused::UnknownWord),
         }
     }
@@ -76,6 +80,8 @@ pub struct Reading<'a> {
     pub way: Way,
     /// Options of the command line that give a feed its filter and its start.
     pub options: &'a [String],
+    /// The places where a feed is looked into between its steps.
+    pub looks: &'a [Look<'a>],
     pub reads: Reads,
     pub turning: Turning,
     pub window: usize,
@@ -88,6 +94,7 @@ impl Reading<'_> {
             layer,
             way: Way::Plain,
             options: &[],
+            looks: &[],
             reads,
             turning: Turning::NEVER,
             window,
