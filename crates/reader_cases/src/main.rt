@@ -6,6 +6,7 @@ mod feed;
 mod filters;
 mod frames;
 mod looks;
+mod lookups;
 mod opening;
 mod parts;
 mod reading;

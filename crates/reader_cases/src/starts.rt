@@ -22,7 +22,7 @@ fn value_at(options: &[String], at: usize) -> Result<&str, Refused> {
 }
 
 /// The start that the option `--from` gives.
-fn start_of(alloc: Global, options: &[String]) -> Result<Start, Refused> {
+pub fn start_of(alloc: Global, options: &[String]) -> Result<Start, Refused> {
     for (at, option) in options.iter().enumerate() {
         if option.as_str() == "--from" {
             return match Token::parse(alloc, value_at(options, at)?) {
@@ -35,7 +35,7 @@ fn start_of(alloc: Global, options: &[String]) -> Result<Start, Refused> {
 }
 
 /// The filter that the other options give, each with one value.
-fn filter_of(alloc: Global, options: &[String]) -> Result<Filter, Refused> {
+pub fn filter_of(alloc: Global, options: &[String]) -> Result<Filter, Refused> {
     let mut filter = Filter::new();
     for (at, option) in options.iter().enumerate() {
         match option.as_str().strip_prefix("--") {
