@@ -1,11 +1,13 @@
 -- A command with one argument more, and what it was given.
-use Rattle.std.proofs.Common.{◌≡◌, false, ◌||◌, ap, ap₂, ◌∙◌, List, [], Some, None, option_map, unwrap_or}
+use Rattle.std.proofs.Common.{◌≡◌, false, ◌||◌, ap, ap₂, ◌∙◌, List, [], Some, None, Result, Ok, Err, subst, option_map, unwrap_or}
 use Rattle.clap.specs.Words.{App, Rule, Text, AddsArg, AddsSubcommand, app_of, rule_of, with_rule, with_subcommand, raw_values, matched_of, all_of, rows_of}
+use Rattle.std.specs.Prelude.{IfOk}
 use Rattle.clap.proofs.WalkLemmas.{raw_values-rows}
 use Rattle.clap.specs.declared.parser.matches.Found.{Found}
 use Rattle.clap.specs.declared.builder.arg.Arg.{Arg}
 use Rattle.clap.specs.declared.builder.command.Command.{Command}
 use Rattle.clap.specs.declared.builder.command.Command.TheViews.{out-Command}
+use Rattle.binlogfeed.specs.Commands.{IsBuilt, HasApp}
 
 pub adds : (old : Command) (argument : Arg) (new : Command) (app : App) (rule : Rule) → AddsArg old argument new → argument.global ≡ false → app_of old ≡ app → rule_of argument ≡ rule
     → app_of new ≡ with_rule app rule
@@ -17,6 +19,26 @@ adds_local old argument new h local old_local = h.globals ∙ ap₂ (λ p q. p |
 pub adds_subcommand : (old sub new : Command) (app sub_app : App) → AddsSubcommand old sub new → (out-Command sub).has_globals ≡ false → app_of old ≡ app → app_of sub ≡ sub_app
     → app_of new ≡ with_subcommand app sub_app.top
 adds_subcommand old sub new app sub_app h local app_is sub_is = h.shape local ∙ ap₂ with_subcommand app_is (ap (λ a. a.top) sub_is)
+
+-- a command of this shape, without a global option
+abbrev pub HasShape : App → Command → Type 0
+HasShape app command = (app_of command ≡ app) × ((out-Command command).has_globals ≡ false)
+
+-- where there may have been no memory
+pub argument_added : {E : Type 0} (built new : Result Command E) (old : Command) (argument : Arg) (app : App) (rule : Rule) → built ≡ Ok old → argument.global ≡ false → IfOk new (λ made. AddsArg old argument made)
+    → rule_of argument ≡ rule → IsBuilt app built → IsBuilt (with_rule app rule) new
+argument_added built (Ok made) old argument app rule e local h same before =
+    let was = subst (IsBuilt app) e before in
+    (adds old argument made app rule h local was.0 same, adds_local old argument made h local was.1)
+argument_added built (Err error) old argument app rule e local h same before = tt
+
+pub subcommand_added : {E : Type 0} (built sub new : Result Command E) (old inner : Command) (app inner_app : App) → built ≡ Ok old → sub ≡ Ok inner → IfOk new (λ made. AddsSubcommand old inner made)
+    → HasApp app built → IsBuilt inner_app sub → HasApp (with_subcommand app inner_app.top) new
+subcommand_added built sub (Ok made) old inner app inner_app e f h before sub_before =
+    let was = subst (HasApp app) e before in
+    let sub_was = subst (IsBuilt inner_app) f sub_before in
+    adds_subcommand old inner made app inner_app h sub_was.1 was sub_was.0
+subcommand_added built sub (Err error) old inner app inner_app e f h before sub_before = tt
 
 -- the values that were given, as the rows have them
 pub given : (found : Found) (id : Text) (files : List Text) → Some files ≡ option_map raw_values (matched_of found id) → files ≡ unwrap_or (all_of id (rows_of found)) []

@@ -3,6 +3,7 @@ pub mod Options
 pub mod StartWords
 pub mod KeyWords
 pub mod Words
+pub mod Commands
 pub mod Lines
 pub mod Sending
 pub mod Runs

@@ -1,8 +1,8 @@
 //! The command line: its subcommands, with their options and their help.
 ghost use Rattle.std.specs.Prelude.{◌≡◌, IfOk, false};
-ghost use Rattle.clap.specs.Words.{rule_of, app_of};
-ghost use Rattle.clap.specs.declared.builder.command.Command.TheViews.{out-Command as fields_of};
+ghost use Rattle.clap.specs.Words.{App, Rule, rule_of, app_of, with_rule, with_subcommand};
 ghost use Rattle.binlogfeed.specs.Words.{file_rule, option_rule, required_rule, transactions_app, read_app, history_app, program_app};
+ghost use Rattle.binlogfeed.specs.Commands.{IsBuilt, HasApp};
 
 use clap::{Arg, ArgAction, Command};
 use std::alloc::{AllocError, Global};
@@ -140,54 +140,91 @@ fn required_option<'a>(alloc: Global, name: &'a str, value: &'a str, help: &'a s
     option(alloc, name, value, help).required(true)
 }
 
-fn transactions_command<'a>(alloc: Global) -> Result<Command<'a>, AllocError>
-    ensures app { IfOk result (λ command. app_of command ≡ transactions_app) }
-    ensures local { IfOk result (λ command. (fields_of command).has_globals ≡ false) }
+/// Adds an argument to a command, for which there may have been no memory.
+fn add_argument<'a>(
+    command: Result<Command<'a>, AllocError>,
+    argument: Arg<'a>,
+) -> Result<Command<'a>, AllocError>
+    requires { argument.global ≡ false }
+    ensures { (app : App) (rule : Rule) → rule_of argument.entry ≡ rule → IsBuilt app command.entry → IsBuilt (with_rule app rule) result }
 {
-    Command::new(alloc, "transactions")
+    match command {
+        Ok(command) => command.arg(argument),
+        Err(error) => Err(error),
+    }
+}
+
+/// Adds a subcommand to a command. There may have been no memory for either.
+fn add_subcommand<'a>(
+    command: Result<Command<'a>, AllocError>,
+    subcommand: Result<Command<'a>, AllocError>,
+) -> Result<Command<'a>, AllocError>
+    ensures { (app inner : App) → HasApp app command.entry → IsBuilt inner subcommand.entry → HasApp (with_subcommand app inner.top) result }
+{
+    let Ok(command) = command else {
+        return Err(AllocError);
+    };
+    let Ok(subcommand) = subcommand else {
+        return Err(AllocError);
+    };
+    command.subcommand(subcommand)
+}
+
+fn transactions_command<'a>(alloc: Global) -> Result<Command<'a>, AllocError>
+    ensures { IsBuilt transactions_app result }
+{
+    let command = Command::new(alloc, "transactions")
         .about(TRANSACTIONS_ABOUT)
-        .after_help(TRANSACTIONS_AFTER)
-        .arg(file_argument(alloc))
+        .after_help(TRANSACTIONS_AFTER);
+    add_argument(Ok(command), file_argument(alloc))
 }
 
 fn read_command<'a>(alloc: Global) -> Result<Command<'a>, AllocError>
-    ensures app { IfOk result (λ command. app_of command ≡ read_app) }
-    ensures local { IfOk result (λ command. (fields_of command).has_globals ≡ false) }
+    ensures { IsBuilt read_app result }
 {
-    Command::new(alloc, "read")
+    let command = Command::new(alloc, "read")
         .about(READ_ABOUT)
-        .after_help(READ_AFTER)
-        .arg(option(alloc, "only-events", "LIST", ONLY_EVENTS_HELP))?
-        .arg(option(alloc, "only-tables", "LIST", ONLY_TABLES_HELP))?
-        .arg(option(alloc, "ignored-tables", "LIST", IGNORED_TABLES_HELP))?
-        .arg(option(alloc, "only-schemas", "LIST", ONLY_SCHEMAS_HELP))?
-        .arg(option(alloc, "ignored-schemas", "LIST", IGNORED_SCHEMAS_HELP))?
-        .arg(option(alloc, "auto-position", "SET", AUTO_POSITION_HELP))?
-        .arg(option(alloc, "from", "TOKEN", FROM_HELP))?
-        .arg(file_argument(alloc))
+        .after_help(READ_AFTER);
+    let events = option(alloc, "only-events", "LIST", ONLY_EVENTS_HELP);
+    let command = add_argument(Ok(command), events);
+    let tables = option(alloc, "only-tables", "LIST", ONLY_TABLES_HELP);
+    let command = add_argument(command, tables);
+    let tables = option(alloc, "ignored-tables", "LIST", IGNORED_TABLES_HELP);
+    let command = add_argument(command, tables);
+    let schemas = option(alloc, "only-schemas", "LIST", ONLY_SCHEMAS_HELP);
+    let command = add_argument(command, schemas);
+    let schemas = option(alloc, "ignored-schemas", "LIST", IGNORED_SCHEMAS_HELP);
+    let command = add_argument(command, schemas);
+    let set = option(alloc, "auto-position", "SET", AUTO_POSITION_HELP);
+    let command = add_argument(command, set);
+    let token = option(alloc, "from", "TOKEN", FROM_HELP);
+    let command = add_argument(command, token);
+    add_argument(command, file_argument(alloc))
 }
 
 fn history_command<'a>(alloc: Global) -> Result<Command<'a>, AllocError>
-    ensures app { IfOk result (λ command. app_of command ≡ history_app) }
-    ensures local { IfOk result (λ command. (fields_of command).has_globals ≡ false) }
+    ensures { IsBuilt history_app result }
 {
-    Command::new(alloc, "history")
+    let command = Command::new(alloc, "history")
         .about(HISTORY_ABOUT)
-        .after_help(HISTORY_AFTER)
-        .arg(required_option(alloc, "schema", "NAME", SCHEMA_HELP))?
-        .arg(required_option(alloc, "table", "NAME", TABLE_HELP))?
-        .arg(required_option(alloc, "key", "JSON", KEY_HELP))?
-        .arg(file_argument(alloc))
+        .after_help(HISTORY_AFTER);
+    let schema = required_option(alloc, "schema", "NAME", SCHEMA_HELP);
+    let command = add_argument(Ok(command), schema);
+    let table = required_option(alloc, "table", "NAME", TABLE_HELP);
+    let command = add_argument(command, table);
+    let key = required_option(alloc, "key", "JSON", KEY_HELP);
+    let command = add_argument(command, key);
+    add_argument(command, file_argument(alloc))
 }
 
 /// The program's command line.
 pub(crate) fn program<'a>(alloc: Global) -> Result<Command<'a>, AllocError>
     ensures { IfOk result (λ command. app_of command ≡ program_app) }
 {
-    Command::new(alloc, "binlogfeed")
+    let command = Command::new(alloc, "binlogfeed")
         .about(ABOUT)
-        .after_help(STATUSES)
-        .subcommand(transactions_command(alloc)?)?
-        .subcommand(read_command(alloc)?)?
-        .subcommand(history_command(alloc)?)
+        .after_help(STATUSES);
+    let command = add_subcommand(Ok(command), transactions_command(alloc));
+    let command = add_subcommand(command, read_command(alloc));
+    add_subcommand(command, history_command(alloc))
 }

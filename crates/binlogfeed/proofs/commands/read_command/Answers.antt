@@ -1,32 +1,19 @@
-use Rattle.std.proofs.Common.{ap, ◌∙◌}
-use Rattle.std.proofs.lemmas.Result.{IfOk-weaker}
-use Rattle.clap.specs.Simple.{app_of_fields}
+use Rattle.std.proofs.Common.{ap, codes, ◌∙◌}
+use Rattle.clap.specs.Simple.{app_of_fields, new_app}
 use Rattle.clap.specs.declared.builder.command.Command.{Command}
 use Rattle.clap.specs.declared.builder.command.Command.TheOpen.{Command-F}
-use Rattle.binlogfeed.proofs.Building.{adds, adds_local}
+use Rattle.binlogfeed.proofs.Building.{HasShape}
 use Rattle.binlogfeed.proofs.commands.read_command.Goals as goal
 
-pub returns-clause-app : goal.returns-clause-app
-returns-clause-app c =
-    let plain = ap app_of_fields c.after_help.ensures ∙ ap app_of_fields c.about.ensures ∙ c.new.ensures.app in
-    let one = adds _ _ _ _ _ c.in_ok-arg.ensures c.option.ensures.local plain c.option.ensures.rule in
-    let two = adds _ _ _ _ _ c.in_ok-arg-2.ensures c.option-2.ensures.local one c.option-2.ensures.rule in
-    let three = adds _ _ _ _ _ c.in_ok-arg-3.ensures c.option-3.ensures.local two c.option-3.ensures.rule in
-    let four = adds _ _ _ _ _ c.in_ok-arg-4.ensures c.option-4.ensures.local three c.option-4.ensures.rule in
-    let five = adds _ _ _ _ _ c.in_ok-arg-5.ensures c.option-5.ensures.local four c.option-5.ensures.rule in
-    let six = adds _ _ _ _ _ c.in_ok-arg-6.ensures c.option-6.ensures.local five c.option-6.ensures.rule in
-    let seven = adds _ _ _ _ _ c.in_ok-arg-7.ensures c.option-7.ensures.local six c.option-7.ensures.rule in
-    IfOk-weaker c.arg-8.result _ _ (λ x h. adds _ _ _ _ _ h c.file_argument.ensures.local seven c.file_argument.ensures.rule) c.arg-8.ensures
-
-pub returns-clause-local : goal.returns-clause-local
-returns-clause-local c =
+pub returns : goal.returns
+returns c =
     let globals = λ (fields : Command-F Command). fields.has_globals in
-    let plain = ap globals c.after_help.ensures ∙ ap globals c.about.ensures ∙ c.new.ensures.local in
-    let one = adds_local _ _ _ c.in_ok-arg.ensures c.option.ensures.local plain in
-    let two = adds_local _ _ _ c.in_ok-arg-2.ensures c.option-2.ensures.local one in
-    let three = adds_local _ _ _ c.in_ok-arg-3.ensures c.option-3.ensures.local two in
-    let four = adds_local _ _ _ c.in_ok-arg-4.ensures c.option-4.ensures.local three in
-    let five = adds_local _ _ _ c.in_ok-arg-5.ensures c.option-5.ensures.local four in
-    let six = adds_local _ _ _ c.in_ok-arg-6.ensures c.option-6.ensures.local five in
-    let seven = adds_local _ _ _ c.in_ok-arg-7.ensures c.option-7.ensures.local six in
-    IfOk-weaker c.arg-8.result _ _ (λ x h. adds_local _ _ _ h c.file_argument.ensures.local seven) c.arg-8.ensures
+    let plain : HasShape (new_app (codes "read")) c.after_help-command.result = (ap app_of_fields c.after_help-command.ensures ∙ ap app_of_fields c.about.ensures ∙ c.new.ensures.app, ap globals c.after_help-command.ensures ∙ ap globals c.about.ensures ∙ c.new.ensures.local) in
+    let one = c.add_argument-command.ensures _ _ c.option-events.ensures.rule plain in
+    let two = c.add_argument-command-2.ensures _ _ c.option-tables.ensures.rule one in
+    let three = c.add_argument-command-3.ensures _ _ c.option-tables-2.ensures.rule two in
+    let four = c.add_argument-command-4.ensures _ _ c.option-schemas.ensures.rule three in
+    let five = c.add_argument-command-5.ensures _ _ c.option-schemas-2.ensures.rule four in
+    let six = c.add_argument-command-6.ensures _ _ c.option-set.ensures.rule five in
+    let seven = c.add_argument-command-7.ensures _ _ c.option-token.ensures.rule six in
+    c.add_argument.ensures _ _ c.file_argument.ensures.rule seven
