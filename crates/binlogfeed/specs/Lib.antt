@@ -1,4 +1,5 @@
 pub mod Faults
+pub mod Shown
 pub mod Options
 pub mod StartWords
 pub mod KeyWords

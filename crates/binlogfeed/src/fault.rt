@@ -66,26 +66,39 @@ impl fmt::Display for Shown {
     ghost output = { λ shown. Some (what_text shown.0) };
 
     fn fmt<W: fmt::Write>(&self, f: &mut fmt::Formatter<W>) -> fmt::Result {
-        match self.0 {
-            What::BadMagic => write!(f, "BadMagic"),
-            What::NoFormat => write!(f, "NoFormat"),
-            What::BadFormat => write!(f, "BadFormat"),
-            What::ChecksumUnknown => write!(f, "ChecksumUnknown"),
-            What::BadLength => write!(f, "BadLength"),
-            What::EventAfterEnd => write!(f, "EventAfterEnd"),
-            What::KindOutOfProfile(kind) => write!(f, "KindOutOfProfile({kind})"),
-            What::BadBody => write!(f, "BadBody"),
-            What::Xa => write!(f, "Xa"),
-            What::RollbackTo => write!(f, "RollbackTo"),
-            What::OutOfPlace(kind) => write!(f, "OutOfPlace({kind})"),
-            What::RotationMismatch => write!(f, "RotationMismatch"),
-            What::BadMap => write!(f, "BadMap"),
-            What::TypeOutOfProfile(column_type) => write!(f, "TypeOutOfProfile({column_type})"),
-            What::NoColumnNames => write!(f, "NoColumnNames"),
-            What::BadRows => write!(f, "BadRows"),
-            What::UnmappedTable => write!(f, "UnmappedTable"),
-            What::SourceChanged => write!(f, "SourceChanged"),
+        let (name, number) = name_and_number(self.0);
+        match number {
+            Some(number) => write!(f, "{name}({number})"),
+            None => write!(f, "{name}"),
         }
+    }
+}
+
+ghost use Rattle.binlogfeed.specs.Shown.{shown_as};
+
+/// The name of what is wrong with an event, and its number where it has one.
+fn name_and_number(what: What) -> (&'static str, Option<u8>)
+    ensures { what_text what ≡ shown_as result.0.now result.1 }
+{
+    match what {
+        What::BadMagic => ("BadMagic", None),
+        What::NoFormat => ("NoFormat", None),
+        What::BadFormat => ("BadFormat", None),
+        What::ChecksumUnknown => ("ChecksumUnknown", None),
+        What::BadLength => ("BadLength", None),
+        What::EventAfterEnd => ("EventAfterEnd", None),
+        What::KindOutOfProfile(kind) => ("KindOutOfProfile", Some(kind)),
+        What::BadBody => ("BadBody", None),
+        What::Xa => ("Xa", None),
+        What::RollbackTo => ("RollbackTo", None),
+        What::OutOfPlace(kind) => ("OutOfPlace", Some(kind)),
+        What::RotationMismatch => ("RotationMismatch", None),
+        What::BadMap => ("BadMap", None),
+        What::TypeOutOfProfile(column_type) => ("TypeOutOfProfile", Some(column_type)),
+        What::NoColumnNames => ("NoColumnNames", None),
+        What::BadRows => ("BadRows", None),
+        What::UnmappedTable => ("UnmappedTable", None),
+        What::SourceChanged => ("SourceChanged", None),
     }
 }
 
