@@ -3,6 +3,7 @@ mod WordFacts
 pub mod Building
 pub mod Sending
 pub mod Coming
+pub mod Keeping
 pub mod Ends
 pub mod Naming
 pub mod Answering
