@@ -13,8 +13,9 @@ An edit is a file with a line 'file: src/NAME.rt' and pairs of lines 'old: TEXT'
 that file exactly once, inside one function.
 
 The crate itself must be proved, and a check stands on the work that its proof kept. Behind tests/proofs.py both are there:
-the library that `rt ci` proved, and what its checks of edits kept. Else the crate is checked first as it is. Every
-function that no edit of a check touches must be proved in it, or be unproved only with what it calls.
+the library that `rt ci` proved, and what its checks of edits kept. Else the crate is checked first as it is. A check asks for
+the edited functions alone, and so for what they call: what calls them would be proved again for nothing. Every function
+that it tells of and no edit touches must be proved, or be unproved only with what it calls.
 
 The copies lie in .git/wrong-bodies, with what was kept. Checks run side by side, one a processor or as many as RT_JOBS
 says. --only tries the edits whose name has TEXT. The last line is 'N passed, M failed'.
@@ -30,7 +31,7 @@ import subprocess
 import sys
 import tempfile
 import time
-from collections import deque
+from collections import Counter, deque
 from concurrent.futures import FIRST_COMPLETED, ThreadPoolExecutor, wait
 from dataclasses import dataclass, field
 from pathlib import Path
@@ -39,7 +40,7 @@ ROOT = Path(__file__).resolve().parent.parent
 FOLDER = "wrong-bodies"
 PARTS = ("src", "specs", "proofs")
 # So many edits in one check: more would make the last checks of a run wait for one long one.
-MOST_IN_A_ROUND = 24
+MOST_IN_A_ROUND = 48
 LONGEST_CHECK = 3600
 
 HEAD = re.compile(r"^( *)(?:pub(?:\([^)]*\))? )?(?:const )?fn (\w+)")
@@ -48,7 +49,7 @@ SAID = re.compile(r"^fn (\S+): (.*)$", re.M)
 # An error's file, and what it says; a record without a field is told of on the second line.
 ERROR = re.compile(r"^(?:\./)?(\S+?):\d+:\d+: error: (.*(?:\n  .*)?)$", re.M)
 CALLS = re.compile(r"it calls (.*), which (?:is|are) not proved")
-CAME_TO_A_VERDICT = re.compile(r"^logic=(?:not-)?proved", re.M)
+CAME_TO_A_VERDICT = re.compile(r"^(?:logic=(?:not-)?proved|only=\d)", re.M)
 # What antt says where a proof file names what an edit took away, or cites such a proof.
 NAMES_WENT = re.compile(r"has no field|is not in scope|has no `|was not admitted")
 
@@ -81,6 +82,8 @@ class Crate:
     name: str
     deps: list
     edits: list = field(default_factory=list)
+    # The owners and names that several functions have.
+    shared: set = field(default_factory=set)
     # Why edits fail, by their name.
     failed: dict = field(default_factory=dict)
     refused: int = 0
@@ -241,8 +244,18 @@ def read_edit(crate, file):
     return Edit(crate.name, file.name, paths[0], tuple(zip(olds, news)), found.pop())
 
 
+def shared_names(crate):
+    """Returns the owners and names that several of the crate's functions have."""
+    folder = ROOT / "crates" / crate.name
+    files = [it for it in sources(crate) if it.suffix == ".rt"]
+    found = [it for file in files for it in functions_of(str(file.relative_to(folder)), file.read_text())]
+    times = Counter((it.owner, it.name) for it in found)
+    return {it for it, number in times.items() if number > 1}
+
+
 def read_edits(crate, only):
     """Fills in the crate's edits; those that can't be applied have failed."""
+    crate.shared = shared_names(crate)
     folder = ROOT / "crates" / crate.name / FOLDER
     files = sorted(it for it in folder.iterdir() if it.suffix != ".md") if folder.is_dir() else []
     if not files:
@@ -255,19 +268,22 @@ def read_edits(crate, only):
             crate.failed[file.name] = f"BAD EDIT: {why}"
 
 
-def layers(edits):
-    """Returns the edits in lists in which no function stands twice; the first has one of each function."""
+def rounds_of(edits):
+    """Returns the edits in the lists that are planted together: few, and no function twice in one.
+
+    Neighbours stand together, since a check proves again what lies between two edited functions of which one leads to the other.
+    """
     by_function = {}
-    for edit in edits:
+    for edit in sorted(edits, key=lambda it: (it.path, it.function.first)):
         by_function.setdefault((edit.path, edit.function), []).append(edit)
-    longest = max(map(len, by_function.values()), default=0)
-    return [[it[place] for it in by_function.values() if place < len(it)] for place in range(longest)]
-
-
-def parts_of(layer):
-    """Returns a layer in short lists."""
-    parts = -(-len(layer) // MOST_IN_A_ROUND)
-    return [layer[part::parts] for part in range(parts)]
+    number = max([-(-len(edits) // MOST_IN_A_ROUND), *map(len, by_function.values())])
+    rounds, before = [[] for _ in range(number)], 0
+    for each in by_function.values():
+        first = before * number // len(edits)
+        for later, edit in enumerate(each):
+            rounds[(first + later) % number].append(edit)
+        before += len(each)
+    return [it for it in rounds if it]
 
 
 def planted(text, edits):
@@ -311,9 +327,20 @@ def make_room(room, crate, crates, kept):
         link_tree(kept, room / "crates" / crate.name / "out/incremental")
 
 
-def check(room, crate):
-    """Returns what a check of the crate in a copy says."""
+def asked_by(function, crate):
+    """Returns the path by which a check is asked for one function.
+
+    A method's holds no module, since it goes by that of its type, but where two types of one name have such a method.
+    """
+    is_alone = function.owner and (function.owner, function.name) not in crate.shared
+    return "::".join(it for it in ("" if is_alone else function.module, function.owner, function.name) if it)
+
+
+def check(room, crate, edits):
+    """Returns what a check of the crate in a copy says: of the edited functions and those that they call, where there are edits."""
     words = ["rt", "check", "--jobs", "1"]
+    for path in sorted({asked_by(it.function, crate) for it in edits}):
+        words += ["--only", path]
     how = {"stdin": subprocess.DEVNULL, "stdout": subprocess.PIPE, "stderr": subprocess.STDOUT, "errors": "replace"}
     try:
         return subprocess.run(words, cwd=room / "crates" / crate.name, timeout=LONGEST_CHECK, **how).stdout
@@ -340,7 +367,7 @@ def check_round(base, crate, crates, edits):
         text = planted(file.read_text(), [it for it in edits if it.path == path])
         file.unlink()
         file.write_text(text)
-    said = check(room, crate)
+    said = check(room, crate, edits)
     if not edits:
         keep(room / "crates" / crate.name / "out/incremental", crate, base)
     shutil.rmtree(room)
@@ -479,22 +506,17 @@ def try_all(base, chosen, crates, jobs):
                     tell(crate)
 
 
-def rounds_of(crate):
-    """Returns the crate's edits in the lists that are planted together."""
-    return [part for layer in layers(crate.edits) for part in parts_of(layer)]
-
-
 def opening_of(crate, base):
     """Returns the checks that a crate begins with: one without edits, where `rt ci` hasn't shown that the crate is proved."""
     is_known = is_of_the_gate(crate) and (base / f"gate-{crate.name}").is_dir()
-    return rounds_of(crate) if is_known else [[]]
+    return rounds_of(crate.edits) if is_known else [[]]
 
 
 def after_clean(crate, _, said, seconds):
     """Returns the rounds of a crate that is proved without any edit."""
     if re.search(r"^logic=proved ", said, re.M):
         print(f"{crate.name}: proved as it is, {seconds:.0f} s", flush=True)
-        return rounds_of(crate)
+        return rounds_of(crate.edits)
     for edit in crate.edits:
         crate.failed[edit.name] = f"not tried, since the crate itself isn't proved: {first_error(said)}"
     return []
