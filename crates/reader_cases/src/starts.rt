@@ -48,9 +48,9 @@ pub fn filter_of(alloc: Global, options: &[String]) -> Result<Filter, Refused> {
 
 /// What a feed is opened with, beside its source.
 fn first_parts(alloc: Global, reading: Reading<'_>) -> Result<(Filter, Start, Vec<u8>), Refused> {
-    let filter = filter_of(alloc, reading.options)?;
-    let start = start_of(alloc, reading.options)?;
     let window = vec![in alloc; 0u8; reading.window]?;
+    let start = start_of(alloc, reading.options)?;
+    let filter = filter_of(alloc, reading.options)?;
     Ok((filter, start, window))
 }
 
