@@ -14,7 +14,7 @@ from typing import NamedTuple
 
 sys.dont_write_bytecode = True
 
-from built import cases, faults, help_text, rows, server_logs, system, tokens, words, wrapper  # noqa: E402
+from built import cases, faults, help_text, library_page, rows, server_logs, system, tokens, words, wrapper  # noqa: E402
 from built.check import Check  # noqa: E402
 
 TOP = Path(__file__).resolve().parent.parent
@@ -87,7 +87,8 @@ def main() -> int:
     tasks = tasks_of(programs, [check for part in PARTS for check in part.checks()], missing)
     print(rows.summary(), flush=True)
     if not given.program:
-        tasks += tasks_of(cases.PROGRAMS, cases.checks(), missing)
+        for part in (cases, library_page):
+            tasks += tasks_of(part.PROGRAMS, part.checks(), missing)
     if given.gate:
         tasks += tasks_of([wrapper.PROGRAM], wrapper.checks(), missing)
     for program in missing:

@@ -39,14 +39,20 @@ def keys_of(change: dict) -> list[str]:
     return sorted(set(keys))
 
 
-def judge_stories(table: str, program: Path, folder: Path) -> list[str]:
-    """The story of each key of a table of the shop's is those of the shop's lines whose row has the key, in their order."""
+def stories_of(table: str) -> dict[str, bytes]:
+    """The story of each key of a table of the shop's: those of the shop's lines whose row has the key, in their order."""
     lines = (SHOP / "read.jsonl").read_bytes().splitlines(keepends=True)
     stories: dict[str, bytes] = {}
     for line in lines:
         change = json.loads(line)
         for key in keys_of(change) if change["table"] == table else []:
             stories[key] = stories.get(key, b"") + line
+    return stories
+
+
+def judge_stories(table: str, program: Path, folder: Path) -> list[str]:
+    """The stories that `history` tells of the keys of a table of the shop's."""
+    stories = stories_of(table)
     reasons = [] if stories else [f"no line is of the table {table}"]
     for key, story in stories.items():
         words = ["history", "--schema", "shop", "--table", table, "--key", key]
