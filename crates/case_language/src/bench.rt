@@ -1,10 +1,11 @@
 //! The pieces and the case that the lines so far have described, and how many came out as they have to.
 use crate::case::Case;
 use crate::count::Count;
-use crate::lines::{Refused, words_of};
+use crate::lines::{Refused, push_all, words_of};
 use crate::pieces::Pieces;
 use crate::verbs::{Verbs, Verdict};
-use std::alloc::Global;
+use std::alloc::{AllocError, Global};
+use std::fmt::Write;
 use std::rt::Files;
 
 /// Whether a case's `want` lines were judged by a verb.
@@ -53,16 +54,22 @@ impl Bench {
         line: &str,
     ) -> Result<Option<String>, Refused> {
         let (word, rest) = line.split_once(' ').unwrap_or((line, ""));
+        if self.take_text(rt.alloc(), word, rest)? {
+            return Ok(None);
+        }
+        let words = words_of(rt.alloc(), rest)?;
+        self.take_words(rt, verbs, line, word, &words)
+    }
+
+    /// Takes a line in behind whose first word stands a text, or nothing to take in, and says whether it is one.
+    fn take_text(&mut self, alloc: Global, word: &str, rest: &str) -> Result<bool, Refused> {
         match word {
             "" | "#" => {}
-            "case" => self.begin(rt.alloc(), rest)?,
+            "case" => self.begin(alloc, rest)?,
             "want" => self.want(rest)?,
-            _ => {
-                let words = words_of(rt.alloc(), rest)?;
-                return self.take_words(rt, verbs, line, word, &words);
-            }
+            _ => return Ok(false),
         }
-        Ok(None)
+        Ok(true)
     }
 
     /// A line whose first word has words behind it.
@@ -74,13 +81,23 @@ impl Bench {
         word: &str,
         words: &[String],
     ) -> Result<Option<String>, Refused> {
-        match word {
-            "piece" => self.pieces.take_piece(rt.alloc(), words)?,
-            "event" => self.pieces.take_event(rt.alloc(), words)?,
-            "log" => self.take_log(rt.alloc(), words)?,
-            _ => return self.take_setting_or_verb(rt, verbs, line, word, words),
+        if self.take_bytes(rt.alloc(), word, words)? || self.take_setting(word, words)? {
+            return Ok(None);
         }
-        Ok(None)
+        let verdict = self.verdict(rt, verbs, word, words)?;
+        self.judged(rt.alloc(), line, &verdict)
+    }
+
+    /// Takes a line of bytes in, and says whether the word begins one.
+    fn take_bytes(&mut self, alloc: Global, word: &str, words: &[String]) -> Result<bool, Refused> {
+        let taken = match word {
+            "piece" => self.pieces.take_piece(alloc, words),
+            "event" => self.pieces.take_event(alloc, words),
+            "log" => self.take_log(alloc, words),
+            _ => return Ok(false),
+        };
+        taken?;
+        Ok(true)
     }
 
     /// Ends a file. The pieces of a file without cases stay for all files to come.
@@ -141,22 +158,26 @@ impl Bench {
         }
     }
 
-    fn take_setting_or_verb<R: Files + AllocGlobal, V: Verbs>(
-        &mut self,
+    /// Takes a setting of the case in, and says whether the word is one.
+    fn take_setting(&mut self, word: &str, words: &[String]) -> Result<bool, Refused> {
+        match &mut self.case {
+            Some(case) => case.set(word, words),
+            None => Err(Refused::NoCase),
+        }
+    }
+
+    /// What comes of a verb.
+    fn verdict<R: Files + AllocGlobal, V: Verbs>(
+        &self,
         rt: &R,
         verbs: &V,
-        line: &str,
         word: &str,
         words: &[String],
-    ) -> Result<Option<String>, Refused> {
-        let Some(case) = &mut self.case else {
-            return Err(Refused::NoCase);
-        };
-        if case.set(word, words)? {
-            return Ok(None);
+    ) -> Result<Verdict, Refused> {
+        match &self.case {
+            Some(case) => verbs.carry_out(rt, &self.pieces, case, word, words),
+            None => Err(Refused::NoCase),
         }
-        let verdict = verbs.carry_out(rt, &self.pieces, case, word, words)?;
-        self.judged(rt.alloc(), line, verdict)
     }
 
     /// Takes in what came of a verb.
@@ -164,35 +185,60 @@ impl Bench {
         &mut self,
         alloc: Global,
         line: &str,
-        verdict: Verdict,
+        verdict: &Verdict,
     ) -> Result<Option<String>, Refused> {
         if matches!(&self.wants, Wants::Missing) {
             return Err(Refused::NothingWanted);
         }
         self.wants = Wants::Judged;
-        self.count.verbs = self.count.verbs.saturating_add(1);
-        if matches!(&verdict, Verdict::Differs { .. }) {
-            self.count.differing = self.count.differing.saturating_add(1);
-        }
+        self.count.count_verb(verdict);
         match &self.case {
-            Some(case) => said(alloc, case, line, &verdict),
+            Some(case) => Ok(Some(said(alloc, case, line, verdict)?)),
             None => Err(Refused::NoCase),
         }
     }
 }
 
 /// What there is to say of a verb.
-fn said(
+fn said(alloc: Global, case: &Case, line: &str, verdict: &Verdict) -> Result<String, AllocError> {
+    let name = case.name.as_str();
+    match verdict {
+        Verdict::Well { runs } => said_well(alloc, name, line, *runs),
+        Verdict::Differs { came } => {
+            said_differing(alloc, name, line, came.as_str(), case.wanted.as_str())
+        }
+    }
+}
+
+/// What there is to say of a verb that came out well.
+fn said_well(alloc: Global, name: &str, line: &str, runs: u64) -> Result<String, AllocError> {
+    let mut said = String::new(alloc);
+    push_all(&mut said, &["ok ", name, ": ", line])?;
+    write!(&mut said, ", {runs} runs")?;
+    Ok(said)
+}
+
+/// What there is to say of a verb of which something else came than what is wanted.
+fn said_differing(
     alloc: Global,
-    case: &Case,
+    name: &str,
     line: &str,
-    verdict: &Verdict,
-) -> Result<Option<String>, Refused> {
-    let (name, wanted) = (case.name.as_str(), case.wanted.as_str());
-    Ok(Some(match verdict {
-        Verdict::Well { runs } => format!(in alloc; "ok {name}: {line}, {runs} runs")?,
-        Verdict::Differs { came } => format!(in alloc;
-            "DIFFERS {name}: {line}\ncame:\n{came}wanted:\n{wanted}"
-        )?,
-    }))
+    came: &str,
+    wanted: &str,
+) -> Result<String, AllocError> {
+    let mut said = String::new(alloc);
+    push_all(
+        &mut said,
+        &[
+            "DIFFERS ",
+            name,
+            ": ",
+            line,
+            "\ncame:\n",
+            came,
+            "wanted:\n",
+            wanted,
+        ],
+    )?;
+    Ok(said)
 }

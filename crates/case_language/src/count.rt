@@ -1,4 +1,5 @@
 //! How many lines there were, and how they came out.
+use crate::verbs::Verdict;
 use std::fmt;
 
 /// How many cases and verbs there were, and how many of them came out badly.
@@ -18,6 +19,14 @@ impl Count {
         differing: 0,
         bad_lines: 0,
     };
+
+    /// Counts a verb by what came of it.
+    pub fn count_verb(&mut self, verdict: &Verdict) {
+        self.verbs = self.verbs.saturating_add(1);
+        if let Verdict::Differs { .. } = verdict {
+            self.differing = self.differing.saturating_add(1);
+        }
+    }
 }
 
 impl fmt::Display for Count {

@@ -55,31 +55,45 @@ impl<T: Drop> From<AllocFailed<T>> for Refused {
     }
 }
 
-/// The words of a line, parted by blanks. A blank between two quotes belongs to its word, and the quotes don't.
-pub fn words_of(alloc: Global, line: &str) -> Result<Vec<String>, Refused> {
-    let mut words = Vec::new(alloc);
-    let mut word = String::new(alloc);
+/// Appends a letter to the last word, or to a new one. A quote belongs to a word, but isn't one of its letters.
+fn push_letter(
+    alloc: Global,
+    words: &mut Vec<String>,
+    goes_on: bool,
+    letter: char,
+) -> Result<(), Refused> {
+    if !goes_on {
+        words.push(String::new(alloc))?;
+    }
+    match words.last_mut() {
+        Some(word) if letter != '"' => Ok(word.push(letter)?),
+        _ => Ok(()),
+    }
+}
+
+/// Appends the words of a line.
+fn push_words(alloc: Global, words: &mut Vec<String>, line: &str) -> Result<(), Refused> {
     let mut is_quoted = false;
-    let mut has_begun = false;
+    let mut is_in_word = false;
     for letter in line.chars() {
-        if letter == '"' {
-            is_quoted = !is_quoted;
-            has_begun = true;
-        } else if letter != ' ' || is_quoted {
-            word.push(letter)?;
-            has_begun = true;
-        } else if has_begun {
-            words.push(word)?;
-            word = String::new(alloc);
-            has_begun = false;
+        is_quoted = is_quoted != (letter == '"');
+        let goes_on = is_in_word;
+        is_in_word = is_quoted || letter != ' ';
+        if is_in_word {
+            push_letter(alloc, words, goes_on, letter)?;
         }
     }
     if is_quoted {
-        return Err(Refused::BadPart);
+        Err(Refused::BadPart)
+    } else {
+        Ok(())
     }
-    if has_begun {
-        words.push(word)?;
-    }
+}
+
+/// The words of a line, parted by blanks. A blank between two quotes belongs to its word, and the quotes don't.
+pub fn words_of(alloc: Global, line: &str) -> Result<Vec<String>, Refused> {
+    let mut words = Vec::new(alloc);
+    push_words(alloc, &mut words, line)?;
     Ok(words)
 }
 
@@ -97,4 +111,12 @@ pub fn only_word(words: &[String]) -> Result<&str, Refused> {
         [word] => Ok(word.as_str()),
         _ => Err(Refused::BadPart),
     }
+}
+
+/// Appends texts, one behind the other.
+pub fn push_all(text: &mut String, parts: &[&str]) -> Result<(), AllocError> {
+    for part in parts {
+        text.push_str(part)?;
+    }
+    Ok(())
 }
