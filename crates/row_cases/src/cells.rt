@@ -1,5 +1,6 @@
 //! Cells, bytes and faults as texts: the variant, and behind it the whole value.
 use binlog_table::{Cell, Date, DateTime, DecimalView, Time, Timestamp};
+use case_language::push_all;
 use std::alloc::AllocError;
 use std::fmt::Write;
 
@@ -24,29 +25,28 @@ fn is_readable(bytes: &[u8]) -> bool {
 /// A text as it stands, between quotes; other bytes in hex digits.
 pub fn push_bytes(text: &mut String, bytes: &[u8]) -> Result<(), AllocError> {
     match str::from_utf8(bytes) {
-        Ok(readable) if is_readable(bytes) => {
-            text.push('"')?;
-            text.push_str(readable)?;
-            text.push('"')
-        }
+        Ok(readable) if is_readable(bytes) => { push_all(text, &["\"", readable, "\""]) }
         _ => push_hex(text, bytes),
     }
 }
 
-/// The sign, all digits, and the point, which stands behind the last digit where there is no fraction.
-fn push_decimal(text: &mut String, decimal: &DecimalView<'_>) -> Result<(), AllocError> {
-    text.push(if decimal.is_negative() { '-' } else { '+' })?;
-    let digits = decimal.digits();
-    let digits = digits.as_slice();
-    let whole = digits.len().saturating_sub(decimal.scale());
-    for digit in digits.iter().take(whole) {
-        write!(text, "{digit}")?;
-    }
-    text.push('.')?;
-    for digit in digits.iter().skip(whole) {
+/// Digits, one behind the other.
+fn push_digits(text: &mut String, digits: &[u8]) -> Result<(), AllocError> {
+    for digit in digits {
         write!(text, "{digit}")?;
     }
     Ok(())
+}
+
+/// The sign, all digits, and the point, which stands behind the last digit where there is no fraction.
+fn push_decimal(text: &mut String, decimal: &DecimalView<'_>) -> Result<(), AllocError> {
+    let digits = decimal.digits();
+    let digits = digits.as_slice();
+    let whole = digits.len().saturating_sub(decimal.scale());
+    text.push(if decimal.is_negative() { '-' } else { '+' })?;
+    push_digits(text, &digits[..whole])?;
+    text.push('.')?;
+    push_digits(text, &digits[whole..])
 }
 
 fn push_day(text: &mut String, year: u32, month: u8, day: u8) -> Result<(), AllocError> {

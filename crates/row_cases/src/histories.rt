@@ -1,23 +1,22 @@
 //! The places of a key's changes in a case's files, by a visit and by an index.
-use binlog_feed::{Change, Feed, FeedFault, Start};
+use crate::feeds::{Question, push_answer};
+use binlog_feed::{Change, Feed, FeedFault};
 use binlog_frame::MemoryLogs;
 use binlog_json::{HistoryFault, KeyIndex, history};
-use binlog_select::{Filter, TokenRef};
-use case_language::{Case, Refused, copies_of, source};
+use binlog_select::TokenRef;
+use case_language::{Case, Refused, copies_of, push_all};
 use std::alloc::{AllocError, Global};
 use std::fmt::Write;
 
 /// The bytes of the window.
 const WINDOW: usize = 65_536;
 
-/// A feed of all changes of a case's files.
-fn feed_of(alloc: Global, case: &Case) -> Result<Feed<MemoryLogs>, Refused> {
-    let logs = source(copies_of(alloc, &case.files)?, case.reads)?;
-    let window = vec![in alloc; 0u8; WINDOW]?;
-    match Feed::open(alloc, logs, Filter::new(), Start::Beginning, window) {
-        Ok(feed) => Ok(feed),
-        Err(_) => Err(Refused::NameTaken),
-    }
+/// The key of which the changes are asked for.
+#[derive(Clone, Copy)]
+pub struct Key<'a> {
+    pub schema: &'a str,
+    pub table: &'a str,
+    pub text: &'a str,
 }
 
 /// A place as a line.
@@ -42,64 +41,90 @@ fn push_end(text: &mut String, count: u64, fault: Option<HistoryFault>) -> Resul
 }
 
 /// The places of the changes that a visit gives, and their number or why it ended.
-fn visited(
+pub fn push_visited(
     alloc: Global,
-    case: &Case,
-    schema: &str,
-    table: &str,
-    key: &str,
-) -> Result<String, Refused> {
-    let mut feed = feed_of(alloc, case)?;
-    let mut text = String::new(alloc);
+    text: &mut String,
+    feed: &mut Feed<MemoryLogs>,
+    key: Key<'_>,
+) -> Result<(), Refused> {
     let mut refused = false;
     let mut each = |change: &Change<'_>| {
-        if push_place(&mut text, change.token()).is_err() {
+        if push_place(text, change.token()).is_err() {
             refused = true;
         }
     };
-    let answer = history(alloc, &mut feed, schema, table, key, &mut each);
+    let answer = history(alloc, feed, key.schema, key.table, key.text, &mut each);
     if refused {
         return Err(Refused::OutOfMemory);
     }
     match answer {
-        Ok(count) => push_end(&mut text, count, None)?,
-        Err(fault) => push_end(&mut text, 0, Some(fault))?,
+        Ok(count) => push_end(text, count, None),
+        Err(fault) => push_end(text, 0, Some(fault)),
     }
-    Ok(text)
 }
 
-/// The places that an index of all changes has, and their number or why it wasn't filled to the end.
-fn indexed(
-    alloc: Global,
-    case: &Case,
-    schema: &str,
-    table: &str,
-    key: &str,
-) -> Result<String, Refused> {
-    let mut feed = feed_of(alloc, case)?;
-    let mut index = KeyIndex::new(alloc);
-    let fault = index.fill(&mut feed).err();
-    let mut text = String::new(alloc);
-    let places = index.places(schema, table, key)?;
+/// The places that an index has, and their number or why it wasn't filled to the end.
+fn push_places(
+    text: &mut String,
+    index: &KeyIndex,
+    key: Key<'_>,
+    fault: Option<HistoryFault>,
+) -> Result<(), Refused> {
+    let places = index.places(key.schema, key.table, key.text)?;
     for place in places {
-        push_place(&mut text, place.as_ref())?;
+        push_place(text, place.as_ref())?;
     }
-    push_end(&mut text, places.len() as u64, fault)?;
-    Ok(text)
+    push_end(text, places.len() as u64, fault)
 }
 
-/// `history SCHEMA TABLE KEY`: the places of the changes of the table that have the key, and their number. Where an index of the files
-/// has other ones, they follow.
-pub fn history_text(alloc: Global, case: &Case, words: &[String]) -> Result<String, Refused> {
-    let [schema, table, key] = words else {
+/// The places that an index of all changes has.
+pub fn push_indexed(
+    alloc: Global,
+    text: &mut String,
+    feed: &mut Feed<MemoryLogs>,
+    key: Key<'_>,
+) -> Result<(), Refused> {
+    let mut index = KeyIndex::new(alloc);
+    let fault = index.fill(feed).err();
+    push_places(text, &index, key, fault)
+}
+
+/// What a feed of a case's files answers.
+fn push_answer_of_case(
+    alloc: Global,
+    text: &mut String,
+    case: &Case,
+    question: Question<'_>,
+) -> Result<u64, Refused> {
+    let files = copies_of(alloc, &case.files)?;
+    push_answer(alloc, text, files, case.reads, WINDOW, question)
+}
+
+/// The places of a key's changes, by a visit. Where an index of the files has other ones, they follow.
+fn push_both(alloc: Global, text: &mut String, case: &Case, key: Key<'_>) -> Result<(), Refused> {
+    let mut other = String::new(alloc);
+    push_answer_of_case(alloc, text, case, Question::Visit(key))?;
+    push_answer_of_case(alloc, &mut other, case, Question::Index(key))?;
+    if text.as_str() != other.as_str() {
+        push_all(text, &["index:\n", other.as_str()])?;
+    }
+    Ok(())
+}
+
+/// `history SCHEMA TABLE KEY`: the places of the changes of the table that have the key, and their number.
+pub fn push_history(
+    alloc: Global,
+    text: &mut String,
+    case: &Case,
+    words: &[String],
+) -> Result<(), Refused> {
+    let [schema, table, text_of_key] = words else {
         return Err(Refused::UnknownWord);
     };
-    let (schema, table, key) = (schema.as_str(), table.as_str(), key.as_str());
-    let mut text = visited(alloc, case, schema, table, key)?;
-    let other = indexed(alloc, case, schema, table, key)?;
-    if text != other {
-        text.push_str("index:\n")?;
-        text.push_str(other.as_str())?;
-    }
-    Ok(text)
+    let key = Key {
+        schema: schema.as_str(),
+        table: table.as_str(),
+        text: text_of_key.as_str(),
+    };
+    push_both(alloc, text, case, key)
 }

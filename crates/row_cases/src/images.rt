@@ -1,32 +1,41 @@
 //! A table map and a rows event, put into a log, and the images of their changes as JSON.
-use crate::json_lines::lines_of;
-use case_language::{Pieces, Reads, Refused, push_event};
+use crate::feeds::{Question, push_answer};
+use case_language::{Pieces, Reads, Refused, push_all, push_event};
 use std::alloc::{AllocError, Global};
 
-/// A log of a transaction with a table map and a rows event: the pieces `front` and `begin` stand before them, and `xid` behind them.
-fn log_of(
-    alloc: Global,
-    pieces: &Pieces,
-    map: &[u8],
-    kind: u8,
-    rows: &[u8],
-) -> Result<Vec<u8>, Refused> {
-    let mut log = Vec::from_slice(alloc, pieces.named("front")?)?;
-    log.extend_from_slice(pieces.named("begin")?)?;
-    push_event(&mut log, 19, 0, map)?;
-    push_event(&mut log, kind, 0, rows)?;
-    log.extend_from_slice(pieces.named("xid")?)?;
-    Ok(log)
+/// Bytes, one behind the other.
+pub fn joined(alloc: Global, parts: &[&[u8]]) -> Result<Vec<u8>, AllocError> {
+    let mut bytes = Vec::new(alloc);
+    for part in parts {
+        bytes.extend_from_slice(part)?;
+    }
+    Ok(bytes)
+}
+
+/// The events of a table map and of rows.
+fn push_events(events: &mut Vec<u8>, map: &[u8], kind: u8, rows: &[u8]) -> Result<(), Refused> {
+    push_event(events, 19, 0, map)?;
+    push_event(events, kind, 0, rows)
+}
+
+/// A log of a transaction with these events: the pieces `front` and `begin` stand before them, and `xid` behind them.
+fn log_of(alloc: Global, pieces: &Pieces, events: &[u8]) -> Result<Vec<u8>, Refused> {
+    let front = pieces.named("front")?;
+    let begin = pieces.named("begin")?;
+    let xid = pieces.named("xid")?;
+    Ok(joined(alloc, &[front, begin, events, xid])?)
 }
 
 /// The lines of the log, whole.
-fn whole_lines(alloc: Global, log: Vec<u8>) -> Result<String, Refused> {
+fn push_log_lines(alloc: Global, text: &mut String, log: Vec<u8>) -> Result<(), Refused> {
     let name = String::from_str(alloc, "log")?;
     let reads = Reads {
         failing: 0,
         most: 0,
     };
-    Ok(lines_of(alloc, vec![in alloc; (name, log)]?, reads, 4096)?.text)
+    let files = vec![in alloc; (name, log)]?;
+    push_answer(alloc, text, files, reads, 4096, Question::Lines)?;
+    Ok(())
 }
 
 /// The members `after` and `before` of a line.
@@ -37,29 +46,41 @@ fn images_in(line: &str) -> Option<(&str, &str)> {
     Some((after, before))
 }
 
-/// The images of a line, the one before in front of an arrow. A line without images stands whole.
-fn push_images(text: &mut String, line: &str) -> Result<(), AllocError> {
-    let Some((after, before)) = images_in(line) else {
-        return text.push_str(line);
-    };
-    text.push_str(before)?;
-    text.push_str(" -> ")?;
-    text.push_str(after)
+/// The images of a line, the one before in front of an arrow, and a line feed. A line without images stands whole.
+fn push_line_images(text: &mut String, line: &str) -> Result<(), AllocError> {
+    match images_in(line) {
+        Some((after, before)) => push_all(text, &[before, " -> ", after, "\n"]),
+        None => push_all(text, &[line, "\n"]),
+    }
 }
 
-/// The images of each change that a table map and a rows event give, as JSON: the one before, ` -> `, and the one after.
-pub fn images_text(
+/// The lines that a table map and a rows event give.
+fn push_event_lines(
     alloc: Global,
+    text: &mut String,
     pieces: &Pieces,
     map: &[u8],
     kind: u8,
     rows: &[u8],
-) -> Result<String, Refused> {
-    let lines = whole_lines(alloc, log_of(alloc, pieces, map, kind, rows)?)?;
-    let mut text = String::new(alloc);
+) -> Result<(), Refused> {
+    let mut events = Vec::new(alloc);
+    push_events(&mut events, map, kind, rows)?;
+    push_log_lines(alloc, text, log_of(alloc, pieces, &events)?)
+}
+
+/// The images of each change that a table map and a rows event give, as JSON: the one before, ` -> `, and the one after.
+pub fn push_images(
+    alloc: Global,
+    text: &mut String,
+    pieces: &Pieces,
+    map: &[u8],
+    kind: u8,
+    rows: &[u8],
+) -> Result<(), Refused> {
+    let mut lines = String::new(alloc);
+    push_event_lines(alloc, &mut lines, pieces, map, kind, rows)?;
     for line in lines.as_str().lines() {
-        push_images(&mut text, line)?;
-        text.push('\n')?;
+        push_line_images(text, line)?;
     }
-    Ok(text)
+    Ok(())
 }

@@ -1,9 +1,9 @@
 //! The JSON lines of a case's files, by both calls that write them.
-use binlog_feed::{Change, Feed, FeedFault, Start};
+use crate::feeds::{Question, push_answer};
+use binlog_feed::{Change, Feed, FeedFault};
 use binlog_frame::MemoryLogs;
 use binlog_json::{LineWriter, line};
-use binlog_select::Filter;
-use case_language::{Case, Named, Reads, Refused, SMALL_WINDOW, Verdict, copies_of, source};
+use case_language::{Case, Reads, Refused, SMALL_WINDOW, Verdict, copies_of, push_all};
 use std::alloc::{AllocError, Global};
 use std::fmt::Write;
 
@@ -29,10 +29,20 @@ fn push_line(
     change: &Change<'_>,
 ) -> Result<(), Refused> {
     let one = line(alloc, change)?;
+    push_all(text, &[one.as_str(), "\n"])?;
+    push_appended(alloc, text, writer, change, one.as_str())
+}
+
+/// The line of a change that is appended, where it is another than one.
+fn push_appended(
+    alloc: Global,
+    text: &mut String,
+    writer: &mut LineWriter,
+    change: &Change<'_>,
+    one: &str,
+) -> Result<(), Refused> {
     let other = appended(alloc, writer, change)?;
-    text.push_str(one.as_str())?;
-    text.push('\n')?;
-    push_other(text, one.as_str(), &other)
+    push_other(text, one, &other)
 }
 
 /// A line that was appended, where it is another, or where what stood before it is gone.
@@ -41,83 +51,110 @@ fn push_other(text: &mut String, one: &str, other: &[u8]) -> Result<(), Refused>
         return Err(Refused::NoText);
     };
     if other.strip_prefix(BEFORE) != Some(one) {
-        text.push_str("appended: ")?;
-        text.push_str(other)?;
-        text.push('\n')?;
+        push_all(text, &["appended: ", other, "\n"])?;
     }
     Ok(())
 }
 
-/// The lines so far, and how many reads failed on the way.
-#[derive(Drop)]
-pub struct Lines {
-    pub text: String,
-    pub failed_reads: u64,
+/// What a feed gave.
+#[derive(Clone, Copy)]
+enum Given {
+    /// It can be asked again.
+    More,
+    /// A read failed.
+    FailedRead,
+    /// It has ended.
+    End,
 }
 
-/// Takes what a feed gives next, and says whether to ask it again.
+/// Takes a fault in.
+fn take_fault(
+    alloc: Global,
+    text: &mut String,
+    feed: &mut Feed<MemoryLogs>,
+    fault: FeedFault,
+) -> Result<Given, Refused> {
+    match fault {
+        FeedFault::Log(fault) => {
+            let what = fault.what;
+            write!(text, "{what:?}\n")?;
+            Ok(Given::End)
+        }
+        FeedFault::WindowTooSmall { needed } => {
+            let _ = feed.replace_window(vec![in alloc; 0u8; needed as usize]?);
+            Ok(Given::More)
+        }
+        FeedFault::Read { .. } => Ok(Given::FailedRead),
+        FeedFault::OutOfMemory => Err(Refused::OutOfMemory),
+    }
+}
+
+/// Takes what a feed gives next.
 fn take_next(
     alloc: Global,
-    lines: &mut Lines,
+    text: &mut String,
     feed: &mut Feed<MemoryLogs>,
     writer: &mut LineWriter,
-) -> Result<bool, Refused> {
+) -> Result<Given, Refused> {
     match feed.next() {
+        Ok(Some(change)) => {
+            push_line(alloc, text, writer, &change)?;
+            Ok(Given::More)
+        }
         Ok(None) => {
-            lines.text.push_str("end\n")?;
-            return Ok(false);
+            text.push_str("end\n")?;
+            Ok(Given::End)
         }
-        Ok(Some(change)) => push_line(alloc, &mut lines.text, writer, &change)?,
-        Err(FeedFault::Log(fault)) => {
-            let what = fault.what;
-            write!(&mut lines.text, "{what:?}\n")?;
-            return Ok(false);
-        }
-        Err(FeedFault::WindowTooSmall { needed }) => {
-            let _ = feed.replace_window(vec![in alloc; 0u8; needed as usize]?);
-        }
-        Err(FeedFault::Read { .. }) => lines.failed_reads = lines.failed_reads.saturating_add(1),
-        Err(FeedFault::OutOfMemory) => return Err(Refused::OutOfMemory),
+        Err(fault) => take_fault(alloc, text, feed, fault),
     }
-    Ok(true)
 }
 
-/// The lines of files, and behind them `end` or what the fault is. After a read that failed the feed is asked again.
-pub fn lines_of(
+/// Takes all that a feed gives, and counts the reads that failed. After one the feed is asked again.
+fn take_all(
     alloc: Global,
-    files: Vec<Named>,
+    text: &mut String,
+    feed: &mut Feed<MemoryLogs>,
+    writer: &mut LineWriter,
+) -> Result<u64, Refused> {
+    let mut failed_reads = 0u64;
+    for _ in 0..u32::MAX {
+        match take_next(alloc, text, feed, writer)? {
+            Given::More => {}
+            Given::FailedRead => failed_reads = failed_reads.saturating_add(1),
+            Given::End => break,
+        }
+    }
+    Ok(failed_reads)
+}
+
+/// The lines of a feed, and behind them `end` or what the fault is. Says how many reads failed on the way.
+pub fn push_all_lines(
+    alloc: Global,
+    text: &mut String,
+    feed: &mut Feed<MemoryLogs>,
+) -> Result<u64, Refused> {
+    let mut writer = LineWriter::new(alloc);
+    take_all(alloc, text, feed, &mut writer)
+}
+
+/// The lines of a case's files.
+fn push_case_lines(
+    alloc: Global,
+    text: &mut String,
+    case: &Case,
     reads: Reads,
     window: usize,
-) -> Result<Lines, Refused> {
-    let logs = source(files, reads)?;
-    let window = vec![in alloc; 0u8; window]?;
-    let Ok(mut feed) = Feed::open(alloc, logs, Filter::new(), Start::Beginning, window) else {
-        return Err(Refused::NameTaken);
-    };
-    let mut lines = Lines {
-        text: String::new(alloc),
-        failed_reads: 0,
-    };
-    take_all(alloc, &mut lines, &mut feed)?;
-    Ok(lines)
-}
-
-/// Takes all that a feed gives.
-fn take_all(alloc: Global, lines: &mut Lines, feed: &mut Feed<MemoryLogs>) -> Result<(), Refused> {
-    let mut writer = LineWriter::new(alloc);
-    for _ in 0..u32::MAX {
-        if !take_next(alloc, lines, feed, &mut writer)? {
-            break;
-        }
-    }
-    Ok(())
+) -> Result<u64, Refused> {
+    let files = copies_of(alloc, &case.files)?;
+    push_answer(alloc, text, files, reads, window, Question::Lines)
 }
 
 /// `lines`: those of the case's files, with each of its windows.
 pub fn judge_lines(alloc: Global, case: &Case) -> Result<Verdict, Refused> {
     let mut runs = 0u64;
     for window in &case.windows {
-        let came = lines_of(alloc, copies_of(alloc, &case.files)?, case.reads, *window)?.text;
+        let mut came = String::new(alloc);
+        push_case_lines(alloc, &mut came, case, case.reads, *window)?;
         if !case.wants(came.as_str()) {
             return Ok(Verdict::Differs { came });
         }
@@ -133,11 +170,12 @@ pub fn judge_lines_again(alloc: Global, case: &Case) -> Result<Verdict, Refused>
             failing,
             ..case.reads
         };
-        let came = lines_of(alloc, copies_of(alloc, &case.files)?, reads, SMALL_WINDOW)?;
-        if !case.wants(came.text.as_str()) {
-            return Ok(Verdict::Differs { came: came.text });
+        let mut came = String::new(alloc);
+        let failed_reads = push_case_lines(alloc, &mut came, case, reads, SMALL_WINDOW)?;
+        if !case.wants(came.as_str()) {
+            return Ok(Verdict::Differs { came });
         }
-        if came.failed_reads == 0 {
+        if failed_reads == 0 {
             return Ok(Verdict::Well { runs: failing });
         }
     }

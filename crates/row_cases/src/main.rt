@@ -2,6 +2,7 @@
 #![tactic(auto)]
 
 mod cells;
+mod feeds;
 mod histories;
 mod images;
 mod json_lines;

@@ -3,7 +3,7 @@ ghost use Rattle.std.specs.Prelude.{◌<◌, length};
 
 use crate::cells::push_bytes;
 use binlog_table::{Column, Layout, MapFault, TableMap};
-use case_language::Refused;
+use case_language::push_all;
 use std::alloc::{AllocError, Global};
 use std::fmt::Write;
 
@@ -69,10 +69,33 @@ fn push_size(text: &mut String, size: usize) -> Result<(), AllocError> {
     write!(text, " {size}")
 }
 
-/// The layout of a column, and whether its numbers are unsigned.
-fn push_column(text: &mut String, column: &Column) -> Result<(), AllocError> {
+/// The layout of a column, and whether its numbers are unsigned, also where the map says otherwise.
+fn push_column(text: &mut String, column: &Column, unsigned: bool) -> Result<(), AllocError> {
     text.push_str(name_of(&column.layout))?;
-    push_sizes(text, &column.layout)
+    push_sizes(text, &column.layout)?;
+    let sign = if column.unsigned { " unsigned" } else { "" };
+    let other = if column.unsigned == unsigned {
+        ""
+    } else {
+        " or not"
+    };
+    push_all(text, &[sign, other])
+}
+
+/// The name of a column's value, behind its number, where it has one.
+fn push_value_name(
+    text: &mut String,
+    map: &TableMap,
+    column: usize,
+    number: usize,
+) -> Result<(), AllocError>
+    requires { column < length map.now.columns }
+{
+    if let Some(name) = map.value_name(column, number) {
+        write!(text, " {number} ")?;
+        push_bytes(text, name)?;
+    }
+    Ok(())
 }
 
 /// The names of a column's values, where the map has them. None stands in front of the first or behind the last.
@@ -84,10 +107,7 @@ fn push_value_names(text: &mut String, map: &TableMap, column: usize) -> Result<
     };
     write!(text, " of {count}:")?;
     for number in 0..=count.saturating_add(1) {
-        if let Some(name) = map.value_name(column, number) {
-            write!(text, " {number} ")?;
-            push_bytes(text, name)?;
-        }
+        push_value_name(text, map, column, number)?;
     }
     Ok(())
 }
@@ -96,16 +116,9 @@ fn push_value_names(text: &mut String, map: &TableMap, column: usize) -> Result<
 fn push_column_line(text: &mut String, map: &TableMap, number: usize) -> Result<(), AllocError>
     requires { number < length map.now.columns }
 {
-    text.push_str(map.column_name(number))?;
-    text.push_str(": ")?;
+    push_all(text, &[map.column_name(number), ": "])?;
     if let Some(column) = map.columns().get(number) {
-        push_column(text, column)?;
-        text.push_str(if column.unsigned { " unsigned" } else { "" })?;
-        text.push_str(if column.unsigned == map.unsigned(number) {
-            ""
-        } else {
-            " or not"
-        })?;
+        push_column(text, column, map.unsigned(number))?;
     }
     push_value_names(text, map, number)?;
     text.push('\n')
@@ -120,12 +133,18 @@ pub fn push_numbers(text: &mut String, word: &str, numbers: &[usize]) -> Result<
     Ok(())
 }
 
+/// A map's table, its key and the order of its names.
+fn push_table(text: &mut String, map: &TableMap) -> Result<(), AllocError> {
+    let id = map.table_id();
+    write!(text, "{id} ")?;
+    push_all(text, &[map.schema(), ".", map.table()])?;
+    push_numbers(text, ", key", map.key())?;
+    push_numbers(text, ", order", map.name_order())
+}
+
 /// The whole of a map: its table, its key and the order of its names, and a line for each column.
 fn push_map(text: &mut String, map: &TableMap) -> Result<(), AllocError> {
-    let (id, schema, table) = (map.table_id(), map.schema(), map.table());
-    write!(text, "{id} {schema}.{table}")?;
-    push_numbers(text, ", key", map.key())?;
-    push_numbers(text, ", order", map.name_order())?;
+    push_table(text, map)?;
     text.push('\n')?;
     for number in 0..map.column_count() {
         push_column_line(text, map, number)?;
@@ -134,49 +153,57 @@ fn push_map(text: &mut String, map: &TableMap) -> Result<(), AllocError> {
 }
 
 /// What a body gives as a table map: its map, or its fault.
-pub fn map_text(alloc: Global, body: &[u8]) -> Result<String, Refused> {
-    let mut text = String::new(alloc);
+pub fn push_map_of(alloc: Global, text: &mut String, body: &[u8]) -> Result<(), AllocError> {
     match TableMap::read(alloc, body) {
-        Ok(map) => push_map(&mut text, &map)?,
-        Err(fault) => push_fault_line(&mut text, fault)?,
+        Ok(map) => push_map(text, &map),
+        Err(fault) => push_fault_line(text, fault),
     }
-    Ok(text)
 }
 
-/// What each beginning of a body gives that isn't `BadMap`: the beginning's length, and the first line.
-pub fn map_cuts_text(alloc: Global, body: &[u8]) -> Result<String, Refused> {
-    let mut text = String::new(alloc);
-    for len in 0..body.len() {
-        let whole = map_text(alloc, &body[..len])?;
-        let first = whole.as_str().lines().next().unwrap_or("");
-        if first != "BadMap" {
-            write!(&mut text, "{len}: {first}\n")?;
-        }
+/// What a beginning of a body gives that isn't `BadMap`: the beginning's length, and the first line.
+fn push_map_cut(text: &mut String, len: usize, whole: &str) -> Result<(), AllocError> {
+    let first = whole.lines().next().unwrap_or("");
+    if first == "BadMap" {
+        return Ok(());
     }
-    Ok(text)
+    write!(text, "{len}: ")?;
+    push_all(text, &[first, "\n"])
+}
+
+/// What each beginning of a body gives that isn't `BadMap`.
+pub fn push_map_cuts(alloc: Global, text: &mut String, body: &[u8]) -> Result<(), AllocError> {
+    for len in 0..body.len() {
+        let mut whole = String::new(alloc);
+        push_map_of(alloc, &mut whole, &body[..len])?;
+        push_map_cut(text, len, whole.as_str())?;
+    }
+    Ok(())
+}
+
+/// The name of a map's last column.
+fn last_name(map: &TableMap) -> &str {
+    let count = map.column_count();
+    if count > 0 {
+        map.column_name(count - 1)
+    } else {
+        ""
+    }
 }
 
 /// How many columns a map has, in all, in the order of their names and in the key, whether the key has that order, and the last one's
 /// name.
 fn push_size_line(text: &mut String, map: &TableMap) -> Result<(), AllocError> {
-    let count = map.column_count();
     let (order, key) = (map.name_order(), map.key());
-    let (ordered, keyed) = (order.len(), key.len());
+    let (count, ordered, keyed) = (map.column_count(), order.len(), key.len());
     write!(text, "columns {count}, in order {ordered}, in key {keyed}")?;
-    text.push_str(if key == order { " in that order" } else { "" })?;
-    text.push_str(", the last ")?;
-    if count > 0 {
-        text.push_str(map.column_name(count - 1))?;
-    }
-    text.push('\n')
+    let same = if key == order { " in that order" } else { "" };
+    push_all(text, &[same, ", the last ", last_name(map), "\n"])
 }
 
 /// The size of the map that a body gives; or its fault.
-pub fn map_size_text(alloc: Global, body: &[u8]) -> Result<String, Refused> {
-    let mut text = String::new(alloc);
+pub fn push_map_size(alloc: Global, text: &mut String, body: &[u8]) -> Result<(), AllocError> {
     match TableMap::read(alloc, body) {
-        Ok(map) => push_size_line(&mut text, &map)?,
-        Err(fault) => push_fault_line(&mut text, fault)?,
+        Ok(map) => push_size_line(text, &map),
+        Err(fault) => push_fault_line(text, fault),
     }
-    Ok(text)
 }

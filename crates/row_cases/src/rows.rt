@@ -8,7 +8,7 @@ use crate::maps::{push_fault_line, push_numbers};
 use binlog_table::{
     BadRows, Cell, RowSpan, RowView, RowsHead, Side, TableMap, next_row, rows_table_id,
 };
-use case_language::Refused;
+use case_language::{Refused, push_all};
 use std::alloc::{AllocError, Global};
 use std::fmt::Write;
 
@@ -88,12 +88,31 @@ fn push_both(
 {
     let walked = cell_text(alloc, row, column, walked)?;
     let numbered = cell_text(alloc, row, column, &row.value(column))?;
-    text.push_str(walked.as_str())?;
-    if walked.as_str() != numbered.as_str() {
-        text.push_str(" but by its number ")?;
-        text.push_str(numbered.as_str())?;
+    push_reached(text, walked.as_str(), numbered.as_str())
+}
+
+/// What a walk reached, and behind it what its number reaches, where that is another.
+fn push_reached(text: &mut String, walked: &str, numbered: &str) -> Result<(), AllocError> {
+    if walked == numbered {
+        text.push_str(walked)
+    } else {
+        push_all(text, &[walked, " but by its number ", numbered])
     }
-    Ok(())
+}
+
+/// A cell that a walk reached, behind its column's name.
+fn push_column(
+    alloc: Global,
+    text: &mut String,
+    row: &RowView<'_>,
+    column: usize,
+    walked: &Cell<'_>,
+) -> Result<(), AllocError>
+    requires { column < length row.now.table.columns }
+{
+    let before = if column == 0 { " " } else { ", " };
+    push_all(text, &[before, row.column_name(column), "="])?;
+    push_both(alloc, text, row, column, walked)
 }
 
 /// The cells of an image with their columns' names, from the left.
@@ -103,16 +122,21 @@ fn push_cells(alloc: Global, text: &mut String, row: &RowView<'_>) -> Result<(),
         let Some(cell) = cells.next() else {
             return text.push_str(" and no more");
         };
-        text.push_str(if column == 0 { " " } else { ", " })?;
-        text.push_str(row.column_name(column))?;
-        text.push('=')?;
-        push_both(alloc, text, row, column, &cell)?;
+        push_column(alloc, text, row, column, &cell)?;
     }
-    text.push_str(if cells.next().is_some() {
-        " and more"
+    if cells.next().is_some() {
+        text.push_str(" and more")
     } else {
-        ""
-    })
+        Ok(())
+    }
+}
+
+/// The end of an image's line, with its key where it has one.
+fn push_key(text: &mut String, key: &[usize]) -> Result<(), AllocError> {
+    if !key.is_empty() {
+        push_numbers(text, ", key", key)?;
+    }
+    text.push('\n')
 }
 
 /// A line with an image's side and cells, and with its key where it has one.
@@ -124,10 +148,7 @@ fn push_image(
 ) -> Result<(), AllocError> {
     text.push_str(side)?;
     push_cells(alloc, text, row)?;
-    if !row.key().is_empty() {
-        push_numbers(text, ", key", row.key())?;
-    }
-    text.push('\n')
+    push_key(text, row.key())
 }
 
 /// The images of a row, a line for each that there is.
@@ -189,28 +210,58 @@ fn push_event(
     text.push_str("rows without end\n")
 }
 
+/// What a body gives as a rows event of a kind under the table map of another body, or that map's fault.
+fn push_under(
+    alloc: Global,
+    text: &mut String,
+    map: &[u8],
+    kind: u8,
+    body: &[u8],
+) -> Result<(), AllocError>
+    requires low { 30 ≤ kind }
+    requires high { kind ≤ 32 }
+{
+    match TableMap::read(alloc, map) {
+        Ok(map) => push_event(alloc, text, &map, kind, body),
+        Err(fault) => push_fault_line(text, fault),
+    }
+}
+
 /// What a body gives as a rows event of a kind, 30 to 32, under the table map of another body.
-pub fn rows_text(alloc: Global, map: &[u8], kind: u8, body: &[u8]) -> Result<String, Refused> {
+pub fn push_rows(
+    alloc: Global,
+    text: &mut String,
+    map: &[u8],
+    kind: u8,
+    body: &[u8],
+) -> Result<(), Refused> {
     if kind < 30 || kind > 32 {
         return Err(Refused::BadPart);
     }
-    let mut text = String::new(alloc);
-    match TableMap::read(alloc, map) {
-        Ok(map) => push_event(alloc, &mut text, &map, kind, body)?,
-        Err(fault) => push_fault_line(&mut text, fault)?,
-    }
-    Ok(text)
+    Ok(push_under(alloc, text, map, kind, body)?)
 }
 
-/// What each beginning of a rows event's body gives that isn't refused: the beginning's length, and its lines.
-pub fn rows_cuts_text(alloc: Global, map: &[u8], kind: u8, body: &[u8]) -> Result<String, Refused> {
-    let mut text = String::new(alloc);
-    for len in 0..body.len() {
-        let whole = rows_text(alloc, map, kind, &body[..len])?;
-        if whole.as_str().ends_with("end\n") {
-            write!(&mut text, "{len}:\n")?;
-            text.push_str(whole.as_str())?;
-        }
+/// What a beginning of a rows event's body gives that isn't refused: its length, and its lines.
+fn push_cut(text: &mut String, len: usize, whole: &str) -> Result<(), AllocError> {
+    if whole.ends_with("end\n") {
+        write!(text, "{len}:\n")?;
+        text.push_str(whole)?;
     }
-    Ok(text)
+    Ok(())
+}
+
+/// What each beginning of a rows event's body gives that isn't refused.
+pub fn push_rows_cuts(
+    alloc: Global,
+    text: &mut String,
+    map: &[u8],
+    kind: u8,
+    body: &[u8],
+) -> Result<(), Refused> {
+    for len in 0..body.len() {
+        let mut whole = String::new(alloc);
+        push_rows(alloc, &mut whole, map, kind, &body[..len])?;
+        push_cut(text, len, whole.as_str())?;
+    }
+    Ok(())
 }

@@ -1,43 +1,30 @@
 //! A value of a type, in a table of one column: its cell and its JSON.
-use crate::images::images_text;
-use crate::rows::rows_text;
-use case_language::{Pieces, Refused, number};
+use crate::images::{joined, push_images};
+use crate::rows::push_rows;
+use case_language::{Pieces, Refused, number, push_all};
 use std::alloc::{AllocError, Global};
 use std::slice;
 
 /// What stands in a map in front of the number of columns: the table id 100, and `s.t`.
 const MAP_FRONT: &[u8] = b"\x64\0\0\0\0\0\x01\0\x01s\0\x01t\0";
 
-/// What stands in a rows event of one column in front of its rows.
-const ROWS_FRONT: &[u8] = b"\x64\0\0\0\0\0\x01\0\x02\0\x01\x01";
+/// What stands in a rows event of one column in front of the value in its first row.
+const ROWS_FRONT: &[u8] = b"\x64\0\0\0\0\0\x01\0\x02\0\x01\x01\xfe";
 
-/// A column's type, its metadata, and whether it is unsigned.
-#[derive(Drop)]
-struct Shape {
-    code: u8,
-    metadata: Vec<u8>,
-    unsigned: bool,
-}
-
-/// The body of a table map with the one column `c`.
-fn map_of(alloc: Global, shape: &Shape) -> Result<Vec<u8>, Refused> {
-    let mut map = Vec::from_slice(alloc, MAP_FRONT)?;
-    map.push(1)?;
-    map.push(shape.code)?;
-    map.push(u8::try_from(shape.metadata.len()).unwrap_or(u8::MAX))?;
-    map.extend_from_slice(shape.metadata.as_slice())?;
-    map.extend_from_slice(&[0, 1, 1, if shape.unsigned { 0x80 } else { 0 }])?;
-    map.extend_from_slice(b"\x04\x02\x01c")?;
-    Ok(map)
+/// The body of a table map with the one column `c`, of a type with its metadata.
+fn map_with(alloc: Global, code: u8, metadata: &[u8], sign: u8) -> Result<Vec<u8>, AllocError> {
+    let length = u8::try_from(metadata.len()).unwrap_or(u8::MAX);
+    let head = [1, code, length];
+    let tail = [0, 1, 1, sign, 4, 2, 1, b'c'];
+    joined(
+        alloc,
+        &[MAP_FRONT, head.as_slice(), metadata, tail.as_slice()],
+    )
 }
 
 /// The body of a rows event with a row of these bytes, and further rows.
 fn rows_of(alloc: Global, value: &[u8], further: &[u8]) -> Result<Vec<u8>, AllocError> {
-    let mut rows = Vec::from_slice(alloc, ROWS_FRONT)?;
-    rows.push(0xfe)?;
-    rows.extend_from_slice(value)?;
-    rows.extend_from_slice(further)?;
-    Ok(rows)
+    joined(alloc, &[ROWS_FRONT, value, further])
 }
 
 /// What stands between a beginning and an end of a text. A text that has them not stands whole, without its last line feed.
@@ -49,77 +36,125 @@ fn between<'a>(text: &'a str, beginning: &str, end: &str) -> &'a str {
     rest.strip_suffix(end).unwrap_or(whole)
 }
 
-fn shape_of(
+/// The code of a type.
+fn code_of(word: &str) -> Result<u8, Refused> {
+    match u8::try_from(number(word)?) {
+        Ok(code) => Ok(code),
+        Err(_) => Err(Refused::BadPart),
+    }
+}
+
+/// The metadata of a type.
+fn metadata_of(alloc: Global, pieces: &Pieces, word: &String) -> Result<Vec<u8>, Refused> {
+    match word.as_str() {
+        "-" => Ok(Vec::new(alloc)),
+        _ => pieces.bytes_of(alloc, slice::from_ref(word)),
+    }
+}
+
+/// The bits that say which columns are unsigned.
+fn sign_of(word: &str) -> Result<u8, Refused> {
+    match word {
+        "signed" => Ok(0),
+        "unsigned" => Ok(0x80),
+        _ => Err(Refused::BadPart),
+    }
+}
+
+/// The body of a table map with the one column `c`, of a type that words give.
+fn map_of(
     alloc: Global,
     pieces: &Pieces,
     code: &str,
     metadata: &String,
     sign: &str,
-) -> Result<Shape, Refused> {
-    let Ok(code) = u8::try_from(number(code)?) else {
-        return Err(Refused::BadPart);
-    };
-    let metadata = match metadata.as_str() {
-        "-" => Vec::new(alloc),
-        _ => pieces.bytes_of(alloc, slice::from_ref(metadata))?,
-    };
-    match sign {
-        "signed" | "unsigned" => Ok(Shape {
-            code,
-            metadata,
-            unsigned: sign == "unsigned",
-        }),
-        _ => Err(Refused::BadPart),
-    }
+) -> Result<Vec<u8>, Refused> {
+    let code = code_of(code)?;
+    let metadata = metadata_of(alloc, pieces, metadata)?;
+    Ok(map_with(alloc, code, &metadata, sign_of(sign)?)?)
 }
 
-/// The cell of a value and its JSON, in a row behind which another stands.
-fn whole_value(
+/// The cell of the first of two rows, and an equals sign.
+fn push_cell(alloc: Global, text: &mut String, map: &[u8], rows: &[u8]) -> Result<(), Refused> {
+    let mut whole = String::new(alloc);
+    push_rows(alloc, &mut whole, map, 30, rows)?;
+    let cell = between(whole.as_str(), "after c=", "\nafter c=Null\nend\n");
+    Ok(push_all(text, &[cell, " = "])?)
+}
+
+/// The JSON of the value in the first of two rows, and a line feed.
+fn push_json(
     alloc: Global,
+    text: &mut String,
     pieces: &Pieces,
     map: &[u8],
-    value: &[u8],
-) -> Result<String, Refused> {
-    let rows = rows_of(alloc, value, &[0xff])?;
-    let cell = rows_text(alloc, map, 30, &rows)?;
-    let json = images_text(alloc, pieces, map, 30, &rows)?;
-    let cell = between(cell.as_str(), "after c=", "\nafter c=Null\nend\n");
+    rows: &[u8],
+) -> Result<(), Refused> {
+    let mut whole = String::new(alloc);
+    push_images(alloc, &mut whole, pieces, map, 30, rows)?;
     let json = between(
-        json.as_str(),
+        whole.as_str(),
         "null -> {\"c\":",
         "}\nnull -> {\"c\":null}\nend\n",
     );
-    Ok(format!(in alloc; "{cell} = {json}\n")?)
+    Ok(push_all(text, &[json, "\n"])?)
 }
 
-/// What a value's beginnings give that have a reading: none has.
-fn push_beginnings(
+/// The cell of a value and its JSON, in a row behind which another stands.
+fn push_whole(
     alloc: Global,
     text: &mut String,
+    pieces: &Pieces,
     map: &[u8],
     value: &[u8],
 ) -> Result<(), Refused> {
+    let rows = rows_of(alloc, value, &[0xff])?;
+    push_cell(alloc, text, map, &rows)?;
+    push_json(alloc, text, pieces, map, &rows)
+}
+
+/// What a beginning of a value gives, where it has a reading.
+fn push_beginning(
+    alloc: Global,
+    text: &mut String,
+    map: &[u8],
+    beginning: &[u8],
+) -> Result<(), Refused> {
+    let mut cut = String::new(alloc);
+    push_rows(alloc, &mut cut, map, 30, &rows_of(alloc, beginning, &[])?)?;
+    if cut.as_str().starts_with("after") {
+        push_all(text, &["and its beginning: ", cut.as_str()])?;
+    }
+    Ok(())
+}
+
+/// The cell of a value and its JSON, and what the value's beginnings give that have a reading: none has.
+fn push_judged(
+    alloc: Global,
+    text: &mut String,
+    pieces: &Pieces,
+    map: &[u8],
+    value: &[u8],
+) -> Result<(), Refused> {
+    push_whole(alloc, text, pieces, map, value)?;
     for len in 0..value.len() {
-        let rows = rows_of(alloc, &value[..len], &[])?;
-        let cut = rows_text(alloc, map, 30, &rows)?;
-        if cut.as_str().starts_with("after") {
-            text.push_str("and its beginning: ")?;
-            text.push_str(cut.as_str())?;
-        }
+        push_beginning(alloc, text, map, &value[..len])?;
     }
     Ok(())
 }
 
 /// The cell of a value of a type with its metadata, and its JSON. Each of the value's beginnings must be refused, and is shown where it
 /// isn't.
-pub fn value_text(alloc: Global, pieces: &Pieces, words: &[String]) -> Result<String, Refused> {
+pub fn push_value(
+    alloc: Global,
+    text: &mut String,
+    pieces: &Pieces,
+    words: &[String],
+) -> Result<(), Refused> {
     let [code, metadata, sign, parts @ ..] = words else {
         return Err(Refused::BadPart);
     };
-    let shape = shape_of(alloc, pieces, code.as_str(), metadata, sign.as_str())?;
-    let map = map_of(alloc, &shape)?;
+    let map = map_of(alloc, pieces, code.as_str(), metadata, sign.as_str())?;
     let value = pieces.bytes_of(alloc, parts)?;
-    let mut text = whole_value(alloc, pieces, &map, &value)?;
-    push_beginnings(alloc, &mut text, &map, &value)?;
-    Ok(text)
+    push_judged(alloc, text, pieces, &map, &value)
 }

@@ -1,10 +1,10 @@
 //! The verbs of table maps, rows, values, lines and histories.
-use crate::histories::history_text;
-use crate::images::images_text;
+use crate::histories::push_history;
+use crate::images::push_images;
 use crate::json_lines::{judge_lines, judge_lines_again};
-use crate::maps::{map_cuts_text, map_size_text, map_text};
-use crate::rows::{rows_cuts_text, rows_text};
-use crate::values::value_text;
+use crate::maps::{push_map_cuts, push_map_of, push_map_size};
+use crate::rows::{push_rows, push_rows_cuts};
+use crate::values::push_value;
 use case_language::{Case, Pieces, Refused, Verbs, Verdict, number};
 use std::alloc::Global;
 use std::rt::Files;
@@ -26,35 +26,54 @@ impl Verbs for RowVerbs {
         match verb {
             "lines" => judge_lines(rt.alloc(), case),
             "lines-again" => judge_lines_again(rt.alloc(), case),
-            "history" => Ok(Verdict::of(case, history_text(rt.alloc(), case, words)?)),
-            _ => Ok(Verdict::of(case, text_of(rt.alloc(), pieces, verb, words)?)),
+            _ => judge_text(rt.alloc(), pieces, case, verb, words),
         }
     }
 }
 
-/// What a verb gives that gives one text.
-fn text_of(
+/// Judges a verb that gives one text.
+fn judge_text(
     alloc: Global,
+    pieces: &Pieces,
+    case: &Case,
+    verb: &str,
+    words: &[String],
+) -> Result<Verdict, Refused> {
+    let mut came = String::new(alloc);
+    match verb {
+        "history" => push_history(alloc, &mut came, case, words),
+        "value" => push_value(alloc, &mut came, pieces, words),
+        "map" | "map-cuts" | "map-size" => push_map_verb(alloc, &mut came, pieces, verb, words),
+        _ => push_event_verb(alloc, &mut came, pieces, verb, words),
+    }?;
+    Ok(Verdict::of(case, came))
+}
+
+/// What a verb gives of a table map.
+fn push_map_verb(
+    alloc: Global,
+    text: &mut String,
     pieces: &Pieces,
     verb: &str,
     words: &[String],
-) -> Result<String, Refused> {
+) -> Result<(), Refused> {
+    let body = pieces.bytes_of(alloc, words)?;
     match verb {
-        "map" => map_text(alloc, &pieces.bytes_of(alloc, words)?),
-        "map-cuts" => map_cuts_text(alloc, &pieces.bytes_of(alloc, words)?),
-        "map-size" => map_size_text(alloc, &pieces.bytes_of(alloc, words)?),
-        "value" => value_text(alloc, pieces, words),
-        _ => event_text(alloc, pieces, verb, words),
-    }
+        "map" => push_map_of(alloc, text, &body),
+        "map-cuts" => push_map_cuts(alloc, text, &body),
+        _ => push_map_size(alloc, text, &body),
+    }?;
+    Ok(())
 }
 
 /// `rows KIND MAP PART..`, and likewise `rows-cuts` and `images`: the map's body is one part, the rows event's the others.
-fn event_text(
+fn push_event_verb(
     alloc: Global,
+    text: &mut String,
     pieces: &Pieces,
     verb: &str,
     words: &[String],
-) -> Result<String, Refused> {
+) -> Result<(), Refused> {
     let [kind, map, parts @ ..] = words else {
         return Err(Refused::UnknownWord);
     };
@@ -64,9 +83,9 @@ fn event_text(
     let map = pieces.bytes_of(alloc, slice::from_ref(map))?;
     let rows = pieces.bytes_of(alloc, parts)?;
     match verb {
-        "rows" => rows_text(alloc, &map, kind, &rows),
-        "rows-cuts" => rows_cuts_text(alloc, &map, kind, &rows),
-        "images" => images_text(alloc, pieces, &map, kind, &rows),
+        "rows" => push_rows(alloc, text, &map, kind, &rows),
+        "rows-cuts" => push_rows_cuts(alloc, text, &map, kind, &rows),
+        "images" => push_images(alloc, text, pieces, &map, kind, &rows),
         _ => Err(Refused::UnknownWord),
     }
 }
