@@ -1,89 +1,86 @@
 //! Headers, and the bodies that are read without a table map.
+use crate::page::Page;
 use binlog_frame::{Class, Header, kind, read_gtid, read_query, read_rotate, read_xid};
 use case_language::{Pieces, Refused, number, only_word};
 use std::alloc::Global;
-use std::fmt::Write;
 use uuid::Uuid;
 
+/// What is written of a body that has no reading.
+const BAD_BODY: &str = ", BadBody";
+
 /// Bytes as text where they are some, and otherwise as hex digits.
-fn show_bytes(line: &mut String, bytes: &[u8]) -> Result<(), Refused> {
+fn show_bytes(line: &mut Page, bytes: &[u8]) {
     match str::from_utf8(bytes) {
-        Ok(text) => write!(line, "{text:?}")?,
+        Ok(text) => write!(line, "{text:?}"),
         Err(_) => {
             for byte in bytes {
-                write!(line, "{byte:02x}")?;
+                write!(line, "{byte:02x}");
             }
         }
     }
-    Ok(())
 }
 
 /// A header's parts but for its length, and its class.
-pub fn show_header(line: &mut String, header: &Header) -> Result<(), Refused> {
+pub fn show_header(line: &mut Page, header: &Header) {
     let (kind, class, timestamp) = (header.kind, header.class(), header.timestamp);
     let (server, next, flags) = (header.server_id, header.next_position, header.flags);
     write!(
         line,
         "kind {kind}, {class:?}, time {timestamp}, server {server}, next {next}, flags {flags}"
-    )?;
-    Ok(())
+    );
 }
 
 /// A GTID by the bytes of its source.
-fn show_gtid(line: &mut String, kind: u8, body: &[u8]) -> Result<(), Refused> {
+fn show_gtid(line: &mut Page, kind: u8, body: &[u8]) {
     if kind != kind::GTID && kind != kind::ANONYMOUS_GTID {
-        return Err(Refused::BadPart);
+        return line.refuse(Refused::BadPart);
     }
     match read_gtid(kind, body) {
-        Err(_) => line.push_str(", BadBody")?,
+        Err(_) => line.push_str(BAD_BODY),
         Ok(gtid) => match Uuid::from_slice(gtid.source) {
-            Ok(source) => write!(line, ", GTID {source}:{}", gtid.number)?,
-            Err(_) => line.push_str(", a source of another length")?,
+            Ok(source) => write!(line, ", GTID {source}:{}", gtid.number),
+            Err(_) => line.push_str(", a source of another length"),
         },
     }
-    Ok(())
 }
 
-fn show_query(line: &mut String, body: &[u8]) -> Result<(), Refused> {
+fn show_query(line: &mut Page, body: &[u8]) {
     match read_query(body) {
-        Err(_) => line.push_str(", BadBody")?,
+        Err(_) => line.push_str(BAD_BODY),
         Ok(query) => {
-            line.push_str(", in ")?;
-            show_bytes(line, query.schema)?;
-            line.push_str(": ")?;
-            show_bytes(line, query.text)?;
+            line.push_str(", in ");
+            show_bytes(line, query.schema);
+            line.push_str(": ");
+            show_bytes(line, query.text);
         }
     }
-    Ok(())
 }
 
-fn show_rotate(line: &mut String, body: &[u8]) -> Result<(), Refused> {
+fn show_rotate(line: &mut Page, body: &[u8]) {
     match read_rotate(body) {
-        Err(_) => line.push_str(", BadBody")?,
+        Err(_) => line.push_str(BAD_BODY),
         Ok(rotate) => {
-            write!(line, ", to {} of ", rotate.position)?;
-            show_bytes(line, rotate.name)?;
+            write!(line, ", to {} of ", rotate.position);
+            show_bytes(line, rotate.name);
         }
     }
-    Ok(())
 }
 
-fn show_xid(line: &mut String, body: &[u8]) -> Result<(), Refused> {
+fn show_xid(line: &mut Page, body: &[u8]) {
     match read_xid(body) {
-        Err(_) => line.push_str(", BadBody")?,
-        Ok(number) => write!(line, ", XID {number}")?,
+        Err(_) => line.push_str(BAD_BODY),
+        Ok(number) => write!(line, ", XID {number}"),
     }
-    Ok(())
 }
 
 /// What the body of an event of a kind says; nothing of a kind that isn't read without a table map.
-pub fn show_body(line: &mut String, kind: u8, body: &[u8]) -> Result<(), Refused> {
+pub fn show_body(line: &mut Page, kind: u8, body: &[u8]) {
     match kind {
         kind::QUERY => show_query(line, body),
         kind::ROTATE => show_rotate(line, body),
         kind::XID => show_xid(line, body),
         kind::GTID | kind::ANONYMOUS_GTID => show_gtid(line, kind, body),
-        _ => Ok(()),
+        _ => {}
     }
 }
 
@@ -96,18 +93,32 @@ fn kind_of(word: &str) -> Result<u8, Refused> {
 }
 
 /// `header PART..`: the parts of a header, and its class.
-pub fn header_text(alloc: Global, bytes: &[u8]) -> Result<String, Refused> {
+pub fn header_text(alloc: Global, pieces: &Pieces, words: &[String]) -> Result<String, Refused> {
+    told_header(alloc, &pieces.bytes_of(alloc, words)?)
+}
+
+/// The line of a header.
+fn told_header(alloc: Global, bytes: &[u8]) -> Result<String, Refused> {
     if bytes.len() != Header::LEN {
         return Err(Refused::BadPart);
     }
     let mut head = [0u8; 19];
     head.copy_from_slice(bytes);
     let header = Header::read(&head);
-    let mut text = String::new(alloc);
-    write!(&mut text, "length {}, ", header.length)?;
-    show_header(&mut text, &header)?;
-    text.push('\n')?;
-    Ok(text)
+    let mut text = Page::new(alloc);
+    write!(text, "length {}, ", header.length);
+    show_header(&mut text, &header);
+    text.push('\n');
+    text.into_text()
+}
+
+/// The line of a body.
+fn told_body(alloc: Global, kind: &str, body: &[u8]) -> Result<String, Refused> {
+    let mut text = Page::new(alloc);
+    write!(text, "kind {kind}");
+    show_body(&mut text, kind_of(kind)?, body);
+    text.push('\n');
+    text.into_text()
 }
 
 /// `body KIND PART..`: what the body of an event of that kind says.
@@ -116,32 +127,28 @@ pub fn body_text(alloc: Global, pieces: &Pieces, words: &[String]) -> Result<Str
         return Err(Refused::BadPart);
     };
     let bytes = pieces.bytes_of(alloc, parts)?;
-    let mut text = String::new(alloc);
-    write!(&mut text, "kind {kind}")?;
-    show_body(&mut text, kind_of(kind.as_str())?, bytes.as_slice())?;
-    text.push('\n')?;
-    Ok(text)
+    told_body(alloc, kind.as_str(), bytes.as_slice())
 }
 
 /// The numbers at which a list has `true`, neighbours as a range.
-fn show_ranges(text: &mut String, members: &[bool]) -> Result<(), Refused> {
+fn show_ranges(text: &mut Page, members: &[bool]) {
     for (number, is_member) in members.iter().enumerate() {
         let follows = members.get(number.wrapping_sub(1)) == Some(&true);
         let goes_on = members.get(number.saturating_add(1)) == Some(&true);
         if *is_member && !follows {
-            write!(text, " {number}")?;
+            write!(text, " {number}");
         } else if *is_member && !goes_on {
-            write!(text, "-{number}")?;
+            write!(text, "-{number}");
         }
     }
-    text.push('\n')?;
-    Ok(())
+    text.push('\n');
 }
 
 fn has_reading(alloc: Global, kind: u8, body: &[u8]) -> Result<bool, Refused> {
-    let mut text = String::new(alloc);
-    show_body(&mut text, kind, body)?;
-    Ok(text.as_str() != ", BadBody")
+    let mut text = Page::new(alloc);
+    show_body(&mut text, kind, body);
+    text.whole()?;
+    Ok(text.as_str() != BAD_BODY)
 }
 
 /// `lengths KIND PART..`: which beginnings of a body have a reading, by their lengths.
@@ -155,9 +162,10 @@ pub fn lengths_text(alloc: Global, pieces: &Pieces, words: &[String]) -> Result<
     for length in 0..=bytes.len() {
         readable.push(has_reading(alloc, kind, &bytes[..length])?)?;
     }
-    let mut text = String::from_str(alloc, "readable")?;
-    show_ranges(&mut text, readable.as_slice())?;
-    Ok(text)
+    let mut text = Page::new(alloc);
+    text.push_str("readable");
+    show_ranges(&mut text, readable.as_slice());
+    text.into_text()
 }
 
 /// The class of a kind, where a header has these flags.
@@ -173,24 +181,29 @@ fn class_of(kind: u8, flags: u16) -> Class {
     header.class()
 }
 
+/// Whether each kind is of a class, where a header has these flags.
+fn members_of(class: Class, flags: u16) -> [bool; 256] {
+    let mut members = [false; 256];
+    for kind in 0..=255u8 {
+        members[kind as usize] = class_of(kind, flags) == class;
+    }
+    members
+}
+
 /// `kinds FLAGS`: the kinds of each class, where a header has these flags.
 pub fn kinds_text(alloc: Global, words: &[String]) -> Result<String, Refused> {
     let Ok(flags) = u16::try_from(number(only_word(words)?)?) else {
         return Err(Refused::BadPart);
     };
-    let mut text = String::new(alloc);
+    let mut text = Page::new(alloc);
     for class in [
         Class::Transaction,
         Class::End,
         Class::Skipped,
         Class::OutOfProfile,
     ] {
-        let mut members = Vec::new(alloc);
-        for kind in 0..=255u8 {
-            members.push(class_of(kind, flags) == class)?;
-        }
-        write!(&mut text, "{class:?}")?;
-        show_ranges(&mut text, members.as_slice())?;
+        write!(text, "{class:?}");
+        show_ranges(&mut text, &members_of(class, flags));
     }
-    Ok(text)
+    text.into_text()
 }

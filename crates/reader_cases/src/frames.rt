@@ -3,10 +3,10 @@ ghost use Rattle.std.specs.Prelude.{◌<◌, length};
 ghost use Rattle.binlog_frame.specs.Frames.{file_of};
 
 use crate::bodies::{show_body, show_header};
+use crate::page::Page;
 use crate::steps::{Answer, Steps};
 use binlog_frame::{FrameFault, Frames, Header, Logs, Step};
-use case_language::{Named, Refused};
-use std::fmt::Write;
+use case_language::Named;
 
 /// What a line tells of an event.
 #[derive(Clone, Copy)]
@@ -97,91 +97,77 @@ impl<L: Logs> Pass<'_, L> {
         self.window.get(Header::LEN..end).unwrap_or(&[])
     }
 
-    fn show_content(
-        &self,
-        line: &mut String,
-        header: &Header,
-        body_len: u32,
-    ) -> Result<(), Refused> {
+    fn show_content(&self, line: &mut Page, header: &Header, body_len: u32) {
         let (kind, length) = (header.kind, header.length);
         match self.shown {
-            Shown::Frame => write!(line, "kind {kind}, length {length}, body {body_len}")?,
+            Shown::Frame => write!(line, "kind {kind}, length {length}, body {body_len}"),
             Shown::Event => {
-                show_header(line, header)?;
-                show_body(line, kind, self.body(body_len))?;
+                show_header(line, header);
+                show_body(line, kind, self.body(body_len));
             }
         }
-        Ok(())
     }
 
     /// An event at a place, and whether the window has other bytes than the file.
-    fn show_event(
-        &self,
-        line: &mut String,
-        place: u64,
-        header: &Header,
-        body_len: u32,
-    ) -> Result<(), Refused> {
-        write!(line, "{}:{place} ", self.file)?;
-        self.show_content(line, header, body_len)?;
+    fn show_event(&self, line: &mut Page, place: u64, header: &Header, body_len: u32) {
+        write!(line, "{}:{place} ", self.file);
+        self.show_content(line, header, body_len);
         if !self.holds(place, header.length) {
-            line.push_str(", not the bytes of the file")?;
+            line.push_str(", not the bytes of the file");
         }
-        Ok(())
     }
 
     /// A step that gave an event or came to the end.
-    fn show_step(&self, line: &mut String, step: Step) -> Result<Answer, Refused> {
+    fn show_step(&self, line: &mut Page, step: Step) -> Answer {
         match step {
             Step::Event {
                 place,
                 header,
                 body_len,
             } => {
-                self.show_event(line, place, &header, body_len)?;
-                return Ok(Answer::Gave);
+                self.show_event(line, place, &header, body_len);
+                return Answer::Gave;
             }
-            Step::CutTail { place } => write!(line, "{}:{place} cut tail", self.file)?,
-            Step::End => write!(line, "{} end", self.file)?,
+            Step::CutTail { place } => write!(line, "{}:{place} cut tail", self.file),
+            Step::End => write!(line, "{} end", self.file),
         }
-        Ok(Answer::Ended(None))
+        Answer::Ended(None)
     }
 
     /// A step that was refused.
-    fn show_fault(&self, line: &mut String, fault: FrameFault) -> Result<Answer, Refused> {
+    fn show_fault(&self, line: &mut Page, fault: FrameFault) -> Answer {
         match fault {
-            FrameFault::Read => Ok(Answer::ReadFailed(self.file)),
-            FrameFault::WindowTooSmall { needed } => Ok(Answer::Needs(needed)),
+            FrameFault::Read => Answer::ReadFailed(self.file),
+            FrameFault::WindowTooSmall { needed } => Answer::Needs(needed),
             _ => {
-                write!(line, "{} {fault:?}", self.file)?;
-                Ok(Answer::Ended(Some((self.file, self.frames.place()))))
+                write!(line, "{} {fault:?}", self.file);
+                Answer::Ended(Some((self.file, self.frames.place())))
             }
         }
     }
 
     /// Where the frames stand then. Where nothing was given and nothing has ended, they are as they were.
-    fn show_place(&self, line: &mut String, answer: Answer, before: Frames) -> Result<(), Refused> {
+    fn show_place(&self, line: &mut Page, answer: Answer, before: Frames) {
         match answer {
-            Answer::Gave | Answer::Ended(_) => write!(line, "; place {}", self.frames.place())?,
+            Answer::Gave | Answer::Ended(_) => write!(line, "; place {}", self.frames.place()),
             _ => {
                 if self.frames != before {
-                    line.push_str("refused, and moved\n")?;
+                    line.push_str("refused, and moved\n");
                 }
             }
         }
-        Ok(())
     }
 }
 
 impl<L: Logs> Steps for Pass<'_, L> {
-    fn ask(&mut self, line: &mut String) -> Result<Answer, Refused> {
+    fn ask(&mut self, line: &mut Page) -> Answer {
         let before = self.frames;
         let answer = match self.next() {
-            Ok(step) => self.show_step(line, step)?,
-            Err(fault) => self.show_fault(line, fault)?,
+            Ok(step) => self.show_step(line, step),
+            Err(fault) => self.show_fault(line, fault),
         };
-        self.show_place(line, answer, before)?;
-        Ok(answer)
+        self.show_place(line, answer, before);
+        answer
     }
 
     fn exchange(&mut self, window: Vec<u8>) -> Vec<u8> {

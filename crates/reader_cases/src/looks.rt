@@ -1,5 +1,6 @@
 //! A feed that is asked for the changes at places before each of its steps.
 use crate::feed::show_change;
+use crate::page::Page;
 use crate::steps::{Answer, Steps, Told};
 use crate::units::show_fault;
 use crate::watched::{Place, Seen};
@@ -9,7 +10,6 @@ use binlog_select::{Token, TokenRef};
 use case_language::{Refused, number};
 use std::alloc::Global;
 use std::cell::Cell;
-use std::fmt::Write;
 
 /// A look at a place.
 #[derive(Clone, Copy)]
@@ -132,46 +132,37 @@ pub fn looks_of(alloc: Global, plain: &Told) -> Result<Vec<Look<'_>>, Refused> {
 }
 
 /// Asks for the change at a place, and writes it, or why there is none.
-fn ask_at<L: Logs>(
-    feed: &mut Feed<L>,
-    token: &Token,
-    line: &mut String,
-) -> Result<Answer, Refused> {
+fn ask_at<L: Logs>(feed: &mut Feed<L>, token: &Token, line: &mut Page) -> Answer {
     match feed.change_at(token) {
         Ok(change) => {
-            show_change(line, &change)?;
-            Ok(Answer::Gave)
+            show_change(line, &change);
+            Answer::Gave
         }
         Err(AtFault::Feed(fault)) => show_fault(line, fault),
         Err(fault) => {
-            write!(line, "{fault:?}")?;
-            Ok(Answer::Ended(None))
+            write!(line, "{fault:?}");
+            Answer::Ended(None)
         }
     }
 }
 
 /// What a look comes to, which had such an answer and has read so far. Where it came as it has to, there is no answer and no line.
 /// Where it didn't, it is the end.
-fn judge_look(
-    look: Look<'_>,
-    answer: Answer,
-    reach: Place,
-    line: &mut String,
-) -> Result<Option<Answer>, Refused> {
+fn judge_look(look: Look<'_>, answer: Answer, reach: Place, line: &mut Page) -> Option<Answer> {
     if matches!(answer, Answer::ReadFailed(_) | Answer::Needs(_)) {
-        return Ok(Some(answer));
+        return Some(answer);
     }
     let wanted = look.wanted;
     if line.as_str() == wanted && reach <= look.reach {
         line.clear();
-        return Ok(None);
+        return None;
     }
     let (file, offset) = reach;
-    write!(line, "; reach {file}:{offset}, in place of {wanted}")?;
-    Ok(Some(Answer::Ended(None)))
+    write!(line, "; reach {file}:{offset}, in place of {wanted}");
+    Some(Answer::Ended(None))
 }
 
-/// A feed, and the looks before each of its steps.
+/// A feed, and the looks before each of its steps, if there are some.
 #[derive(Drop)]
 pub struct Looking<'a, L: Logs> {
     alloc: Global,
@@ -180,8 +171,8 @@ pub struct Looking<'a, L: Logs> {
     seen: &'a Cell<Seen>,
     /// The reach of the feed's own reads.
     reach: Place,
-    /// The feed has come to its end, and was looked into behind it. Then it is only asked.
-    has_ended: bool,
+    /// The feed is only asked: it has no looks, or has come to its end and was looked into behind it.
+    is_only_asked: bool,
 }
 
 impl<'a, L: Logs> Looking<'a, L> {
@@ -198,7 +189,7 @@ impl<'a, L: Logs> Looking<'a, L> {
             looks,
             seen,
             reach,
-            has_ended: false,
+            is_only_asked: looks.is_empty(),
         }
     }
 
@@ -209,54 +200,61 @@ impl<'a, L: Logs> Looking<'a, L> {
     }
 
     /// Looks at a place.
-    fn look(&mut self, look: Look<'_>, line: &mut String) -> Result<Option<Answer>, Refused> {
+    fn look(&mut self, look: Look<'_>, line: &mut Page) -> Option<Answer> {
         self.see_from((0, 0));
-        let token = look.place.to_token(self.alloc)?;
-        let answer = ask_at(&mut self.feed, &token, line)?;
-        judge_look(look, answer, self.seen.get().reach, line)
+        match look.place.to_token(self.alloc) {
+            Ok(token) => {
+                let answer = ask_at(&mut self.feed, &token, line);
+                judge_look(look, answer, self.seen.get().reach, line)
+            }
+            Err(_) => {
+                line.refuse(Refused::OutOfMemory);
+                Some(Answer::Ended(None))
+            }
+        }
     }
 
     /// Looks at each place, up to one that has an answer.
-    fn look_around(&mut self, line: &mut String) -> Result<Option<Answer>, Refused> {
+    fn look_around(&mut self, line: &mut Page) -> Option<Answer> {
         let looks = self.looks;
         for look in looks {
-            if let Some(answer) = self.look(*look, line)? {
-                return Ok(Some(answer));
+            if let Some(answer) = self.look(*look, line) {
+                return Some(answer);
             }
         }
-        Ok(None)
+        None
     }
 
     /// A step of the feed.
-    fn go_on(&mut self, line: &mut String) -> Result<Answer, Refused> {
+    fn go_on(&mut self, line: &mut Page) -> Answer {
         self.see_from(self.reach);
-        let answer = self.feed.ask(line)?;
+        let answer = self.feed.ask(line);
         self.reach = self.seen.get().reach;
-        Ok(answer)
+        answer
     }
 
     /// Looks at each place behind the feed's end, and asks for the end once more.
-    fn look_behind_end(&mut self, line: &mut String) -> Result<Answer, Refused> {
+    fn look_behind_end(&mut self, line: &mut Page) -> Answer {
         line.clear();
-        if let Some(answer) = self.look_around(line)? {
-            return Ok(answer);
+        if let Some(answer) = self.look_around(line) {
+            return answer;
         }
-        self.has_ended = true;
+        self.is_only_asked = true;
         self.go_on(line)
     }
 }
 
 impl<L: Logs> Steps for Looking<'_, L> {
-    fn ask(&mut self, line: &mut String) -> Result<Answer, Refused> {
-        if self.has_ended {
+    fn ask(&mut self, line: &mut Page) -> Answer {
+        if self.is_only_asked {
             return self.go_on(line);
         }
-        if let Some(answer) = self.look_around(line)? {
-            return Ok(answer);
+        if let Some(answer) = self.look_around(line) {
+            return answer;
         }
-        match self.go_on(line)? {
+        match self.go_on(line) {
             Answer::Ended(_) => self.look_behind_end(line),
-            answer => Ok(answer),
+            answer => answer,
         }
     }
 

@@ -1,12 +1,13 @@
 //! Changes that a feed looks up between its steps.
 use crate::feed::show_change;
-use crate::starts::{filter_of, start_of};
+use crate::page::Page;
+use crate::reads::source_of;
+use crate::starts::first_parts;
 use binlog_feed::Feed;
 use binlog_frame::MemoryLogs;
 use binlog_select::Token;
-use case_language::{Case, Refused, copies_of, source};
+use case_language::{Case, Refused};
 use std::alloc::Global;
-use std::fmt::Write;
 
 /// The options in front, each with one value, and the orders behind them.
 fn parts_of(words: &[String]) -> (&[String], &[String]) {
@@ -21,9 +22,9 @@ fn parts_of(words: &[String]) -> (&[String], &[String]) {
 
 /// A feed of a case's files, with the first of the case's windows.
 fn feed_of(alloc: Global, case: &Case, options: &[String]) -> Result<Feed<MemoryLogs>, Refused> {
-    let logs = source(copies_of(alloc, &case.files)?, case.reads)?;
-    let window = vec![in alloc; 0u8; case.windows.first().copied().unwrap_or(0)]?;
-    let (filter, start) = (filter_of(alloc, options)?, start_of(alloc, options)?);
+    let window = case.windows.first().copied().unwrap_or(0);
+    let logs = source_of(alloc, case)?;
+    let (filter, start, window) = first_parts(alloc, options, window)?;
     match Feed::open(alloc, logs, filter, start, window) {
         Ok(feed) => Ok(feed),
         Err(_) => Err(Refused::BadPart),
@@ -31,41 +32,49 @@ fn feed_of(alloc: Global, case: &Case, options: &[String]) -> Result<Feed<Memory
 }
 
 /// What the feed gives next.
-fn show_next(feed: &mut Feed<MemoryLogs>, line: &mut String) -> Result<(), Refused> {
+fn show_next(feed: &mut Feed<MemoryLogs>, line: &mut Page) {
     match feed.next() {
         Ok(Some(change)) => show_change(line, &change),
-        Ok(None) => Ok(line.push_str("end")?),
-        Err(fault) => Ok(write!(line, "{fault:?}")?),
+        Ok(None) => line.push_str("end"),
+        Err(fault) => write!(line, "{fault:?}"),
     }
 }
 
 /// What the feed has at a token.
-fn show_lookup(
-    alloc: Global,
-    feed: &mut Feed<MemoryLogs>,
-    token: &str,
-    line: &mut String,
-) -> Result<(), Refused> {
-    let Ok(token) = Token::parse(alloc, token) else {
-        return Err(Refused::BadPart);
-    };
-    match feed.change_at(&token) {
+fn show_lookup(feed: &mut Feed<MemoryLogs>, token: &Token, line: &mut Page) {
+    match feed.change_at(token) {
         Ok(change) => show_change(line, &change),
-        Err(fault) => Ok(write!(line, "{fault:?}")?),
+        Err(fault) => write!(line, "{fault:?}"),
     }
+}
+
+/// What the feed gives for an order.
+fn show_order(alloc: Global, feed: &mut Feed<MemoryLogs>, order: &str, line: &mut Page) {
+    if order == "next" {
+        return show_next(feed, line);
+    }
+    match Token::parse(alloc, order) {
+        Ok(token) => show_lookup(feed, &token, line),
+        Err(_) => line.refuse(Refused::BadPart),
+    }
+}
+
+/// What a feed gives for each order, a line each.
+fn show_orders(
+    alloc: Global,
+    mut feed: Feed<MemoryLogs>,
+    orders: &[String],
+) -> Result<String, Refused> {
+    let mut text = Page::new(alloc);
+    for order in orders {
+        show_order(alloc, &mut feed, order.as_str(), &mut text);
+        text.push('\n');
+    }
+    text.into_text()
 }
 
 /// `look-up OPTION.. ORDER..`: what a feed with these options gives for each order, which is `next` or a token to look up.
 pub fn lookups_text(alloc: Global, case: &Case, words: &[String]) -> Result<String, Refused> {
     let (options, orders) = parts_of(words);
-    let mut feed = feed_of(alloc, case, options)?;
-    let mut text = String::new(alloc);
-    for order in orders {
-        match order.as_str() {
-            "next" => show_next(&mut feed, &mut text)?,
-            token => show_lookup(alloc, &mut feed, token, &mut text)?,
-        }
-        text.push('\n')?;
-    }
-    Ok(text)
+    show_orders(alloc, feed_of(alloc, case, options)?, orders)
 }

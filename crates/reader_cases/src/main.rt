@@ -8,6 +8,7 @@ mod frames;
 mod looks;
 mod lookups;
 mod opening;
+mod page;
 mod parts;
 mod reading;
 mod reads;

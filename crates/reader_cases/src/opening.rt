@@ -1,5 +1,6 @@
 //! Files of the system: their names and lengths, and what the layers tell of them.
 use crate::looks::looks_of;
+use crate::page::Page;
 use crate::reading::{plain_of, tell_source};
 use crate::reads::show_names;
 use crate::watched::{Seen, Watched};
@@ -8,7 +9,6 @@ use binlog_frame::{FileLogs, OpenFault};
 use case_language::{Case, Named, Refused, Verdict};
 use std::alloc::Global;
 use std::cell::Cell;
-use std::fmt::Write;
 use std::fs;
 use std::rt::Files;
 
@@ -21,17 +21,30 @@ pub fn judge_open<R: Files + AllocGlobal>(
     let Some((what, paths)) = words.split_first() else {
         return Err(Refused::BadPart);
     };
-    let mut borrowed: Vec<&str> = Vec::new(rt.alloc());
+    let paths = borrowed(rt.alloc(), paths)?;
+    match what.as_str() {
+        "names" => Ok(Verdict::of(case, names_at(rt, &paths)?)),
+        layer => read_at(rt, case, Layer::of(layer)?, &paths),
+    }
+}
+
+/// Paths, borrowed one by one.
+fn borrowed(alloc: Global, paths: &[String]) -> Result<Vec<&str>, Refused> {
+    let mut borrowed: Vec<&str> = Vec::new(alloc);
     for path in paths {
         borrowed.push(path.as_str())?;
     }
-    match what.as_str() {
-        "names" => Ok(Verdict::of(case, names_at(rt, &borrowed)?)),
-        layer => {
-            let layer = Layer::of(layer)?;
-            read_opened(rt, case, layer, &borrowed, &held_at(rt, &borrowed)?)
-        }
-    }
+    Ok(borrowed)
+}
+
+/// Reads the files of paths.
+fn read_at<R: Files + AllocGlobal>(
+    rt: &R,
+    case: &Case,
+    layer: Layer,
+    paths: &[&str],
+) -> Result<Verdict, Refused> {
+    read_opened(rt, case, layer, paths, &held_at(rt, paths)?)
 }
 
 /// Opens files. What they hold is not known.
@@ -41,12 +54,12 @@ fn opened<R: Files>(rt: &R, alloc: Global, paths: &[&str]) -> Result<FileLogs<R:
 
 /// The names and lengths of files, or why they weren't opened.
 fn names_at<R: Files + AllocGlobal>(rt: &R, paths: &[&str]) -> Result<String, Refused> {
-    let mut text = String::new(rt.alloc());
+    let mut text = Page::new(rt.alloc());
     match opened(rt, rt.alloc(), paths) {
-        Ok(logs) => show_names(&mut text, &logs)?,
-        Err(fault) => write!(&mut text, "{fault:?}\n")?,
+        Ok(logs) => show_names(&mut text, &logs),
+        Err(fault) => write!(text, "{fault:?}\n"),
     }
-    Ok(text)
+    text.into_text()
 }
 
 /// What the files of paths hold.
@@ -117,7 +130,9 @@ fn tell_at<R: Files + AllocGlobal>(
                 seen: &seen,
                 turning: reading.turning,
             };
-            Ok(tell_source(rt.alloc(), logs, &seen, held, reading)?.text)
+            tell_source(rt.alloc(), logs, &seen, held, reading)?
+                .text
+                .into_text()
         }
     }
 }

@@ -1,11 +1,12 @@
 //! What units and feeds hand back in the middle of their way.
+use crate::page::Page;
+use crate::reads::source_of;
 use crate::steps::{Answer, Steps};
 use binlog_feed::{Feed, Start, Units};
 use binlog_frame::{Logs, MemoryLogs};
 use binlog_select::Filter;
-use case_language::{Case, Refused, copies_of, number, source};
+use case_language::{Case, Refused, number};
 use std::alloc::Global;
-use std::fmt::Write;
 
 /// `parts units COUNT` and `parts feed COUNT`: the source and the window after so many calls, with the first of the case's windows.
 pub fn parts_text(alloc: Global, case: &Case, words: &[String]) -> Result<String, Refused> {
@@ -13,7 +14,7 @@ pub fn parts_text(alloc: Global, case: &Case, words: &[String]) -> Result<String
         [layer, count] => (layer.as_str(), number(count.as_str())?),
         _ => return Err(Refused::BadPart),
     };
-    let logs = source(copies_of(alloc, &case.files)?, case.reads)?;
+    let logs = source_of(alloc, case)?;
     let window = case.windows.first().copied().unwrap_or(0);
     let window = vec![in alloc; 0u8; window]?;
     match layer {
@@ -24,33 +25,30 @@ pub fn parts_text(alloc: Global, case: &Case, words: &[String]) -> Result<String
 }
 
 /// What a call came to.
-fn show_answer(text: &mut String, answer: Answer) -> Result<(), Refused> {
+fn show_answer(text: &mut Page, answer: Answer) {
     match answer {
-        Answer::Gave => text.push_str("; Gave\n")?,
-        Answer::Ended(fault) => write!(text, "; Ended({fault:?})\n")?,
-        Answer::ReadFailed(file) => write!(text, "; ReadFailed({file})\n")?,
-        Answer::Needs(needed) => write!(text, "; Needs({needed})\n")?,
+        Answer::Gave => text.push_str("; Gave\n"),
+        Answer::Ended(fault) => write!(text, "; Ended({fault:?})\n"),
+        Answer::ReadFailed(file) => write!(text, "; ReadFailed({file})\n"),
+        Answer::Needs(needed) => write!(text, "; Needs({needed})\n"),
     }
-    Ok(())
 }
 
 /// Asks so often, and notes what came.
-fn ask_often<S: Steps>(steps: &mut S, count: usize, text: &mut String) -> Result<(), Refused> {
+fn ask_often<S: Steps>(steps: &mut S, count: usize, text: &mut Page) {
     for _ in 0..count {
-        let answer = steps.ask(text)?;
-        show_answer(text, answer)?;
+        let answer = steps.ask(text);
+        show_answer(text, answer);
     }
-    Ok(())
 }
 
-fn show_parts(text: &mut String, logs: &MemoryLogs, window: &[u8]) -> Result<(), Refused> {
+fn show_parts(text: &mut Page, logs: &MemoryLogs, window: &[u8]) {
     let ((file, offset), files) = (logs.reach(), logs.count());
     let length = window.len();
     write!(
         text,
         "{files} files, reach {file}:{offset}, window {length}\n"
-    )?;
-    Ok(())
+    );
 }
 
 fn parts_of_units(
@@ -59,16 +57,25 @@ fn parts_of_units(
     window: Vec<u8>,
     count: usize,
 ) -> Result<String, Refused> {
-    let mut text = String::new(alloc);
-    let Ok(mut units) = Units::open(alloc, logs, window) else {
-        return Err(Refused::BadPart);
-    };
-    ask_often(&mut units, count, &mut text)?;
+    match Units::open(alloc, logs, window) {
+        Err(_) => Err(Refused::BadPart),
+        Ok(units) => told_units(alloc, units, count),
+    }
+}
+
+/// What units give when they are asked so often, the reach of their source, and their parts.
+fn told_units(
+    alloc: Global,
+    mut units: Units<MemoryLogs>,
+    count: usize,
+) -> Result<String, Refused> {
+    let mut text = Page::new(alloc);
+    ask_often(&mut units, count, &mut text);
     let (file, offset) = units.logs().reach();
-    write!(&mut text, "reach {file}:{offset}\n")?;
+    write!(text, "reach {file}:{offset}\n");
     let (logs, window) = units.into_parts();
-    show_parts(&mut text, &logs, window.as_slice())?;
-    Ok(text)
+    show_parts(&mut text, &logs, window.as_slice());
+    text.into_text()
 }
 
 fn parts_of_feed(
@@ -77,12 +84,17 @@ fn parts_of_feed(
     window: Vec<u8>,
     count: usize,
 ) -> Result<String, Refused> {
-    let mut text = String::new(alloc);
-    let Ok(mut feed) = Feed::open(alloc, logs, Filter::new(), Start::Beginning, window) else {
-        return Err(Refused::BadPart);
-    };
-    ask_often(&mut feed, count, &mut text)?;
+    match Feed::open(alloc, logs, Filter::new(), Start::Beginning, window) {
+        Err(_) => Err(Refused::BadPart),
+        Ok(feed) => told_feed(alloc, feed, count),
+    }
+}
+
+/// What a feed gives when it is asked so often, and its parts.
+fn told_feed(alloc: Global, mut feed: Feed<MemoryLogs>, count: usize) -> Result<String, Refused> {
+    let mut text = Page::new(alloc);
+    ask_often(&mut feed, count, &mut text);
     let (logs, window) = feed.into_parts();
-    show_parts(&mut text, &logs, window.as_slice())?;
-    Ok(text)
+    show_parts(&mut text, &logs, window.as_slice());
+    text.into_text()
 }

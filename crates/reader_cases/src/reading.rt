@@ -6,7 +6,7 @@ use crate::steps::{Told, tell_all};
 use crate::sweeps::sweep;
 use crate::watched::{Seen, Watched};
 use crate::ways::{Layer, Reading, Way};
-use binlog_feed::Units;
+use binlog_feed::{Feed, Units};
 use binlog_frame::Logs;
 use case_language::{Case, Named, Reads, Refused, SMALL_WINDOW, Verdict, copies_of, source};
 use std::alloc::Global;
@@ -35,10 +35,10 @@ pub fn tell_source<L: Logs + Drop>(
     match reading.layer {
         Layer::Frames(shown) => tell_frames(alloc, logs, seen, held, shown, reading, &mut told)?,
         Layer::Units => tell_units(alloc, logs, seen, reading.window, &mut told)?,
-        Layer::Feed => tell_feed(alloc, logs, seen, reading, &mut told)?,
-        Layer::Looks => tell_looks(alloc, logs, seen, reading, &mut told)?,
+        Layer::Feed | Layer::Looks => tell_feed(alloc, logs, seen, reading, &mut told)?,
     }
     told.note_reads(seen);
+    told.text.whole()?;
     Ok(told)
 }
 
@@ -87,8 +87,9 @@ fn tell_units<L: Logs + Drop>(
     match Units::open(alloc, logs, bytes) {
         Ok(mut units) => tell_all(alloc, &mut units, seen, told),
         Err((fault, _logs, back)) => {
-            told.compare_windows(window, back.len())?;
-            told.note_opening(fault, false, seen)
+            told.compare_windows(window, back.len());
+            told.note_opening(fault, false, seen);
+            Ok(())
         }
     }
 }
@@ -102,25 +103,23 @@ fn tell_feed<L: Logs + Drop>(
 ) -> Result<(), Refused> {
     match open_feed(alloc, logs, seen, reading, told)? {
         None => Ok(()),
-        Some(_feed) if reading.way.only_opens() => told.note("opened", seen.get().reach),
-        Some(mut feed) => tell_all(alloc, &mut feed, seen, told),
+        Some(feed) => tell_opened(alloc, feed, seen, reading, told),
     }
 }
 
-fn tell_looks<L: Logs + Drop>(
+/// What a feed tells that is opened. It is looked into between its steps where there are looks.
+fn tell_opened<L: Logs + Drop>(
     alloc: Global,
-    logs: L,
+    feed: Feed<L>,
     seen: &Cell<Seen>,
     reading: Reading<'_>,
     told: &mut Told,
 ) -> Result<(), Refused> {
-    match open_feed(alloc, logs, seen, reading, told)? {
-        None => Ok(()),
-        Some(feed) => {
-            let mut looking = Looking::new(alloc, feed, reading.looks, seen);
-            tell_all(alloc, &mut looking, seen, told)
-        }
+    if reading.way.only_opens() {
+        return told.note("opened", seen.get().reach);
     }
+    let mut looking = Looking::new(alloc, feed, reading.looks, seen);
+    tell_all(alloc, &mut looking, seen, told)
 }
 
 /// What a plain feed tells of files that are looked into; nothing of others.
@@ -199,7 +198,8 @@ fn each_window(alloc: Global, case: &Case, reading: Reading<'_>) -> Result<Verdi
             },
         )?;
         if !case.wants(told.text.as_str()) {
-            return Ok(Verdict::Differs { came: told.text });
+            let came = told.text.into_text()?;
+            return Ok(Verdict::Differs { came });
         }
         runs = runs.saturating_add(1);
     }

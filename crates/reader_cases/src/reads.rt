@@ -1,42 +1,46 @@
 //! Files in memory: their names and lengths, and reads of them.
+use crate::page::Page;
 use binlog_frame::{Logs, MemoryLogs};
 use case_language::{Case, Refused, copies_of, number, source};
-use std::alloc::{AllocError, Global};
-use std::fmt::Write;
+use std::alloc::Global;
 
 /// The names and the lengths of a source's files.
-pub fn show_names<L: Logs>(text: &mut String, logs: &L) -> Result<(), Refused> {
+pub fn show_names<L: Logs>(text: &mut Page, logs: &L) {
     for file in 0..logs.count() {
         write!(
             text,
             "{file} {}, {} bytes\n",
             logs.name(file),
             logs.len(file)
-        )?;
+        );
     }
     let count = logs.count();
-    write!(text, "{count} files\n")?;
-    Ok(())
+    write!(text, "{count} files\n");
+}
+
+/// A source of the case's files.
+pub fn source_of(alloc: Global, case: &Case) -> Result<MemoryLogs, Refused> {
+    source(copies_of(alloc, &case.files)?, case.reads)
 }
 
 /// `names`: the names and lengths of the case's files, or that they are refused.
 pub fn names_of_files(alloc: Global, case: &Case) -> Result<String, Refused> {
-    let mut text = String::new(alloc);
-    match MemoryLogs::new(copies_of(alloc, &case.files)?) {
-        Ok(logs) => show_names(&mut text, &logs)?,
-        Err(fault) => write!(&mut text, "{fault:?}\n")?,
+    let files = copies_of(alloc, &case.files)?;
+    let mut text = Page::new(alloc);
+    match MemoryLogs::new(files) {
+        Ok(logs) => show_names(&mut text, &logs),
+        Err(fault) => write!(text, "{fault:?}\n"),
     }
-    Ok(text)
+    text.into_text()
 }
 
 /// How many bytes a read gave, and which.
-fn show_given(text: &mut String, bytes: &[u8]) -> Result<(), AllocError> {
+fn show_given(text: &mut Page, bytes: &[u8]) {
     let count = bytes.len();
-    write!(text, "{count}:")?;
+    write!(text, "{count}:");
     for byte in bytes {
-        write!(text, " {byte:02x}")?;
+        write!(text, " {byte:02x}");
     }
-    Ok(())
 }
 
 /// A read, and the bytes that it gave. The file must be there.
@@ -44,7 +48,7 @@ fn read_once(
     alloc: Global,
     logs: &mut MemoryLogs,
     read: (usize, u64, usize),
-    text: &mut String,
+    text: &mut Page,
 ) -> Result<(), Refused> {
     let (file, offset, count) = read;
     if file >= logs.count() {
@@ -52,11 +56,11 @@ fn read_once(
     }
     let mut buf = vec![in alloc; 0u8; count]?;
     match logs.read_at(file, offset, &mut buf) {
-        Err(fault) => write!(text, "{fault:?}")?,
-        Ok(count) => show_given(text, &buf[..count])?,
+        Err(fault) => write!(text, "{fault:?}"),
+        Ok(count) => show_given(text, &buf[..count]),
     }
     let (file, offset) = logs.reach();
-    write!(text, "; reach {file}:{offset}\n")?;
+    write!(text, "; reach {file}:{offset}\n");
     Ok(())
 }
 
@@ -74,7 +78,7 @@ fn take_step(
     alloc: Global,
     logs: &mut MemoryLogs,
     step: &str,
-    text: &mut String,
+    text: &mut Page,
 ) -> Result<(), Refused> {
     let Some((word, rest)) = step.split_once(':') else {
         return Err(Refused::BadPart);
@@ -95,10 +99,10 @@ fn take_step(
 
 /// `reads STEP..`: reads of the case's files, one after the other.
 pub fn reads_text(alloc: Global, case: &Case, words: &[String]) -> Result<String, Refused> {
-    let mut logs = source(copies_of(alloc, &case.files)?, case.reads)?;
-    let mut text = String::new(alloc);
+    let mut logs = source_of(alloc, case)?;
+    let mut text = Page::new(alloc);
     for step in words {
         take_step(alloc, &mut logs, step.as_str(), &mut text)?;
     }
-    Ok(text)
+    text.into_text()
 }

@@ -86,13 +86,20 @@ fn push_second(alloc: Global, once: &mut String) -> Result<(), AllocError> {
     Ok(())
 }
 
-/// The written form of the set that a text names, or its fault. Behind a written form stands what it names, where that is written in
-/// another way.
-pub fn set_text(alloc: Global, spelled: &str) -> Result<String, Refused> {
-    let mut once = String::new(alloc);
-    if push_form(alloc, &mut once, with_source(alloc, spelled)?.as_str())? {
-        push_second(alloc, &mut once)?;
+/// The written form of the set that a text names, or its fault, and behind it a second form.
+fn push_forms(alloc: Global, once: &mut String, spelled: &str) -> Result<(), AllocError> {
+    if push_form(alloc, once, spelled)? {
+        push_second(alloc, once)?;
     }
+    Ok(())
+}
+
+/// `set PART..`: the written form of the set that a text names, or its fault. Behind a written form stands what it names, where that is
+/// written in another way.
+pub fn set_text(alloc: Global, pieces: &Pieces, words: &[String]) -> Result<String, Refused> {
+    let spelled = pieces.text_of(alloc, words)?;
+    let mut once = String::new(alloc);
+    push_forms(alloc, &mut once, &with_source(alloc, spelled.as_str())?)?;
     if once.is_empty() {
         once.push_str("nothing")?;
     }

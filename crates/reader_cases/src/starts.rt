@@ -22,7 +22,7 @@ fn value_at(options: &[String], at: usize) -> Result<&str, Refused> {
 }
 
 /// The start that the option `--from` gives.
-pub fn start_of(alloc: Global, options: &[String]) -> Result<Start, Refused> {
+fn start_of(alloc: Global, options: &[String]) -> Result<Start, Refused> {
     for (at, option) in options.iter().enumerate() {
         if option.as_str() == "--from" {
             return match Token::parse(alloc, value_at(options, at)?) {
@@ -35,7 +35,7 @@ pub fn start_of(alloc: Global, options: &[String]) -> Result<Start, Refused> {
 }
 
 /// The filter that the other options give, each with one value.
-pub fn filter_of(alloc: Global, options: &[String]) -> Result<Filter, Refused> {
+fn filter_of(alloc: Global, options: &[String]) -> Result<Filter, Refused> {
     let mut filter = Filter::new();
     for (at, option) in options.iter().enumerate() {
         match option.as_str().strip_prefix("--") {
@@ -47,10 +47,14 @@ pub fn filter_of(alloc: Global, options: &[String]) -> Result<Filter, Refused> {
 }
 
 /// What a feed is opened with, beside its source.
-fn first_parts(alloc: Global, reading: Reading<'_>) -> Result<(Filter, Start, Vec<u8>), Refused> {
-    let window = vec![in alloc; 0u8; reading.window]?;
-    let start = start_of(alloc, reading.options)?;
-    let filter = filter_of(alloc, reading.options)?;
+pub fn first_parts(
+    alloc: Global,
+    options: &[String],
+    window: usize,
+) -> Result<(Filter, Start, Vec<u8>), Refused> {
+    let window = vec![in alloc; 0u8; window]?;
+    let start = start_of(alloc, options)?;
+    let filter = filter_of(alloc, options)?;
     Ok((filter, start, window))
 }
 
@@ -61,26 +65,24 @@ fn next_window(
     way: Way,
     fault: OpenFeedFault,
     back: Vec<u8>,
-    had: usize,
     seen: &Cell<Seen>,
     told: &mut Told,
 ) -> Result<Option<Vec<u8>>, Refused> {
-    told.compare_windows(had, back.len())?;
     match fault {
         OpenFeedFault::Read { file } if way.opens_again() => {
-            told.note_failure(file, seen.get().reach)?;
+            told.note_failure(file, seen.get().reach);
             Ok(Some(back))
         }
         OpenFeedFault::OutOfMemory if way.opens_again() => {
-            told.note_little_memory()?;
+            told.note_little_memory();
             Ok(Some(back))
         }
         OpenFeedFault::WindowTooSmall { needed } if way.opens_again() => {
-            told.note_window(needed, back.len())?;
+            told.note_window(needed, back.len());
             Ok(Some(vec![in alloc; 0u8; needed as usize]?))
         }
         _ => {
-            told.note_opening(fault, way.only_opens(), seen)?;
+            told.note_opening(fault, way.only_opens(), seen);
             Ok(None)
         }
     }
@@ -94,7 +96,7 @@ pub fn open_feed<L: Logs + Drop>(
     reading: Reading<'_>,
     told: &mut Told,
 ) -> Result<Option<Feed<L>>, Refused> {
-    let (filter, start, window) = first_parts(alloc, reading)?;
+    let (filter, start, window) = first_parts(alloc, reading.options, reading.window)?;
     let mut parts = (logs, filter, start, window);
     for _ in 0..MOST_OPENINGS {
         let (logs, filter, start, window) = parts;
@@ -102,7 +104,8 @@ pub fn open_feed<L: Logs + Drop>(
         match Feed::open(alloc, logs, filter, start, window) {
             Ok(feed) => return Ok(Some(feed)),
             Err((fault, logs, filter, start, back)) => {
-                match next_window(alloc, reading.way, fault, back, had, seen, told)? {
+                told.compare_windows(had, back.len());
+                match next_window(alloc, reading.way, fault, back, seen, told)? {
                     None => return Ok(None),
                     Some(window) => parts = (logs, filter, start, window),
                 }

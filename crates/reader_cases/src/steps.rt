@@ -1,10 +1,10 @@
 //! What a reader of logs gives, step by step, as lines.
+use crate::page::Page;
 use crate::watched::{Place, Seen};
 use binlog_feed::OpenFeedFault;
 use case_language::Refused;
 use std::alloc::Global;
 use std::cell::Cell;
-use std::fmt::Write;
 
 /// No reader of a case takes so many steps.
 const MOST_STEPS: u32 = 1_000_000;
@@ -25,7 +25,7 @@ pub enum Answer {
 /// A reader that gives one thing after the other.
 pub trait Steps {
     /// Asks for the next, and writes it, or why there is none, without an end of line.
-    fn ask(&mut self, line: &mut String) -> Result<Answer, Refused>;
+    fn ask(&mut self, line: &mut Page) -> Answer;
 
     /// Exchanges the window.
     fn exchange(&mut self, window: Vec<u8>) -> Vec<u8>;
@@ -34,7 +34,7 @@ pub trait Steps {
 /// What a reader told until it ended.
 #[derive(Drop)]
 pub struct Told {
-    pub text: String,
+    pub text: Page,
     /// Behind each thing given: the length of the text, and how far reads had reached.
     pub given: Vec<(usize, Place)>,
     /// Where the log fault stands that ended it, if one did.
@@ -49,7 +49,7 @@ pub struct Told {
 impl Told {
     pub fn new(alloc: Global, shows_refusals: bool) -> Told {
         Told {
-            text: String::new(alloc),
+            text: Page::new(alloc),
             given: Vec::new(alloc),
             fault: None,
             failed_reads: 0,
@@ -61,32 +61,25 @@ impl Told {
     /// A line for what was given, with the reach of the source behind it.
     pub fn note(&mut self, line: &str, reach: Place) -> Result<(), Refused> {
         let (file, offset) = reach;
-        write!(&mut self.text, "{line}; reach {file}:{offset}\n")?;
-        self.given.push((self.text.len(), reach))?;
-        Ok(())
+        write!(self.text, "{line}; reach {file}:{offset}\n");
+        Ok(self.given.push((self.text.as_str().len(), reach))?)
     }
 
     /// Why files were not opened, and, where it `has_reach`, the reach of the source behind it.
-    pub fn note_opening(
-        &mut self,
-        fault: OpenFeedFault,
-        has_reach: bool,
-        seen: &Cell<Seen>,
-    ) -> Result<(), Refused> {
-        write!(&mut self.text, "{fault:?}")?;
+    pub fn note_opening(&mut self, fault: OpenFeedFault, has_reach: bool, seen: &Cell<Seen>) {
+        write!(self.text, "{fault:?}");
         if has_reach {
             let (file, offset) = seen.get().reach;
-            write!(&mut self.text, "; reach {file}:{offset}")?;
+            write!(self.text, "; reach {file}:{offset}");
         }
-        Ok(self.text.push('\n')?)
+        self.text.push('\n');
     }
 
     /// A line for a window that came back with another length.
-    pub fn compare_windows(&mut self, had: usize, back: usize) -> Result<(), Refused> {
+    pub fn compare_windows(&mut self, had: usize, back: usize) {
         if back != had {
-            self.text.push_str("another window came back\n")?;
+            self.text.push_str("another window came back\n");
         }
-        Ok(())
     }
 
     /// The length of the text behind the last thing given.
@@ -103,34 +96,31 @@ impl Told {
     }
 
     /// A line for a read that failed. The file that is named is the furthest one that was read.
-    pub fn note_failure(&mut self, file: usize, reach: Place) -> Result<(), Refused> {
+    pub fn note_failure(&mut self, file: usize, reach: Place) {
         self.failed_reads = self.failed_reads.saturating_add(1);
         if file != reach.0 {
-            write!(&mut self.text, "a read of another file failed\n")?;
+            self.text.push_str("a read of another file failed\n");
         }
         if self.shows_refusals {
-            write!(&mut self.text, "read failed in file {file}\n")?;
+            write!(self.text, "read failed in file {file}\n");
         }
-        Ok(())
     }
 
     /// A line for a request for memory that was refused.
-    pub fn note_little_memory(&mut self) -> Result<(), Refused> {
+    pub fn note_little_memory(&mut self) {
         if self.shows_refusals {
-            self.text.push_str("out of memory\n")?;
+            self.text.push_str("out of memory\n");
         }
-        Ok(())
     }
 
     /// A line for a window that was too small.
-    pub fn note_window(&mut self, needed: u32, had: usize) -> Result<(), Refused> {
+    pub fn note_window(&mut self, needed: u32, had: usize) {
         if needed as usize <= had {
-            write!(&mut self.text, "a window that was large enough\n")?;
+            self.text.push_str("a window that was large enough\n");
         }
         if self.shows_refusals {
-            write!(&mut self.text, "needs {needed} bytes, had {had}\n")?;
+            write!(self.text, "needs {needed} bytes, had {had}\n");
         }
-        Ok(())
     }
 }
 
@@ -146,7 +136,8 @@ pub fn tell_all<S: Steps>(
             return Ok(());
         }
     }
-    Ok(told.text.push_str("no end\n")?)
+    told.text.push_str("no end\n");
+    Ok(())
 }
 
 /// One step, and whether it is the last one.
@@ -156,8 +147,9 @@ fn tell_next<S: Steps>(
     seen: &Cell<Seen>,
     told: &mut Told,
 ) -> Result<bool, Refused> {
-    let mut line = String::new(alloc);
-    let answer = steps.ask(&mut line)?;
+    let mut line = Page::new(alloc);
+    let answer = steps.ask(&mut line);
+    line.whole()?;
     take_answer(alloc, steps, answer, line.as_str(), seen, told)?;
     Ok(matches!(answer, Answer::Ended(_)))
 }
@@ -171,51 +163,48 @@ fn take_answer<S: Steps>(
     seen: &Cell<Seen>,
     told: &mut Told,
 ) -> Result<(), Refused> {
+    let reach = seen.get().reach;
     match answer {
-        Answer::Gave => told.note(line, seen.get().reach),
+        Answer::Gave => return told.note(line, reach),
         Answer::Ended(fault) => {
             told.fault = fault;
-            settle(alloc, steps, line, told)
+            settle(alloc, steps, line, told);
         }
         Answer::ReadFailed(file) => {
-            told.text.push_str(line)?;
-            told.note_failure(file, seen.get().reach)
+            told.text.push_str(line);
+            told.note_failure(file, reach);
         }
         Answer::Needs(needed) => {
-            told.text.push_str(line)?;
-            enlarge(alloc, steps, needed, told)
-        }
-    }
-}
-
-/// Asks again, twice: what differs from an answer that has to stay has a line.
-fn ask_again<S: Steps>(
-    alloc: Global,
-    steps: &mut S,
-    line: &str,
-    answer: Answer,
-    told: &mut Told,
-) -> Result<(), Refused> {
-    for _ in 0..2 {
-        let mut again = String::new(alloc);
-        let next = steps.ask(&mut again)?;
-        if next != answer || again.as_str() != line {
-            write!(&mut told.text, "then another answer: {again}\n")?;
+            told.text.push_str(line);
+            return enlarge(alloc, steps, needed, told);
         }
     }
     Ok(())
 }
 
+/// Asks again: what differs from an answer that has to stay has a line.
+fn ask_again<S: Steps>(alloc: Global, steps: &mut S, line: &str, answer: Answer, told: &mut Told) {
+    let mut again = Page::new(alloc);
+    let next = steps.ask(&mut again);
+    told.text.carry(&again);
+    if next != answer || again.as_str() != line {
+        write!(told.text, "then another answer: {}\n", again.as_str());
+    }
+}
+
+/// Asks again, twice.
+fn ask_twice<S: Steps>(alloc: Global, steps: &mut S, line: &str, answer: Answer, told: &mut Told) {
+    for _ in 0..2 {
+        ask_again(alloc, steps, line, answer, told);
+    }
+}
+
 /// The line of an end. Asked again, the reader ends the same.
-fn settle<S: Steps>(
-    alloc: Global,
-    steps: &mut S,
-    line: &str,
-    told: &mut Told,
-) -> Result<(), Refused> {
-    write!(&mut told.text, "{line}\n")?;
+fn settle<S: Steps>(alloc: Global, steps: &mut S, line: &str, told: &mut Told) {
+    told.text.push_str(line);
+    told.text.push('\n');
     let fault = told.fault;
-    ask_again(alloc, steps, line, Answer::Ended(fault), told)
+    ask_twice(alloc, steps, line, Answer::Ended(fault), told);
 }
 
 /// Asks again with the window that is too small, and then exchanges it for one of the length that is needed.
@@ -225,7 +214,8 @@ fn enlarge<S: Steps>(
     needed: u32,
     told: &mut Told,
 ) -> Result<(), Refused> {
-    ask_again(alloc, steps, "", Answer::Needs(needed), told)?;
+    ask_twice(alloc, steps, "", Answer::Needs(needed), told);
     let had = steps.exchange(vec![in alloc; 0u8; needed as usize]?);
-    told.note_window(needed, had.len())
+    told.note_window(needed, had.len());
+    Ok(())
 }

@@ -22,7 +22,8 @@ pub fn sweep(
 ) -> Result<Verdict, Refused> {
     let whole = tell(alloc, &case.files, reading)?;
     if whole.text.as_str() != case.wanted.as_str() {
-        return Ok(Verdict::Differs { came: whole.text });
+        let came = whole.text.into_text()?;
+        return Ok(Verdict::Differs { came });
     }
     match way {
         "each-read" => each_read(alloc, case, reading),
@@ -129,6 +130,28 @@ fn show_tail(text: &mut String, cut: Place, reached: Place) -> Result<(), Refuse
     Ok(())
 }
 
+/// What is told where the last file is cut to a length.
+fn tell_cut(
+    alloc: Global,
+    case: &Case,
+    reading: Reading<'_>,
+    length: usize,
+) -> Result<Told, Refused> {
+    tell(alloc, &cut_files(alloc, &case.files, length)?, reading)
+}
+
+/// Whether what is told of a beginning is what is wanted of it.
+fn is_told_of_cut(
+    alloc: Global,
+    layer: Layer,
+    whole: &Told,
+    place: Place,
+    told: &Told,
+) -> Result<bool, Refused> {
+    let wanted = wanted_of_cut(alloc, layer, whole, place)?;
+    Ok(told.text.as_str() == wanted.as_str())
+}
+
 /// Cuts the last file to each length.
 fn each_cut(
     alloc: Global,
@@ -142,10 +165,8 @@ fn each_cut(
     }
     let mut runs = 0u64;
     for length in 0..=case.last_length() {
-        let files = cut_files(alloc, &case.files, length)?;
-        let told = tell(alloc, &files, reading)?;
-        let wanted = wanted_of_cut(alloc, reading.layer, whole, (last, length as u64))?;
-        if told.text.as_str() != wanted.as_str() {
+        let told = tell_cut(alloc, case, reading, length)?;
+        if !is_told_of_cut(alloc, reading.layer, whole, (last, length as u64), &told)? {
             return differs(alloc, "cut to", length as u64, &told);
         }
         runs = runs.saturating_add(1);
@@ -157,13 +178,13 @@ fn each_cut(
 fn is_beginning(told: &Told, whole: &Told) -> bool {
     let (given, whole_given) = (told.given_length(), whole.given_length());
     let (Some(begins), Some(ends)) = (
-        told.text.as_bytes().get(..given),
+        told.text.as_str().as_bytes().get(..given),
         told.text.as_str().get(given..),
     ) else {
         return false;
     };
     given <= whole_given
-        && whole.text.as_bytes().starts_with(begins)
+        && whole.text.as_str().as_bytes().starts_with(begins)
         && ends.lines().count() == 1
         && (ends == "end\n" || ends.starts_with("log fault "))
 }

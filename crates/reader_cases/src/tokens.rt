@@ -1,6 +1,6 @@
 //! Tokens as texts.
 use binlog_select::{Token, TokenFault, TokenRef};
-use case_language::Refused;
+use case_language::{Pieces, Refused};
 use std::alloc::{AllocError, Global};
 use std::fmt::Write;
 
@@ -19,8 +19,13 @@ fn push_token(alloc: Global, text: &mut String, token: Token) -> Result<(), Allo
     push_parts(text, token.file.into_string().as_str(), copy.as_ref())
 }
 
+/// `token PART..`: what the token of a text says, or its fault.
+pub fn token_text(alloc: Global, pieces: &Pieces, words: &[String]) -> Result<String, Refused> {
+    told_token(alloc, &pieces.text_of(alloc, words)?)
+}
+
 /// What a token says, or its fault.
-pub fn token_text(alloc: Global, spelled: &str) -> Result<String, Refused> {
+fn told_token(alloc: Global, spelled: &str) -> Result<String, Refused> {
     let mut text = String::new(alloc);
     match Token::parse(alloc, spelled) {
         Ok(token) => push_token(alloc, &mut text, token)?,

@@ -44,7 +44,7 @@ fn text_of(
     words: &[String],
 ) -> Result<String, Refused> {
     match verb {
-        "header" => header_text(alloc, &pieces.bytes_of(alloc, words)?),
+        "header" => header_text(alloc, pieces, words),
         "body" => body_text(alloc, pieces, words),
         "lengths" => lengths_text(alloc, pieces, words),
         "kinds" => kinds_text(alloc, words),
@@ -52,9 +52,9 @@ fn text_of(
         "reads" => reads_text(alloc, case, words),
         "parts" => parts_text(alloc, case, words),
         "look-up" => lookups_text(alloc, case, words),
-        "set" => set_text(alloc, &pieces.text_of(alloc, words)?),
+        "set" => set_text(alloc, pieces, words),
         "holds" => holds_text(alloc, pieces, words),
-        "token" => token_text(alloc, &pieces.text_of(alloc, words)?),
+        "token" => token_text(alloc, pieces, words),
         "passes" => passes_text(alloc, words),
         "name-set" => names_text(alloc, words),
         _ => Err(Refused::UnknownWord),
