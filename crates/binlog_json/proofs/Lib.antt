@@ -7,6 +7,7 @@ pub mod Putting
 pub mod NameOrders
 pub mod Quoting
 pub mod ColumnTexts
+pub mod KeyTexts
 pub mod LabelTexts
 pub mod LineParts
 pub mod Visiting

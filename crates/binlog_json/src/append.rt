@@ -35,8 +35,7 @@ pub(crate) fn append_plain(out: &mut String, text: &[u8]) -> Result<(), AllocErr
 {
     out.push('"')?;
     out.push_str(unsafe { str::from_utf8_unchecked(text) })?;
-    out.push('"')?;
-    Ok(())
+    out.push('"')
 }
 
 /// Writes strings of JSON. It keeps its room for the next one.

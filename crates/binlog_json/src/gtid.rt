@@ -1,7 +1,7 @@
 //! The text of a GTID, kept from line to line: the changes of a transaction have one.
 ghost use Rattle.std.specs.Prelude.{◌≡◌, ◌++◌, is_some, true, Some, OnOk, string_bytes};
 ghost use Rattle.serde_json.specs.Written.{compact_text};
-ghost use Rattle.binlog_json.specs.Line.{gtid_data};
+ghost use Rattle.binlog_json.specs.Line.{gtid_data, gtid_text};
 
 use crate::digits::push_number;
 use crate::room::Room;
@@ -77,11 +77,17 @@ fn append_gtid(
     ensures { OnOk result (string_bytes out.new
         ≡ string_bytes out.old ++ compact_text (gtid_data (Some (source, number)))) }
 {
-    let mut buffer = Uuid::encode_buffer();
-    let source = source.hyphenated().encode_lower(&mut buffer);
     room.text.clear();
-    room.text.push_str(source)?;
-    room.text.push(':')?;
-    push_number(&mut room.text, number)?;
+    push_gtid(&mut room.text, source, number)?;
     room.quoter.append(out, room.text.as_str())
+}
+
+/// The source and the number, parted by a colon.
+fn push_gtid(text: &mut String, source: Uuid, number: u64) -> Result<(), AllocError>
+    ensures { OnOk result (string_bytes text.new ≡ string_bytes text.old ++ gtid_text (source, number)) }
+{
+    let mut buffer = Uuid::encode_buffer();
+    text.push_str(source.hyphenated().encode_lower(&mut buffer))?;
+    text.push(':')?;
+    push_number(text, number)
 }

@@ -123,12 +123,18 @@ pub fn has_key(
     if change.schema() != schema || change.table() != table {
         return Ok(false);
     }
-    let before = key_text(alloc, change, Side::Before)?;
-    if is_key(&before, key) {
+    if has_key_on(alloc, change, Side::Before, key)? {
         return Ok(true);
     }
-    let after = key_text(alloc, change, Side::After)?;
-    Ok(is_key(&after, key))
+    has_key_on(alloc, change, Side::After, key)
+}
+
+/// Whether the key on a side of a change is this one.
+fn has_key_on(alloc: Global, change: &Change<'_>, side: Side, key: &str) -> Result<bool, AllocError>
+    ensures { IfOk result (λ has. has ≡ is_text key.now (key_text_of (view change.now) side)) }
+{
+    let text = key_text(alloc, change, side)?;
+    Ok(is_key(&text, key))
 }
 
 /// Whether a text is there and is the key.

@@ -1,10 +1,10 @@
 //! The texts of decimals, dates and times, at the end of a text.
-ghost use Rattle.std.specs.Prelude.{◌≡◌, ◌++◌, ◌==◌, OnOk, string_bytes};
+ghost use Rattle.std.specs.Prelude.{◌≡◌, ◌<◌, ◌≤◌, ◌-◌, ◌++◌, ◌==◌, length, take, drop, All, OnOk, string_bytes};
 ghost use Rattle.std.specs.List.{list_all};
 ghost use Rattle.binlog_table.specs.DecimalShown.{decimal_view};
 ghost use Rattle.binlog_table.specs.Value.{view as cell_view};
 ghost use Rattle.binlog_json.specs.Values.{shown_text};
-ghost use Rattle.binlog_json.specs.Texts.{sign_text, decimal_text, fraction_text, day_text, clock_text, date_text, date_time_text, time_text, timestamp_text};
+ghost use Rattle.binlog_json.specs.Texts.{padded, sign_text, whole_text, point_text, decimal_text, fraction_text, day_text, clock_text, date_text, date_time_text, time_text, timestamp_text};
 
 use crate::digits::{push_fraction, push_number, push_padded, push_pair, push_point, push_whole};
 use binlog_table::{Cell, Date, DateTime, DecimalView, Time, Timestamp};
@@ -16,8 +16,18 @@ pub(crate) fn push_decimal(text: &mut String, decimal: DecimalView<'_>) -> Resul
 {
     let digits = decimal.digits();
     let digits = digits.as_slice();
-    let (whole, fraction) = digits.split_at(digits.len() - decimal.scale());
     push_sign(text, decimal.is_negative() && !are_zeros(digits))?;
+    push_scaled(text, digits, decimal.scale())
+}
+
+/// Digits with a point in front of the last `scale` of them.
+fn push_scaled(text: &mut String, digits: &[u8], scale: usize) -> Result<(), AllocError>
+    requires digits { All (λ d. d < 10) digits.now }
+    requires scale { scale ≤ length digits.now }
+    ensures { OnOk result (string_bytes text.new ≡ string_bytes text.old
+        ++ (whole_text (take (length digits.now - scale) digits.now) ++ point_text (drop (length digits.now - scale) digits.now))) }
+{
+    let (whole, fraction) = digits.split_at(digits.len() - scale);
     push_whole(text, whole)?;
     push_point(text, fraction)
 }
@@ -42,10 +52,8 @@ fn push_day(text: &mut String, year: u32, month: u8, day: u8) -> Result<(), Allo
         ≡ string_bytes text.old ++ day_text year month day) }
 {
     push_padded(text, year, 4)?;
-    text.push('-')?;
-    push_pair(text, u16::from(month))?;
-    text.push('-')?;
-    push_pair(text, u16::from(day))
+    push_part(text, "-", month)?;
+    push_part(text, "-", day)
 }
 
 fn push_clock(text: &mut String, hour: u16, minute: u8, second: u8) -> Result<(), AllocError>
@@ -53,10 +61,16 @@ fn push_clock(text: &mut String, hour: u16, minute: u8, second: u8) -> Result<()
         ≡ string_bytes text.old ++ clock_text hour minute second) }
 {
     push_pair(text, hour)?;
-    text.push(':')?;
-    push_pair(text, u16::from(minute))?;
-    text.push(':')?;
-    push_pair(text, u16::from(second))
+    push_part(text, ":", minute)?;
+    push_part(text, ":", second)
+}
+
+/// A mark, and a number in two digits behind it.
+fn push_part(text: &mut String, mark: &str, number: u8) -> Result<(), AllocError>
+    ensures { OnOk result (string_bytes text.new ≡ string_bytes text.old ++ (mark.now ++ padded 2 number)) }
+{
+    text.push_str(mark)?;
+    push_pair(text, u16::from(number))
 }
 
 pub(crate) fn push_date(text: &mut String, date: Date) -> Result<(), AllocError>

@@ -1,7 +1,7 @@
 //! Values of columns as JSON, at the end of a text.
 ghost use Rattle.std.specs.Prelude.{◌≡◌, ◌<◌, ◌++◌, ◌∷◌, [], length, OnOk, string_bytes};
 ghost use Rattle.json.specs.Print.{quoted};
-ghost use Rattle.serde_json.specs.Data.{string};
+ghost use Rattle.serde_json.specs.Data.{string, object, member, no_members};
 ghost use Rattle.serde_json.specs.Written.{compact_text};
 ghost use Rattle.binlog_table.specs.Value.{view as cell_view};
 ghost use Rattle.binlog_table.specs.MapWords.{value_names_in};
@@ -124,11 +124,23 @@ fn append_encoded(
 {
     room.clear();
     STANDARD.encode_string(bytes, room)?;
+    append_object(out, quoter, name, room.as_str())
+}
+
+/// An object of one member, which is a string.
+fn append_object(
+    out: &mut String,
+    quoter: &mut Quoter,
+    name: &str,
+    text: &str,
+) -> Result<(), AllocError>
+    ensures { OnOk result (string_bytes out.new
+        ≡ string_bytes out.old ++ compact_text (object (member name.now (string text.now) no_members))) }
+{
     out.push('{')?;
     append_member_name(out, quoter, name)?;
-    quoter.append(out, room.as_str())?;
-    out.push('}')?;
-    Ok(())
+    quoter.append(out, text)?;
+    out.push('}')
 }
 
 /// The name of a member, with its colon.
@@ -140,6 +152,5 @@ pub(crate) fn append_member_name(
     ensures { OnOk result (string_bytes out.new ≡ string_bytes out.old ++ (quoted name.now ++ 58 ∷ [])) }
 {
     quoter.append(out, name)?;
-    out.push(':')?;
-    Ok(())
+    out.push(':')
 }
