@@ -7,6 +7,7 @@ pub mod Keeping
 pub mod Ends
 pub mod Naming
 pub mod Answering
+pub mod OverFiles
 pub mod Listing
 pub mod Beginning
 pub mod GoingOn

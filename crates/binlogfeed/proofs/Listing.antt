@@ -1,6 +1,8 @@
 -- The words of a list, and the kinds that they name.
-use Rattle.std.proofs.Common.{◌≡◌, ℕ, suc, ◌<◌, List, ◌∷◌, ◌++◌, None, map, take, drop, length, get_or, sym, ap, ap₂, ◌∙◌, take-append-drop, drop-cons}
-use Rattle.std.proofs.lemmas.List.{map-append}
+use Rattle.std.proofs.Common.{◌≡◌, ℕ, suc, ◌+◌, ◌<◌, List, [], ◌∷◌, ◌++◌, None, map, take, drop, length, get_or, sym, ap, ap₂, ◌∙◌, take-append-drop, drop-cons}
+use Rattle.std.proofs.lemmas.List.{map-append, take_more}
+use Rattle.std.proofs.Common.{String, Global}
+use Rattle.std.specs.Prelude.{string_bytes}
 use Rattle.std.specs.Borrow.{Bor}
 use Rattle.clap.specs.Words.{Text}
 use Rattle.binlog_select.specs.declared.kind.ChangeKind.{ChangeKind}
@@ -14,6 +16,23 @@ texts_around : (items : List (Bor Text)) (at : ℕ) (none : Bor Text) → at < l
 texts_around items at none within =
     ap texts (sym (take-append-drop at items)) ∙ map-append (λ word. word.now) (take at items) (drop at items)
     ∙ ap (λ rest. texts (take at items) ++ texts rest) (drop-cons items at none within)
+
+texts_more : (items : List (Bor Text)) (at : ℕ) (none : Bor Text) → at < length items → texts (take (at + 1) items) ≡ texts (take at items) ++ (get_or items at none).now ∷ []
+texts_more items at none within = ap texts (take_more items at none within) ∙ map-append (λ word. word.now) (take at items) (get_or items at none ∷ [])
+
+-- one word more, and its kind
+pub kinds_more : (items : List (Bor Text)) (at : ℕ) (none : Bor Text) (kinds more : List ChangeKind) (kind : ChangeKind) → at < length items
+    → texts (take at items) ≡ map kind_text kinds → (get_or items at none).now ≡ kind_text kind → more ≡ kinds ++ kind ∷ [] → texts (take (at + 1) items) ≡ map kind_text more
+kinds_more items at none kinds more kind within before is longer =
+    texts_more items at none within ∙ ap₂ (λ front last. front ++ last ∷ []) before is
+    ∙ sym (ap (map kind_text) longer ∙ map-append kind_text kinds (kind ∷ []))
+
+-- one word more, and its text
+pub names_more : (items : List (Bor Text)) (at : ℕ) (none : Bor Text) (names more : List (String Global)) (name : String Global) → at < length items
+    → map string_bytes names ≡ texts (take at items) → string_bytes name ≡ (get_or items at none).now → more ≡ names ++ name ∷ [] → map string_bytes more ≡ texts (take (at + 1) items)
+names_more items at none names more name within before is longer =
+    ap (map string_bytes) longer ∙ map-append string_bytes names (name ∷ []) ∙ ap₂ (λ front last. front ++ last ∷ []) before is
+    ∙ sym (texts_more items at none within)
 
 -- a word that names no kind, behind words that do
 pub first_bad_word : (list : Text) (items : List (Bor Text)) (at : ℕ) (none : Bor Text) (kinds : List ChangeKind) (word : Text)

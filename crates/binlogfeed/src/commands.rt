@@ -1,7 +1,7 @@
 //! The command line: its subcommands, with their options and their help.
 ghost use Rattle.std.specs.Prelude.{◌≡◌, IfOk, false};
-ghost use Rattle.clap.specs.Words.{App, Rule, rule_of, app_of, with_rule, with_subcommand};
-ghost use Rattle.binlogfeed.specs.Words.{file_rule, option_rule, required_rule, transactions_app, read_app, history_app, program_app};
+ghost use Rattle.clap.specs.Words.{App, rule_of, app_of, with_rule, with_subcommand};
+ghost use Rattle.binlogfeed.specs.Words.{file_rule, option_rule, required_rule, with_option, with_required, transactions_app, read_app, history_app, program_app};
 ghost use Rattle.binlogfeed.specs.Commands.{IsBuilt, HasApp};
 
 use clap::{Arg, ArgAction, Command};
@@ -140,16 +140,47 @@ fn required_option<'a>(alloc: Global, name: &'a str, value: &'a str, help: &'a s
     option(alloc, name, value, help).required(true)
 }
 
-/// Adds an argument to a command, for which there may have been no memory.
-fn add_argument<'a>(
+/// Adds the files to a command, for which there may have been no memory.
+fn add_files<'a>(
+    alloc: Global,
     command: Result<Command<'a>, AllocError>,
-    argument: Arg<'a>,
 ) -> Result<Command<'a>, AllocError>
-    requires { argument.global ≡ false }
-    ensures { (app : App) (rule : Rule) → rule_of argument.entry ≡ rule → IsBuilt app command.entry → IsBuilt (with_rule app rule) result }
+    ensures { (app : App) → IsBuilt app command.entry → IsBuilt (with_rule app file_rule) result }
 {
     match command {
-        Ok(command) => command.arg(argument),
+        Ok(command) => command.arg(file_argument(alloc)),
+        Err(error) => Err(error),
+    }
+}
+
+/// Adds an option to a command, for which there may have been no memory.
+fn add_option<'a>(
+    alloc: Global,
+    command: Result<Command<'a>, AllocError>,
+    name: &'a str,
+    value: &'a str,
+    help: &'a str,
+) -> Result<Command<'a>, AllocError>
+    ensures { (app : App) → IsBuilt app command.entry → IsBuilt (with_option app name.entry.now) result }
+{
+    match command {
+        Ok(command) => command.arg(option(alloc, name, value, help)),
+        Err(error) => Err(error),
+    }
+}
+
+/// Adds an option that must be given to a command, for which there may have been no memory.
+fn add_required_option<'a>(
+    alloc: Global,
+    command: Result<Command<'a>, AllocError>,
+    name: &'a str,
+    value: &'a str,
+    help: &'a str,
+) -> Result<Command<'a>, AllocError>
+    ensures { (app : App) → IsBuilt app command.entry → IsBuilt (with_required app name.entry.now) result }
+{
+    match command {
+        Ok(command) => command.arg(required_option(alloc, name, value, help)),
         Err(error) => Err(error),
     }
 }
@@ -176,7 +207,7 @@ fn transactions_command<'a>(alloc: Global) -> Result<Command<'a>, AllocError>
     let command = Command::new(alloc, "transactions")
         .about(TRANSACTIONS_ABOUT)
         .after_help(TRANSACTIONS_AFTER);
-    add_argument(Ok(command), file_argument(alloc))
+    add_files(alloc, Ok(command))
 }
 
 fn read_command<'a>(alloc: Global) -> Result<Command<'a>, AllocError>
@@ -185,21 +216,26 @@ fn read_command<'a>(alloc: Global) -> Result<Command<'a>, AllocError>
     let command = Command::new(alloc, "read")
         .about(READ_ABOUT)
         .after_help(READ_AFTER);
-    let events = option(alloc, "only-events", "LIST", ONLY_EVENTS_HELP);
-    let command = add_argument(Ok(command), events);
-    let tables = option(alloc, "only-tables", "LIST", ONLY_TABLES_HELP);
-    let command = add_argument(command, tables);
-    let tables = option(alloc, "ignored-tables", "LIST", IGNORED_TABLES_HELP);
-    let command = add_argument(command, tables);
-    let schemas = option(alloc, "only-schemas", "LIST", ONLY_SCHEMAS_HELP);
-    let command = add_argument(command, schemas);
-    let schemas = option(alloc, "ignored-schemas", "LIST", IGNORED_SCHEMAS_HELP);
-    let command = add_argument(command, schemas);
-    let set = option(alloc, "auto-position", "SET", AUTO_POSITION_HELP);
-    let command = add_argument(command, set);
-    let token = option(alloc, "from", "TOKEN", FROM_HELP);
-    let command = add_argument(command, token);
-    add_argument(command, file_argument(alloc))
+    let command = add_option(alloc, Ok(command), "only-events", "LIST", ONLY_EVENTS_HELP);
+    let command = add_option(alloc, command, "only-tables", "LIST", ONLY_TABLES_HELP);
+    let command = add_option(
+        alloc,
+        command,
+        "ignored-tables",
+        "LIST",
+        IGNORED_TABLES_HELP,
+    );
+    let command = add_option(alloc, command, "only-schemas", "LIST", ONLY_SCHEMAS_HELP);
+    let command = add_option(
+        alloc,
+        command,
+        "ignored-schemas",
+        "LIST",
+        IGNORED_SCHEMAS_HELP,
+    );
+    let command = add_option(alloc, command, "auto-position", "SET", AUTO_POSITION_HELP);
+    let command = add_option(alloc, command, "from", "TOKEN", FROM_HELP);
+    add_files(alloc, command)
 }
 
 fn history_command<'a>(alloc: Global) -> Result<Command<'a>, AllocError>
@@ -208,13 +244,10 @@ fn history_command<'a>(alloc: Global) -> Result<Command<'a>, AllocError>
     let command = Command::new(alloc, "history")
         .about(HISTORY_ABOUT)
         .after_help(HISTORY_AFTER);
-    let schema = required_option(alloc, "schema", "NAME", SCHEMA_HELP);
-    let command = add_argument(Ok(command), schema);
-    let table = required_option(alloc, "table", "NAME", TABLE_HELP);
-    let command = add_argument(command, table);
-    let key = required_option(alloc, "key", "JSON", KEY_HELP);
-    let command = add_argument(command, key);
-    add_argument(command, file_argument(alloc))
+    let command = add_required_option(alloc, Ok(command), "schema", "NAME", SCHEMA_HELP);
+    let command = add_required_option(alloc, command, "table", "NAME", TABLE_HELP);
+    let command = add_required_option(alloc, command, "key", "JSON", KEY_HELP);
+    add_files(alloc, command)
 }
 
 /// The program's command line.

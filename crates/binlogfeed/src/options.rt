@@ -1,8 +1,8 @@
 //! What the values of options name.
 ghost use Rattle.std.specs.Prelude.{◌≡◌, Some, IfOk, IfErr, option_map};
-ghost use Rattle.clap.specs.Words.{rows_of, found_of, first_of};
+ghost use Rattle.clap.specs.Words.{Text, rows_of, found_of, first_of};
 ghost use Rattle.binlog_select.specs.SetText.{IsSetText};
-ghost use Rattle.binlogfeed.specs.Options.{words_in, names_in, NamesKinds, IsGiven, IsKindOf, IsEventFault, IsSetFault, AnswersOptions};
+ghost use Rattle.binlogfeed.specs.Options.{words_in, names_in, NamesKinds, IsGiven, IsKindOf, IsEventFault, IsFirstBadWord, IsSetFault, AnswersOptions};
 ghost use Rattle.binlogfeed.specs.Words.{texts};
 
 use crate::words_fault::WordsFault;
@@ -16,14 +16,38 @@ pub(crate) fn filter_given(alloc: Global, matches: &ArgMatches<'_>) -> Result<Fi
 {
     let only_events = kinds_given(alloc, text_given(matches, "only-events"))?;
     let auto_position = set_given(alloc, text_given(matches, "auto-position"))?;
+    let tables = lists_given(alloc, matches, "only-tables", "ignored-tables")?;
+    let schemas = lists_given(alloc, matches, "only-schemas", "ignored-schemas")?;
     Ok(Filter {
         only_events,
-        only_tables: names_given(alloc, text_given(matches, "only-tables"))?,
-        ignored_tables: names_given(alloc, text_given(matches, "ignored-tables"))?,
-        only_schemas: names_given(alloc, text_given(matches, "only-schemas"))?,
-        ignored_schemas: names_given(alloc, text_given(matches, "ignored-schemas"))?,
+        only_tables: tables.only,
+        ignored_tables: tables.ignored,
+        only_schemas: schemas.only,
+        ignored_schemas: schemas.ignored,
         auto_position,
     })
+}
+
+/// Names that alone are let through, and names that are not.
+#[derive(Drop)]
+struct Lists {
+    only: Option<Names>,
+    ignored: Option<Names>,
+}
+
+/// The names that two options give.
+fn lists_given(
+    alloc: Global,
+    matches: &ArgMatches<'_>,
+    only: &str,
+    ignored: &str,
+) -> Result<Lists, AllocError>
+    ensures only { IfOk result (λ lists. lists.only ≡ option_map names_in (first_of only.now (rows_of (found_of matches.now)))) }
+    ensures ignored { IfOk result (λ lists. lists.ignored ≡ option_map names_in (first_of ignored.now (rows_of (found_of matches.now)))) }
+{
+    let only = names_given(alloc, text_given(matches, only))?;
+    let ignored = names_given(alloc, text_given(matches, ignored))?;
+    Ok(Lists { only, ignored })
 }
 
 /// The value of an option.
@@ -53,10 +77,20 @@ fn kinds_of(alloc: Global, list: &str) -> Result<Kinds, WordsFault>
     'words: for word in &words {
         match kind_of(word) {
             Some(kind) => kinds.push(kind)?,
-            None => return Err(WordsFault::EventName(String::from_str(alloc, word)?)),
+            None => return Err(event_fault(alloc, word)),
         }
     }
     Ok(Kinds::from(kinds))
+}
+
+/// The fault of a word that names no kind of change.
+fn event_fault(alloc: Global, word: &str) -> WordsFault
+    ensures { (list : Text) → IsFirstBadWord list word.now → IsEventFault (Some list) result }
+{
+    match String::from_str(alloc, word) {
+        Ok(word) => WordsFault::EventName(word),
+        Err(_) => WordsFault::OutOfMemory,
+    }
 }
 
 /// The kind of change with a name.

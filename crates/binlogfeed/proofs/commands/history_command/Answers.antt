@@ -9,7 +9,7 @@ pub returns : goal.returns
 returns c =
     let globals = λ (fields : Command-F Command). fields.has_globals in
     let plain : HasShape (new_app (codes "history")) c.after_help-command.result = (ap app_of_fields c.after_help-command.ensures ∙ ap app_of_fields c.about.ensures ∙ c.new.ensures.app, ap globals c.after_help-command.ensures ∙ ap globals c.about.ensures ∙ c.new.ensures.local) in
-    let one = c.add_argument-command.ensures _ _ c.required_option-schema.ensures.rule plain in
-    let two = c.add_argument-command-2.ensures _ _ c.required_option-table.ensures.rule one in
-    let three = c.add_argument-command-3.ensures _ _ c.required_option-key.ensures.rule two in
-    c.add_argument.ensures _ _ c.file_argument.ensures.rule three
+    let one = c.add_required_option-command.ensures _ plain in
+    let two = c.add_required_option-command-2.ensures _ one in
+    let three = c.add_required_option-command-3.ensures _ two in
+    c.add_files.ensures _ three

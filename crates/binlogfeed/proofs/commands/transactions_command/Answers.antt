@@ -9,4 +9,4 @@ pub returns : goal.returns
 returns c =
     let globals = λ (fields : Command-F Command). fields.has_globals in
     let plain : HasShape (new_app (codes "transactions")) c.after_help-command.result = (ap app_of_fields c.after_help-command.ensures ∙ ap app_of_fields c.about.ensures ∙ c.new.ensures.app, ap globals c.after_help-command.ensures ∙ ap globals c.about.ensures ∙ c.new.ensures.local) in
-    c.add_argument.ensures _ _ c.file_argument.ensures.rule plain
+    c.add_files.ensures _ plain
