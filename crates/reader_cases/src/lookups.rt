@@ -62,12 +62,12 @@ fn show_order(alloc: Global, feed: &mut Feed<MemoryLogs>, order: &str, line: &mu
 /// What a feed gives for each order, a line each.
 fn show_orders(
     alloc: Global,
-    mut feed: Feed<MemoryLogs>,
+    feed: &mut Feed<MemoryLogs>,
     orders: &[String],
 ) -> Result<String, Refused> {
     let mut text = Page::new(alloc);
     for order in orders {
-        show_order(alloc, &mut feed, order.as_str(), &mut text);
+        show_order(alloc, feed, order.as_str(), &mut text);
         text.push('\n');
     }
     text.into_text()
@@ -76,5 +76,6 @@ fn show_orders(
 /// `look-up OPTION.. ORDER..`: what a feed with these options gives for each order, which is `next` or a token to look up.
 pub fn lookups_text(alloc: Global, case: &Case, words: &[String]) -> Result<String, Refused> {
     let (options, orders) = parts_of(words);
-    show_orders(alloc, feed_of(alloc, case, options)?, orders)
+    let mut feed = feed_of(alloc, case, options)?;
+    show_orders(alloc, &mut feed, orders)
 }

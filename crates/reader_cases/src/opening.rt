@@ -21,11 +21,7 @@ pub fn judge_open<R: Files + AllocGlobal>(
     let Some((what, paths)) = words.split_first() else {
         return Err(Refused::BadPart);
     };
-    let paths = borrowed(rt.alloc(), paths)?;
-    match what.as_str() {
-        "names" => Ok(Verdict::of(case, names_at(rt, &paths)?)),
-        layer => read_at(rt, case, Layer::of(layer)?, &paths),
-    }
+    open_at(rt, case, what.as_str(), &borrowed(rt.alloc(), paths)?)
 }
 
 /// Paths, borrowed one by one.
@@ -37,13 +33,17 @@ fn borrowed(alloc: Global, paths: &[String]) -> Result<Vec<&str>, Refused> {
     Ok(borrowed)
 }
 
-/// Reads the files of paths.
-fn read_at<R: Files + AllocGlobal>(
+/// Opens the files of paths, and tells their names, or what a layer reads of them.
+fn open_at<R: Files + AllocGlobal>(
     rt: &R,
     case: &Case,
-    layer: Layer,
+    what: &str,
     paths: &[&str],
 ) -> Result<Verdict, Refused> {
+    if what == "names" {
+        return Ok(Verdict::of(case, names_at(rt, paths)?));
+    }
+    let layer = Layer::of(what)?;
     read_opened(rt, case, layer, paths, &held_at(rt, paths)?)
 }
 

@@ -2,11 +2,11 @@
 use crate::frames::{Pass, Shown};
 use crate::looks::{Looking, looks_of};
 use crate::starts::open_feed;
-use crate::steps::{Told, tell_all};
+use crate::steps::{Steps, Told, tell_all};
 use crate::sweeps::sweep;
 use crate::watched::{Seen, Watched};
 use crate::ways::{Layer, Reading, Way};
-use binlog_feed::{Feed, Units};
+use binlog_feed::Units;
 use binlog_frame::Logs;
 use case_language::{Case, Named, Reads, Refused, SMALL_WINDOW, Verdict, copies_of, source};
 use std::alloc::Global;
@@ -94,6 +94,7 @@ fn tell_units<L: Logs + Drop>(
     }
 }
 
+/// What a feed tells. It is looked into between its steps where there are looks.
 fn tell_feed<L: Logs + Drop>(
     alloc: Global,
     logs: L,
@@ -103,23 +104,26 @@ fn tell_feed<L: Logs + Drop>(
 ) -> Result<(), Refused> {
     match open_feed(alloc, logs, seen, reading, told)? {
         None => Ok(()),
-        Some(feed) => tell_opened(alloc, feed, seen, reading, told),
+        Some(feed) => {
+            let mut looking = Looking::new(alloc, feed, reading.looks, seen);
+            tell_opened(alloc, &mut looking, reading.way, seen, told)
+        }
     }
 }
 
-/// What a feed tells that is opened. It is looked into between its steps where there are looks.
-fn tell_opened<L: Logs + Drop>(
+/// What a reader tells that was opened: all, or only that it was.
+fn tell_opened<S: Steps>(
     alloc: Global,
-    feed: Feed<L>,
+    steps: &mut S,
+    way: Way,
     seen: &Cell<Seen>,
-    reading: Reading<'_>,
     told: &mut Told,
 ) -> Result<(), Refused> {
-    if reading.way.only_opens() {
-        return told.note("opened", seen.get().reach);
+    if way.only_opens() {
+        told.note("opened", seen.get().reach)
+    } else {
+        tell_all(alloc, steps, seen, told)
     }
-    let mut looking = Looking::new(alloc, feed, reading.looks, seen);
-    tell_all(alloc, &mut looking, seen, told)
 }
 
 /// What a plain feed tells of files that are looked into; nothing of others.
