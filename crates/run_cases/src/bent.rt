@@ -3,7 +3,7 @@ use crate::outcome::{How, Job, Outcome, run_files};
 use crate::runs::{Task, run_once};
 use crate::sweeps::differs;
 use binlogfeed::fault::RunFault;
-use case_language::{Case, Refused, Verdict, copies_of};
+use case_language::{Case, Named, Refused, Verdict, copies_of};
 use std::alloc::Global;
 
 /// How a byte is changed.
@@ -24,20 +24,25 @@ impl Bend {
     }
 }
 
-/// Runs over a case's files, of which the last has another byte at an offset.
-fn run_bent(
-    alloc: Global,
-    case: &Case,
-    job: Job,
-    at: usize,
-    bend: Bend,
-) -> Result<Outcome, Refused> {
-    let mut files = copies_of(alloc, &case.files)?;
+/// Changes a byte of the last file.
+fn bend_last(files: &mut [Named], at: usize, bend: Bend) {
     if let Some(last) = files.last_mut() {
         if let Some(byte) = last.1.get_mut(at) {
             *byte = bend.of(*byte);
         }
     }
+}
+
+/// Runs over a case's files, of which the last has another byte at an offset.
+fn run_bent(
+    alloc: Global,
+    case: &Case,
+    job: Job<'_>,
+    at: usize,
+    bend: Bend,
+) -> Result<Outcome, Refused> {
+    let mut files = copies_of(alloc, &case.files)?;
+    bend_last(&mut files, at, bend);
     run_files(alloc, files, job, How::of(case))
 }
 
@@ -69,9 +74,9 @@ fn bend_each(alloc: Global, case: &Case) -> Result<Verdict, Refused> {
     let mut runs = 0u64;
     for bend in [Bend::Zero, Bend::Full, Bend::TopBit] {
         for at in 0..case.last_length() {
-            let units = run_bent(alloc, case, Task::Transactions.job(), at, bend)?;
+            let units = run_bent(alloc, case, Job::Transactions, at, bend)?.fault;
             let changes = run_bent(alloc, case, Task::Changes.job(), at, bend)?;
-            if !end_in_order(units.fault, changes.fault) {
+            if !end_in_order(units, changes.fault) {
                 return differs(alloc, "changes with another byte at", at, &changes);
             }
             runs = runs.saturating_add(2);

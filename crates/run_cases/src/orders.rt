@@ -1,10 +1,11 @@
 //! Words of the command line: what they ask for, and the run that they order.
-use crate::outcome::{How, Job, Key, run_files, run_key};
+use crate::outcome::{How, Job, Key, run_files};
 use crate::shown_orders::order_text;
 use binlogfeed::words::{Order, read_words};
 use binlogfeed::words_fault::{WordsFault, words_line, words_status};
-use case_language::{Case, Named, Refused, Verdict};
-use std::alloc::Global;
+use case_language::{Case, Named, Refused, Verdict, push_all};
+use std::alloc::{AllocError, Global};
+use std::fmt::Write;
 
 /// The words as the system gives them: the program's name stands in front.
 fn borrowed<'a>(alloc: Global, words: &'a [String]) -> Result<Vec<&'a str>, Refused> {
@@ -16,73 +17,96 @@ fn borrowed<'a>(alloc: Global, words: &'a [String]) -> Result<Vec<&'a str>, Refu
     Ok(borrowed)
 }
 
+/// A copy of the file of a case with a name.
+fn file_named(alloc: Global, case: &Case, name: &str) -> Result<Named, Refused> {
+    let Some(bytes) = case.file(name) else {
+        return Err(Refused::UnknownName);
+    };
+    let name = String::from_str(alloc, name)?;
+    Ok((name, Vec::from_slice(alloc, bytes)?))
+}
+
 /// The files of a case with these names.
 fn files_named(alloc: Global, case: &Case, names: &[&str]) -> Result<Vec<Named>, Refused> {
     let mut files = Vec::new(alloc);
     for name in names {
-        let Some(bytes) = case.file(name) else {
-            return Err(Refused::UnknownName);
-        };
-        files.push((
-            String::from_str(alloc, name)?,
-            Vec::from_slice(alloc, bytes)?,
-        ))?;
+        files.push(file_named(alloc, case, name)?)?;
     }
     Ok(files)
 }
 
+/// What is done with the order that words give.
+#[derive(Clone, Copy)]
+enum Purpose<'a> {
+    /// It is shown.
+    Shown,
+    /// It is carried out over a case's files.
+    CarriedOut(&'a Case, How),
+}
+
+/// Does a job over the files of a case with these names, and says what came of it.
+fn perform_job(
+    alloc: Global,
+    case: &Case,
+    names: &[&str],
+    job: Job<'_>,
+    how: How,
+) -> Result<String, Refused> {
+    let files = files_named(alloc, case, names)?;
+    run_files(alloc, files, job, how)?.text(alloc)
+}
+
 /// Does what an order asks for, over the case's files, and says what came of it.
 fn perform(alloc: Global, case: &Case, order: Order<'_>, how: How) -> Result<String, Refused> {
-    let outcome = match order {
-        Order::Transactions { files } => {
-            let files = files_named(alloc, case, &files)?;
-            run_files(alloc, files, Job::Transactions, how)?
-        }
+    match order {
+        Order::Transactions { files } => perform_job(alloc, case, &files, Job::Transactions, how),
         Order::Read {
             filter,
             start,
             files,
-        } => {
-            let files = files_named(alloc, case, &files)?;
-            run_files(alloc, files, Job::Changes { filter, start }, how)?
-        }
+        } => perform_job(alloc, case, &files, Job::Changes { filter, start }, how),
         Order::History {
             schema,
             table,
             key,
             files,
         } => {
-            let files = files_named(alloc, case, &files)?;
             let text = key.as_str();
             let key = Key {
                 schema,
                 table,
                 text,
             };
-            run_key(alloc, files, key, how)?
+            perform_job(alloc, case, &files, Job::History(key), how)
         }
-    };
-    outcome.text(alloc)
+    }
+}
+
+/// What comes of an order.
+fn answer_order(alloc: Global, order: Order<'_>, purpose: Purpose<'_>) -> Result<String, Refused> {
+    match purpose {
+        Purpose::Shown => order_text(alloc, order),
+        Purpose::CarriedOut(case, how) => perform(alloc, case, order, how),
+    }
 }
 
 /// What comes of words of the command line.
-fn answer_once(alloc: Global, case: &Case, words: &[&str], how: How) -> Result<String, Refused> {
+fn answer(alloc: Global, words: &[&str], purpose: Purpose<'_>) -> Result<String, Refused> {
     match read_words(alloc, words) {
-        Ok(order) => perform(alloc, case, order, how),
+        Ok(order) => answer_order(alloc, order, purpose),
         Err(fault) => fault_text(alloc, &fault),
     }
 }
 
-/// `binlogfeed WORD..`: does what the words ask for, with each of the case's windows.
-pub fn answer_words(alloc: Global, case: &Case, words: &[String]) -> Result<Verdict, Refused> {
-    let words = borrowed(alloc, words)?;
+/// What comes of words, with each of the case's windows.
+fn answer_each(alloc: Global, case: &Case, words: &[&str]) -> Result<Verdict, Refused> {
     let mut runs = 0u64;
     for window in &case.windows {
         let how = How {
             window: *window,
             ..How::of(case)
         };
-        let came = answer_once(alloc, case, &words, how)?;
+        let came = answer(alloc, words, Purpose::CarriedOut(case, how))?;
         if !case.wants(came.as_str()) {
             return Ok(Verdict::Differs { came });
         }
@@ -91,25 +115,53 @@ pub fn answer_words(alloc: Global, case: &Case, words: &[String]) -> Result<Verd
     Ok(Verdict::Well { runs })
 }
 
+/// `binlogfeed WORD..`: does what the words ask for, with each of the case's windows.
+pub fn answer_words(alloc: Global, case: &Case, words: &[String]) -> Result<Verdict, Refused> {
+    let words = borrowed(alloc, words)?;
+    answer_each(alloc, case, &words)
+}
+
 /// `words WORD..`: what the words ask for.
 pub fn show_words(alloc: Global, case: &Case, words: &[String]) -> Result<Verdict, Refused> {
     let words = borrowed(alloc, words)?;
-    let came = match read_words(alloc, &words) {
-        Ok(order) => order_text(alloc, order)?,
-        Err(fault) => fault_text(alloc, &fault)?,
-    };
+    let came = answer(alloc, &words, Purpose::Shown)?;
     Ok(Verdict::of(case, came))
 }
 
-/// A refusal by its status and its line. Help has the first line of its text.
-fn fault_text(alloc: Global, fault: &WordsFault) -> Result<String, Refused> {
-    let status = words_status(fault);
-    if let WordsFault::Help(error) = fault {
-        let help = error.to_string(alloc)?;
-        let first = help.as_str().lines().next().unwrap_or("");
-        return Ok(format!(in alloc; "help {status}, {first}\n")?);
+/// The text of help, where that is asked for.
+fn help_of(alloc: Global, fault: &WordsFault) -> Result<Option<String>, AllocError> {
+    match fault {
+        WordsFault::Help(error) => Ok(Some(error.to_string(alloc)?)),
+        _ => Ok(None),
     }
-    let mut line = String::new(alloc);
-    words_line(fault, &mut line)?;
-    Ok(format!(in alloc; "refused {status}, {line}\n")?)
+}
+
+/// The first line of help, behind its status.
+fn push_help(text: &mut String, status: u8, help: &str) -> Result<(), AllocError> {
+    let first = help.lines().next().unwrap_or("");
+    write!(text, "help {status}, ")?;
+    push_all(text, &[first, "\n"])
+}
+
+/// The line of a refusal, behind its status.
+fn push_refusal(text: &mut String, status: u8, fault: &WordsFault) -> Result<(), AllocError> {
+    write!(text, "refused {status}, ")?;
+    words_line(fault, text)?;
+    text.push('\n')
+}
+
+/// A refusal by its status and its line. Help has the first line of its text.
+fn push_fault(alloc: Global, text: &mut String, fault: &WordsFault) -> Result<(), AllocError> {
+    let status = words_status(fault);
+    match help_of(alloc, fault)? {
+        Some(help) => push_help(text, status, help.as_str()),
+        None => push_refusal(text, status, fault),
+    }
+}
+
+/// What is said of a refusal.
+fn fault_text(alloc: Global, fault: &WordsFault) -> Result<String, Refused> {
+    let mut text = String::new(alloc);
+    push_fault(alloc, &mut text, fault)?;
+    Ok(text)
 }

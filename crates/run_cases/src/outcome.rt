@@ -11,8 +11,9 @@ use binlogfeed::fault::{RunFault, fault_line, status};
 use binlogfeed::history::run_history;
 use binlogfeed::run::run;
 use binlogfeed::transactions::run_transactions;
-use case_language::{Case, Named, Reads, Refused, Room, SMALL_WINDOW, source};
-use std::alloc::Global;
+use case_language::{Case, Named, Reads, Refused, Room, SMALL_WINDOW, push_all, source};
+use std::alloc::{AllocError, Global};
+use std::fmt::Write;
 
 /// So many bytes of a long line's beginning are shown.
 const HEAD: usize = 40;
@@ -39,11 +40,20 @@ impl How {
     }
 }
 
+/// The key of which a history is asked for.
+#[derive(Clone, Copy)]
+pub struct Key<'a> {
+    pub schema: &'a str,
+    pub table: &'a str,
+    pub text: &'a str,
+}
+
 /// What is run.
 #[derive(Drop)]
-pub enum Job {
+pub enum Job<'a> {
     Transactions,
     Changes { filter: Filter, start: Start },
+    History(Key<'a>),
 }
 
 /// How a run came out: what the writer received, how often it was flushed, and how the run ended.
@@ -58,36 +68,32 @@ pub struct Outcome {
 }
 
 /// Runs over files once.
-pub fn run_files(alloc: Global, files: Vec<Named>, job: Job, how: How) -> Result<Outcome, Refused> {
-    let (logs, window) = prepared(alloc, files, how)?;
-    let mut out = Narrow::new(alloc, how.room);
-    let (logs, answer) = match job {
-        Job::Transactions => run_transactions(alloc, logs, window, &mut out),
-        Job::Changes { filter, start } => run(alloc, logs, filter, start, window, &mut out),
-    };
-    outcome_of(alloc, &logs, out, answer)
-}
-
-/// The key of which a history is asked for.
-#[derive(Clone, Copy)]
-pub struct Key<'a> {
-    pub schema: &'a str,
-    pub table: &'a str,
-    pub text: &'a str,
-}
-
-/// Runs over files once, for the history of a key.
-pub fn run_key(
+pub fn run_files(
     alloc: Global,
     files: Vec<Named>,
-    key: Key<'_>,
+    job: Job<'_>,
     how: How,
 ) -> Result<Outcome, Refused> {
     let (logs, window) = prepared(alloc, files, how)?;
-    let mut out = Narrow::new(alloc, how.room);
-    let (logs, answer) = run_history(
-        alloc, logs, key.schema, key.table, key.text, window, &mut out,
-    );
+    run_prepared(alloc, logs, window, job, how.room)
+}
+
+/// Runs over a source once, with a window.
+fn run_prepared(
+    alloc: Global,
+    logs: MemoryLogs,
+    window: Vec<u8>,
+    job: Job<'_>,
+    room: Room,
+) -> Result<Outcome, Refused> {
+    let mut out = Narrow::new(alloc, room);
+    let (logs, answer) = match job {
+        Job::Transactions => run_transactions(alloc, logs, window, &mut out),
+        Job::Changes { filter, start } => run(alloc, logs, filter, start, window, &mut out),
+        Job::History(key) => run_history(
+            alloc, logs, key.schema, key.table, key.text, window, &mut out,
+        ),
+    };
     outcome_of(alloc, &logs, out, answer)
 }
 
@@ -124,25 +130,40 @@ fn ended(
 ) -> Result<(u8, String), Refused>
     requires { IfErr answer (IsNamed (names_of logs.now)) }
 {
+    let mut end = String::new(alloc);
+    let status = push_end(&mut end, logs, answer)?;
+    Ok((status, end))
+}
+
+/// The line of a run's end on standard error or the number of its lines, and its status.
+fn push_end(
+    end: &mut String,
+    logs: &MemoryLogs,
+    answer: Result<u64, RunFault>,
+) -> Result<u8, AllocError>
+    requires { IfErr answer (IsNamed (names_of logs.now)) }
+{
     match answer {
-        Ok(count) => Ok((0, format!(in alloc; "lines {count}")?)),
+        Ok(count) => {
+            write!(end, "lines {count}")?;
+            Ok(0)
+        }
         Err(fault) => {
-            let mut line = String::new(alloc);
-            fault_line(&fault, logs, &mut line)?;
-            Ok((status(&fault), line))
+            fault_line(&fault, logs, end)?;
+            Ok(status(&fault))
         }
     }
 }
 
-/// A line, of which the middle is left out where it is long.
-fn shortened(alloc: Global, line: &str) -> Result<String, Refused> {
+/// Appends a line, of which the middle is left out where it is long.
+fn push_shortened(text: &mut String, line: &str) -> Result<(), AllocError> {
     let head = line.get(..HEAD);
     let tail = line.get(line.len().saturating_sub(TAIL)..);
     match (head, tail) {
         (Some(head), Some(tail)) if line.len() > HEAD + TAIL => {
-            Ok(format!(in alloc; "{head} .. {tail}")?)
+            push_all(text, &[head, " .. ", tail])
         }
-        _ => Ok(String::from_str(alloc, line)?),
+        _ => text.push_str(line),
     }
 }
 
@@ -154,20 +175,40 @@ impl Outcome {
         }
     }
 
+    /// Appends the line that tells the end.
+    fn push_end_line(&self, text: &mut String) -> Result<(), AllocError> {
+        let (status, flushes) = (self.status, self.flushes);
+        write!(text, "end {status}, flushes {flushes}")?;
+        push_all(text, &[", ", self.end.as_str(), "\n"])
+    }
+
+    /// Appends the lines, and behind them a line that tells the end.
+    fn push_text(&self, text: &mut String) -> Result<(), Refused> {
+        text.push_str(self.lines()?)?;
+        Ok(self.push_end_line(text)?)
+    }
+
     /// The lines, and behind them a line that tells the end.
     pub fn text(&self, alloc: Global) -> Result<String, Refused> {
-        let lines = self.lines()?;
-        let (status, flushes, end) = (self.status, self.flushes, self.end.as_str());
-        Ok(format!(in alloc; "{lines}end {status}, flushes {flushes}, {end}\n")?)
+        let mut text = String::new(alloc);
+        self.push_text(&mut text)?;
+        Ok(text)
+    }
+
+    /// Appends how many bytes there are, the last line, and the line that tells the end.
+    fn push_measure(&self, text: &mut String) -> Result<(), Refused> {
+        let last = self.lines()?.lines().last().unwrap_or("");
+        let bytes = self.received.len();
+        write!(text, "bytes {bytes}\nlast ")?;
+        push_shortened(text, last)?;
+        text.push('\n')?;
+        Ok(self.push_end_line(text)?)
     }
 
     /// How many bytes there are, the last line, and the line that tells the end.
     pub fn measure(&self, alloc: Global) -> Result<String, Refused> {
-        let bytes = self.received.len();
-        let last = shortened(alloc, self.lines()?.lines().last().unwrap_or(""))?;
-        let (status, flushes, end) = (self.status, self.flushes, self.end.as_str());
-        Ok(format!(in alloc;
-            "bytes {bytes}\nlast {last}\nend {status}, flushes {flushes}, {end}\n"
-        )?)
+        let mut text = String::new(alloc);
+        self.push_measure(&mut text)?;
+        Ok(text)
     }
 }

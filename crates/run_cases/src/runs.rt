@@ -23,7 +23,7 @@ impl Task {
         }
     }
 
-    pub fn job(self) -> Job {
+    pub fn job(self) -> Job<'static> {
         match self {
             Task::Transactions => Job::Transactions,
             Task::Changes => Job::Changes {

@@ -1,59 +1,77 @@
 //! Orders of the command line as texts.
 use binlog_feed::Start;
-use binlog_select::{ChangeKind, Filter, GtidSet, Kinds, Names};
+use binlog_select::{ChangeKind, Filter, GtidSet, Kinds, Names, TokenRef};
 use binlogfeed::words::Order;
-use case_language::Refused;
-use std::alloc::Global;
+use case_language::{Refused, push_all};
+use std::alloc::{AllocError, Global};
 
 /// An order with a line for each list that is given, and one for the files.
 pub fn order_text(alloc: Global, order: Order<'_>) -> Result<String, Refused> {
+    let mut text = String::new(alloc);
+    show_order(&mut text, order)?;
+    Ok(text)
+}
+
+fn show_order(text: &mut String, order: Order<'_>) -> Result<(), Refused> {
     match order {
-        Order::Transactions { files } => {
-            let mut text = String::from_str(alloc, "transactions")?;
-            show_files(&mut text, &files)?;
-            Ok(text)
-        }
+        Order::Transactions { files } => show_files(text, "transactions", &files),
         Order::Read {
             filter,
             start,
             files,
-        } => {
-            let mut text = String::from_str(alloc, "read")?;
-            show_start(&mut text, start)?;
-            show_filter(&mut text, filter)?;
-            text.push_str("files")?;
-            show_files(&mut text, &files)?;
-            Ok(text)
-        }
+        } => show_read(text, filter, &start, &files),
         Order::History {
             schema,
             table,
             key,
             files,
-        } => {
-            let mut text = String::from_str(alloc, "history")?;
-            show_quoted(&mut text, schema)?;
-            show_quoted(&mut text, table)?;
-            text.push(' ')?;
-            text.push_str(key.as_str())?;
-            text.push_str("\nfiles")?;
-            show_files(&mut text, &files)?;
-            Ok(text)
-        }
+        } => show_history(text, schema, table, key.as_str(), &files),
     }
 }
 
+/// The start, the lists that are given, and the files.
+fn show_read(
+    text: &mut String,
+    filter: Filter,
+    start: &Start,
+    files: &[&str],
+) -> Result<(), Refused> {
+    let started = show_start(text, start);
+    let filtered = show_filter(text, filter);
+    started?;
+    filtered?;
+    show_files(text, "files", files)
+}
+
+/// The key of a history, and the files.
+fn show_history(
+    text: &mut String,
+    schema: &str,
+    table: &str,
+    key: &str,
+    files: &[&str],
+) -> Result<(), Refused> {
+    push_all(
+        text,
+        &["history \"", schema, "\" \"", table, "\" ", key, "\n"],
+    )?;
+    show_files(text, "files", files)
+}
+
 /// Where a run begins, and a line feed.
-fn show_start(text: &mut String, start: Start) -> Result<(), Refused> {
+fn show_start(text: &mut String, start: &Start) -> Result<(), Refused> {
     match start {
-        Start::Beginning => text.push_str(" from the beginning\n")?,
-        Start::After(token) => {
-            text.push_str(" behind ")?;
-            token.as_ref().write(text)?;
-            text.push('\n')?;
-        }
-    }
+        Start::Beginning => text.push_str("read from the beginning\n"),
+        Start::After(token) => show_token(text, token.as_ref()),
+    }?;
     Ok(())
+}
+
+/// A token behind which a run begins, and a line feed.
+fn show_token(text: &mut String, token: TokenRef<'_>) -> Result<(), AllocError> {
+    text.push_str("read behind ")?;
+    token.write(text)?;
+    text.push('\n')
 }
 
 /// A line for each list that a filter has.
@@ -66,29 +84,27 @@ fn show_filter(text: &mut String, filter: Filter) -> Result<(), Refused> {
         ignored_schemas,
         auto_position,
     } = filter;
-    show_kinds(text, only_events)?;
-    show_names(text, "only-tables", only_tables)?;
-    show_names(text, "ignored-tables", ignored_tables)?;
-    show_names(text, "only-schemas", only_schemas)?;
-    show_names(text, "ignored-schemas", ignored_schemas)?;
-    show_set(text, auto_position)
-}
-
-/// A name behind a blank, in quotes.
-fn show_quoted(text: &mut String, name: &str) -> Result<(), Refused> {
-    text.push_str(" \"")?;
-    text.push_str(name)?;
-    text.push('"')?;
-    Ok(())
-}
-
-/// The names of files, and a line feed.
-fn show_files(text: &mut String, files: &[&str]) -> Result<(), Refused> {
-    for file in files {
-        show_quoted(text, file)?;
+    let shown = [
+        show_kinds(text, only_events),
+        show_names(text, "only-tables", only_tables),
+        show_names(text, "ignored-tables", ignored_tables),
+        show_names(text, "only-schemas", only_schemas),
+        show_names(text, "ignored-schemas", ignored_schemas),
+        show_set(text, auto_position),
+    ];
+    for one in shown {
+        one?;
     }
-    text.push('\n')?;
     Ok(())
+}
+
+/// A word and names behind it, each in quotes, and a line feed.
+fn show_files(text: &mut String, word: &str, files: &[&str]) -> Result<(), Refused> {
+    text.push_str(word)?;
+    for file in files {
+        push_all(text, &[" \"", file, "\""])?;
+    }
+    Ok(text.push('\n')?)
 }
 
 fn kind_name(kind: ChangeKind) -> &'static str {
@@ -101,34 +117,46 @@ fn kind_name(kind: ChangeKind) -> &'static str {
 
 /// The kinds of a list that is given, in its order.
 fn show_kinds(text: &mut String, kinds: Option<Kinds>) -> Result<(), Refused> {
-    if let Some(kinds) = kinds {
-        text.push_str("only-events")?;
-        for kind in &kinds.into_vec() {
-            text.push_str(kind_name(*kind))?;
-        }
-        text.push('\n')?;
+    match kinds {
+        Some(kinds) => push_kinds(text, &kinds.into_vec()),
+        None => Ok(()),
     }
-    Ok(())
+}
+
+fn push_kinds(text: &mut String, kinds: &[ChangeKind]) -> Result<(), Refused> {
+    text.push_str("only-events")?;
+    for kind in kinds {
+        text.push_str(kind_name(*kind))?;
+    }
+    Ok(text.push('\n')?)
 }
 
 /// A set that is given, in its written form.
 fn show_set(text: &mut String, set: Option<GtidSet>) -> Result<(), Refused> {
-    if let Some(set) = set {
-        text.push_str("auto-position ")?;
-        set.write(text)?;
-        text.push('\n')?;
+    match set {
+        Some(set) => push_set(text, &set),
+        None => Ok(()),
     }
-    Ok(())
+}
+
+fn push_set(text: &mut String, set: &GtidSet) -> Result<(), Refused> {
+    text.push_str("auto-position ")?;
+    set.write(text)?;
+    Ok(text.push('\n')?)
 }
 
 /// The names of a list that is given, in the order of their bytes.
 fn show_names(text: &mut String, option: &str, names: Option<Names>) -> Result<(), Refused> {
-    if let Some(names) = names {
-        text.push_str(option)?;
-        for name in &names.into_vec() {
-            show_quoted(text, name.as_str())?;
-        }
-        text.push('\n')?;
+    match names {
+        Some(names) => push_names(text, option, &names.into_vec()),
+        None => Ok(()),
     }
-    Ok(())
+}
+
+fn push_names(text: &mut String, option: &str, names: &[String]) -> Result<(), Refused> {
+    text.push_str(option)?;
+    for name in names {
+        push_all(text, &[" \"", name.as_str(), "\""])?;
+    }
+    Ok(text.push('\n')?)
 }

@@ -22,12 +22,24 @@ pub fn sweep(alloc: Global, case: &Case, verb: &str, words: &[String]) -> Result
     let task = Task::read(task.as_str())?;
     let whole = run_once(alloc, case, task, How::of(case))?;
     let came = whole.text(alloc)?;
-    if came.as_str() != case.wanted.as_str() {
+    if !case.wants(came.as_str()) {
         return Ok(Verdict::Differs { came });
     }
+    sweep_beside(alloc, case, verb, task, ends, &whole)
+}
+
+/// The runs of a sweep, beside the run that nothing disturbs.
+fn sweep_beside(
+    alloc: Global,
+    case: &Case,
+    verb: &str,
+    task: Task,
+    ends: &[String],
+    whole: &Outcome,
+) -> Result<Verdict, Refused> {
     match verb {
-        "each-room" => each_room(alloc, case, task, &whole),
-        "each-read" => each_read(alloc, case, task, &whole),
+        "each-room" => each_room(alloc, case, task, whole),
+        "each-read" => each_read(alloc, case, task, whole),
         "each-short" => each_short(alloc, case, task),
         _ => each_cut(alloc, case, task, ends),
     }
