@@ -1,5 +1,7 @@
 //! The key that `--key` names.
-ghost use Rattle.std.specs.Prelude.{◌≡◌, IfOk, IfErr, string_bytes};
+ghost use Rattle.std.specs.Prelude.{◌≡◌, Some, IfOk, IfErr, string_bytes};
+ghost use Rattle.clap.specs.Words.{Text};
+ghost use Rattle.serde_json.specs.Read.{read};
 ghost use Rattle.serde_json.specs.View.{view, items_view};
 ghost use Rattle.binlogfeed.specs.KeyWords.{IsKeyText, IsKeyFault, is_key as is_key_data, is_key_part, are_key_parts, has_text as names_text};
 
@@ -13,18 +15,24 @@ pub(crate) fn key_of(alloc: Global, text: &str) -> Result<String, WordsFault>
     ensures err { IfErr result (IsKeyFault text.now) }
 {
     match Value::from_str(alloc, text) {
-        Ok(value) => {
-            if !is_key(&value) {
-                return Err(WordsFault::Key);
-            }
-            let key = value.to_string(alloc)?;
-            Ok(key)
-        }
+        Ok(value) => compact_key(alloc, &value),
         Err(error) => match error.classify() {
             Category::Memory => Err(WordsFault::OutOfMemory),
             _ => Err(WordsFault::Key),
         },
     }
+}
+
+/// The compact JSON of a value that is a key.
+fn compact_key(alloc: Global, value: &Value) -> Result<String, WordsFault>
+    ensures ok { (text : Text) → read text ≡ Some (view value.now) → IfOk result (λ key. IsKeyText text (string_bytes key)) }
+    ensures err { (text : Text) → read text ≡ Some (view value.now) → IfErr result (IsKeyFault text) }
+{
+    if !is_key(value) {
+        return Err(WordsFault::Key);
+    }
+    let key = value.to_string(alloc)?;
+    Ok(key)
 }
 
 /// Whether it is an array of values that columns of a key can have.

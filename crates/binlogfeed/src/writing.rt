@@ -7,11 +7,11 @@ use std::alloc::AllocError;
 use std::io::Write;
 
 /// A write or the flush failed, or a write took nothing.
-#[derive(Clone, Copy, Debug, PartialEq, Eq)]
+#[derive(Clone, Copy)]
 pub(crate) struct WriteFault;
 
 /// Why a line was not added.
-#[derive(Clone, Copy, Debug, PartialEq, Eq)]
+#[derive(Clone, Copy)]
 pub(crate) enum AddFault {
     Write,
     OutOfMemory,
