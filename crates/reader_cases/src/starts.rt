@@ -58,6 +58,17 @@ pub fn first_parts(
     Ok((filter, start, window))
 }
 
+/// A window of a length, if there is memory for it.
+fn larger(alloc: Global, length: u32, told: &mut Told) -> Option<Vec<u8>> {
+    match vec![in alloc; 0u8; length as usize] {
+        Ok(window) => Some(window),
+        Err(_) => {
+            told.text.refuse(Refused::OutOfMemory);
+            None
+        }
+    }
+}
+
 /// What a feed that wasn't opened is opened with again: the window that came back, or one that is large enough. There is none where it
 /// isn't opened again.
 fn next_window(
@@ -67,23 +78,23 @@ fn next_window(
     back: Vec<u8>,
     seen: &Cell<Seen>,
     told: &mut Told,
-) -> Result<Option<Vec<u8>>, Refused> {
+) -> Option<Vec<u8>> {
     match fault {
         OpenFeedFault::Read { file } if way.opens_again() => {
             told.note_failure(file, seen.get().reach);
-            Ok(Some(back))
+            Some(back)
         }
         OpenFeedFault::OutOfMemory if way.opens_again() => {
             told.note_little_memory();
-            Ok(Some(back))
+            Some(back)
         }
         OpenFeedFault::WindowTooSmall { needed } if way.opens_again() => {
             told.note_window(needed, back.len());
-            Ok(Some(vec![in alloc; 0u8; needed as usize]?))
+            larger(alloc, needed, told)
         }
         _ => {
             told.note_opening(fault, way.only_opens(), seen);
-            Ok(None)
+            None
         }
     }
 }
@@ -105,7 +116,7 @@ pub fn open_feed<L: Logs + Drop>(
             Ok(feed) => return Ok(Some(feed)),
             Err((fault, logs, filter, start, back)) => {
                 told.compare_windows(had, back.len());
-                match next_window(alloc, reading.way, fault, back, seen, told)? {
+                match next_window(alloc, reading.way, fault, back, seen, told) {
                     None => return Ok(None),
                     Some(window) => parts = (logs, filter, start, window),
                 }
