@@ -13,3 +13,4 @@ pub mod Beginning
 pub mod GoingOn
 pub mod Choosing
 pub mod KeyParts
+pub mod Found
