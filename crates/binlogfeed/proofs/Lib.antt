@@ -14,3 +14,4 @@ pub mod GoingOn
 pub mod Choosing
 pub mod KeyParts
 pub mod Found
+pub mod Stopping
