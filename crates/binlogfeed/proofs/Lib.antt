@@ -16,3 +16,4 @@ pub mod KeyParts
 pub mod Found
 pub mod Stopping
 pub mod Adding
+pub mod Refusing
