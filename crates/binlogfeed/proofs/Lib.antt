@@ -15,5 +15,4 @@ pub mod Choosing
 pub mod KeyParts
 pub mod Found
 pub mod Stopping
-pub mod Adding
 pub mod Refusing
