@@ -40,7 +40,7 @@ ROOT = Path(__file__).resolve().parent.parent
 FOLDER = "wrong-bodies"
 PARTS = ("src", "specs", "proofs")
 # So many edits in one check: more would make the last checks of a run wait for one long one.
-MOST_IN_A_ROUND = 48
+MOST_IN_A_ROUND = 64
 LONGEST_CHECK = 3600
 
 HEAD = re.compile(r"^( *)(?:pub(?:\([^)]*\))? )?(?:const )?fn (\w+)")
