@@ -1,9 +1,10 @@
-//! The JSON lines of a case's files, by both calls that write them.
+//! The JSON lines of a case's files, by both calls that write them, and as serde_json writes them again.
 use crate::feeds::{Question, push_answer};
 use binlog_feed::{Change, Feed, FeedFault};
 use binlog_frame::MemoryLogs;
 use binlog_json::{LineWriter, line};
 use case_language::{Case, Reads, Refused, SMALL_WINDOW, Verdict, copies_of, push_all};
+use serde_json::Value;
 use std::alloc::{AllocError, Global};
 use std::fmt::Write;
 
@@ -21,7 +22,23 @@ fn appended(
     Ok(out)
 }
 
-/// The line of a change. Behind it stands the line that is appended, where that is another.
+/// The line as serde_json writes it again once it has read it, where that is another, or why it isn't JSON.
+fn push_rewritten(alloc: Global, text: &mut String, one: &str) -> Result<(), Refused> {
+    let value = match Value::from_str(alloc, one) {
+        Ok(value) => value,
+        Err(fault) => {
+            write!(text, "no JSON: {fault}\n")?;
+            return Ok(());
+        }
+    };
+    let again = value.to_string(alloc)?;
+    if again.as_str() != one {
+        push_all(text, &["written again: ", again.as_str(), "\n"])?;
+    }
+    Ok(())
+}
+
+/// The line of a change. Behind it stand the line that is appended and the one that is written again, each where it is another.
 fn push_line(
     alloc: Global,
     text: &mut String,
@@ -30,6 +47,7 @@ fn push_line(
 ) -> Result<(), Refused> {
     let one = line(alloc, change)?;
     push_all(text, &[one.as_str(), "\n"])?;
+    push_rewritten(alloc, text, one.as_str())?;
     push_appended(alloc, text, writer, change, one.as_str())
 }
 
