@@ -1,6 +1,0 @@
-use Rattle.binlog_table.proofs.digits.Digits.push.Goals as goal
-use Rattle.std.proofs.Common.{arith}
-use Rattle.std.proofs.lemmas.Grind.{common_steps}
-
-pub returns : goal.returns
-returns c = grind (arith, common_steps)
