@@ -1,0 +1,27 @@
+use Rattle.binlog_table.proofs.number.big.Goals as goal
+use Rattle.std.proofs.Common.{arith}
+use Rattle.std.proofs.lemmas.Grind.{common_steps}
+
+pub returns-in-1 : goal.returns-in-1
+returns-in-1 c = grind (arith, common_steps)
+
+pub returns-in-2 : goal.returns-in-2
+returns-in-2 c = grind (arith, common_steps)
+
+pub returns-in-3 : goal.returns-in-3
+returns-in-3 c = grind (arith, common_steps)
+
+pub returns-in-4 : goal.returns-in-4
+returns-in-4 c = grind (arith, common_steps)
+
+pub returns-in-5 : goal.returns-in-5
+returns-in-5 c = grind (arith, common_steps)
+
+pub returns-in-6 : goal.returns-in-6
+returns-in-6 c = grind (arith, common_steps)
+
+pub returns-in-8 : goal.returns-in-8
+returns-in-8 c = grind (arith, common_steps)
+
+pub returns-in_default : goal.returns-in_default
+returns-in_default c = grind (arith, common_steps)
