@@ -38,7 +38,7 @@ fn push_rewritten(alloc: Global, text: &mut String, one: &str) -> Result<(), Ref
     Ok(())
 }
 
-/// The line of a change. Behind it stand the line that is appended and the one that is written again, each where it is another.
+/// The line of a change. Behind it stand the one that is written again and the one that is appended, each where it is another.
 fn push_line(
     alloc: Global,
     text: &mut String,
