@@ -26,6 +26,7 @@ pub mod RowSteps
 pub mod CellCounts
 pub mod Cursor
 pub mod DecimalDigitLists
+pub mod MapSteps
 pub mod OneReading
 pub mod MapListReadings
 pub mod ValueNameReadings

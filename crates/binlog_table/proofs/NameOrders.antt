@@ -155,6 +155,11 @@ same-names entries i j d e test lt lt' is =
     let by_names : test ≡ bytes_eq (name_of (map name_in entries) i) (name_of (map name_in entries) j) = rw (one, two) is in
     subst (λ (b : Bool). Decides b (name_of (map name_in entries) i ≡ name_of (map name_in entries) j)) (sym by_names) (bytes_eq-Decides (name_of (map name_in entries) i) (name_of (map name_in entries) j))
 
+pub sorted-more : (entries : List Entry) (i : ℕ) (d : Entry) (columns : List ℕ) → i < length entries → columns ≡ map column_in (take i entries) → columns ++ column_in (get_or entries i d) ∷ [] ≡ map column_in (take (i + 1) entries)
+sorted-more entries i d columns lt so_far =
+    let more = map_push column_in (take i entries) (get_or entries i d) ∙ ap (λ (xs : List ℕ). xs ++ column_in (get_or entries i d) ∷ []) (sym so_far) in
+    sym (ap (map column_in) (take_more entries i d lt) ∙ more)
+
 pub repeated-at : (names : List (List ℕ)) (entries : List Entry) (place : ℕ) → AreSorted names entries → 0 < place → place < length entries → name_of (map name_in entries) (place - 1) ≡ name_of (map name_in entries) place → are_distinct names ≡ false
 repeated-at names entries place sorted some lt same =
     let next : place ≡ place - 1 + 1 = omega arith in

@@ -1,5 +1,5 @@
 -- The sections of a table map's body, and its optional fields (Table_map_event, "Optional metadata fields").
-use Rattle.std.specs.Prelude.{ℕ, zero, suc, ◌+◌, Bool, List, [], ◌∷◌, length, take, drop, slice_index, Option, Some, None, Result, Ok, Err, nat_le, nat_lt, ◌==◌, if◌then◌else◌}
+use Rattle.std.specs.Prelude.{ℕ, zero, suc, ◌+◌, Bool, false, ◌||◌, List, [], ◌∷◌, length, take, drop, slice_index, Option, Some, None, is_some, Result, Ok, Err, nat_le, nat_lt, ◌==◌, if◌then◌else◌}
 use Rattle.std.specs.Str.Lossy.{utf8_valid_len}
 use Rattle.binlog_table.specs.declared.fault.MapFault.{MapFault}
 use Rattle.binlog_table.specs.declared.fault.MapFault.TheVariants.{BadMap}
@@ -61,6 +61,15 @@ with_field f t value =
     (if t == 6 then once f.enum_names (record f { enum_names = Some value }) else
     (if t == 8 then (once f.prefix_key f >>= λ g. once f.key (record f { key = Some value })) else
     (if t == 9 then (once f.key f >>= λ g. once f.prefix_key (record f { prefix_key = Some value })) else Ok f)))))
+
+-- Whether a field of a type can't be added.
+abbrev pub is_refused : Fields → ℕ → Bool
+is_refused f t =
+    if t == 1 then is_some f.signs else
+    (if t == 4 then is_some f.names else
+    (if t == 5 then is_some f.set_names else
+    (if t == 6 then is_some f.enum_names else
+    (if t == 8 || t == 9 then is_some f.key || is_some f.prefix_key else false))))
 
 -- the fields to the end of the bytes, each a type, a packed length and as many bytes; no more than the first number
 unfoldable pub fields_from : ℕ → Fields → List ℕ → Result Fields MapFault

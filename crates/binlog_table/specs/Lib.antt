@@ -15,6 +15,7 @@ pub mod FieldsShown
 pub mod Names
 pub mod Map
 pub mod SectionsShown
+pub mod ListsShown
 pub mod MapWords
 pub mod RowImage
 pub mod CellPlaces

@@ -42,6 +42,10 @@ abbrev pub named : Option (List (List ℕ)) → Result (List (List ℕ)) MapFaul
 named None = Err NoColumnNames
 named (Some names) = Ok names
 
+-- the same, where no field is no names
+abbrev pub names_in : ℕ → Option (List ℕ) → Result (List (List ℕ)) MapFault
+names_in count field = column_names count field >>= λ names. Ok (unwrap_or names [])
+
 -- ---- the key
 
 -- the index of a column, and after it the length of a prefix where the key has prefixes; the bytes after them

@@ -1,13 +1,11 @@
 //! A column as its table map describes it, and its layout: what of its metadata a row is walked by.
-ghost use Rattle.std.specs.Prelude.{◌≡◌, ◌≤◌};
-ghost use Rattle.binlog_table.specs.DecimalDigits.{IsInRange};
 
 use std::marker::Model;
 
 /// How many bytes a number takes: 1 to 8.
 #[derive(Clone, Copy)]
 pub struct ByteCount {
-    bytes: u8,
+    pub bytes: u8,
 }
 
 impl Model for ByteCount {
@@ -22,28 +20,10 @@ impl Model for ByteCount {
     ghost inverse = { λ n. record { bytes = n } };
 }
 
-impl ByteCount {
-    pub(crate) fn new(bytes: u8) -> ByteCount
-        requires some { 1 ≤ bytes }
-        requires few { bytes ≤ 8 }
-        ensures { result ≡ bytes }
-    {
-        ByteCount { bytes }
-    }
-
-    pub fn get(self) -> usize
-        ensures value { result ≡ self }
-        ensures some { 1 ≤ result }
-        ensures few { result ≤ 8 }
-    {
-        usize::from(self.bytes)
-    }
-}
-
 /// How many bytes the number of an ENUM's name takes: 1 or 2.
 #[derive(Clone, Copy)]
 pub struct EnumSize {
-    bytes: u8,
+    pub bytes: u8,
 }
 
 impl Model for EnumSize {
@@ -58,28 +38,10 @@ impl Model for EnumSize {
     ghost inverse = { λ n. record { bytes = n } };
 }
 
-impl EnumSize {
-    pub(crate) fn new(bytes: u8) -> EnumSize
-        requires some { 1 ≤ bytes }
-        requires few { bytes ≤ 2 }
-        ensures { result ≡ bytes }
-    {
-        EnumSize { bytes }
-    }
-
-    pub fn get(self) -> usize
-        ensures value { result ≡ self }
-        ensures some { 1 ≤ result }
-        ensures few { result ≤ 2 }
-    {
-        usize::from(self.bytes)
-    }
-}
-
 /// How many digits a fraction of a second has: 0 to 6.
 #[derive(Clone, Copy)]
 pub struct Precision {
-    digits: u8,
+    pub digits: u8,
 }
 
 impl Model for Precision {
@@ -94,27 +56,11 @@ impl Model for Precision {
     ghost inverse = { λ n. record { digits = n } };
 }
 
-impl Precision {
-    pub(crate) fn new(digits: u8) -> Precision
-        requires { digits ≤ 6 }
-        ensures { result ≡ digits }
-    {
-        Precision { digits }
-    }
-
-    pub fn get(self) -> u8
-        ensures value { result ≡ self }
-        ensures few { result ≤ 6 }
-    {
-        self.digits
-    }
-}
-
 /// How many digits a decimal has, 1 to 65, and how many of them stand after the point, at most 30.
 #[derive(Clone, Copy)]
 pub struct DecimalSize {
-    precision: u8,
-    scale: u8,
+    pub precision: u8,
+    pub scale: u8,
 }
 
 impl Model for DecimalSize {
@@ -127,29 +73,6 @@ impl Model for DecimalSize {
     ghost invariant = { λ d. IsInRange (record { precision = d.precision; scale = d.scale }) };
 
     ghost inverse = { λ d. record { precision = d.precision; scale = d.scale } };
-}
-
-impl DecimalSize {
-    pub(crate) fn new(precision: u8, scale: u8) -> DecimalSize
-        requires { IsInRange (record { precision = precision; scale = scale }) }
-        ensures { result ≡ record { precision = precision; scale = scale } }
-    {
-        DecimalSize { precision, scale }
-    }
-
-    pub fn precision(self) -> u8
-        ensures value { result ≡ self.precision }
-        ensures range { IsInRange self }
-    {
-        self.precision
-    }
-
-    pub fn scale(self) -> u8
-        ensures value { result ≡ self.scale }
-        ensures range { IsInRange self }
-    {
-        self.scale
-    }
 }
 
 /// How the values of a column are stored, and what they mean.

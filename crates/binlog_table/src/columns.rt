@@ -1,11 +1,14 @@
 //! The columns of a table map, by their types, metadata and bits of signedness.
-ghost use Rattle.std.specs.Prelude.{◌≡◌, ◌≤◌, ◌<◌, ◌^◌, ◌&&◌, ◌+◌, length, vec_len, IfOk};
-ghost use Rattle.binlog_table.specs.MapResult.{Gives};
+ghost use Rattle.std.specs.Prelude.{◌≡◌, ◌≤◌, ◌<◌, ◌^◌, ◌&&◌, ◌+◌, length, vec_len, option_map, is_some, true, IfOk};
+ghost use Rattle.binlog_table.specs.MapResult.{Gives, GivesExactly};
 ghost use Rattle.binlog_table.specs.Columns.{is_numeric, high_bit, next_numeric, columns_at};
+ghost use Rattle.binlog_table.specs.Map.{columns_in, columns_stand};
+ghost use Rattle.binlog_table.specs.SectionsShown.{sections_view};
 
 use crate::column::Column;
 use crate::fault::MapFault;
 use crate::layout::layout_at;
+use crate::sections::Sections;
 use std::alloc::Global;
 
 /// Whether a type has a bit of signedness. YEAR has none.
@@ -66,4 +69,39 @@ pub(crate) fn columns_of<'a>(
         rest = &rest[len..];
     }
     Ok((columns, rest, numeric))
+}
+
+/// Whether columns stand as they were read: no metadata is left, they have names, and each numeric one has a bit.
+fn columns_stand(
+    left: &[u8],
+    names: Option<&[u8]>,
+    signs: &[u8],
+    numeric: usize,
+) -> Result<(), MapFault>
+    ensures stand { GivesExactly (λ _. numeric) result (columns_stand left.now (option_map (λ x. x.now) names.entry) signs.now numeric) }
+    ensures named { IfOk result (λ _. is_some names.entry ≡ true) }
+{
+    if !left.is_empty() {
+        return Err(MapFault::BadMap);
+    }
+    if names.is_none() {
+        return Err(MapFault::NoColumnNames);
+    }
+    if signs.len() < numeric.div_ceil(8) {
+        return Err(MapFault::BadMap);
+    }
+    Ok(())
+}
+
+/// The columns of a body's sections.
+pub(crate) fn columns_in(alloc: Global, sections: &Sections<'_>) -> Result<Vec<Column>, MapFault>
+    ensures columns { Gives (λ v. v.items) result (columns_in (sections_view sections.now)) }
+    ensures count { IfOk result (λ v. vec_len v ≡ length sections.now.types.now) }
+    ensures named { IfOk result (λ _. is_some sections.now.fields.names ≡ true) }
+{
+    let fields = &sections.fields;
+    let signs = fields.signs.unwrap_or(&[]);
+    let (columns, left, numeric) = columns_of(alloc, sections.types, sections.metadata, signs)?;
+    columns_stand(left, fields.names, signs, numeric)?;
+    Ok(columns)
 }

@@ -2,8 +2,10 @@
 ghost use Rattle.std.specs.Prelude.{◌≡◌, ◌≤◌, ◌<◌, ◌^◌, ◌+◌, ◌-◌, ◌*◌, ◌%◌, ◌/◌, ◌++◌, length, take, map, option_map, is_some, true, Some, IfSome};
 ghost use Rattle.byteorder.specs.Endian.{big_number};
 ghost use Rattle.binlog_table.specs.DecimalShown.{decimal_view};
+ghost use Rattle.binlog_table.specs.Value.{view, decimal};
 ghost use Rattle.binlog_table.specs.Decimal.{plain, group_len, group_at, nines_at, digits_at, digits_of, after_group, after_nines, after_digits, plain_byte, appended, both, decimal_len, decimal_of};
 
+use crate::cell::Cell;
 use crate::column::DecimalSize;
 use crate::decimal_view::DecimalView;
 use crate::digits::Digits;
@@ -24,8 +26,8 @@ pub(crate) fn decimal_len(size: DecimalSize) -> usize
     ensures some { 1 ≤ result }
     ensures bound { result ≤ 36 }
 {
-    let scale = usize::from(size.scale());
-    let whole = usize::from(size.precision()) - scale;
+    let scale = usize::from(size.scale);
+    let whole = usize::from(size.precision) - scale;
     group_len(whole % 9) + 4 * (whole / 9) + 4 * (scale / 9) + group_len(scale % 9)
 }
 
@@ -95,8 +97,8 @@ fn after_nines(count: usize, bytes: &[u8]) -> Option<&[u8]>
 fn after_digits(size: DecimalSize, bytes: &[u8]) -> Option<&[u8]>
     ensures { option_map (λ x. x.now) result ≡ after_digits size.precision size.scale bytes.now }
 {
-    let scale = usize::from(size.scale());
-    let whole = usize::from(size.precision()) - scale;
+    let scale = usize::from(size.scale);
+    let whole = usize::from(size.precision) - scale;
     let rest = after_group(whole % 9, bytes)?;
     let rest = after_nines(whole / 9, rest)?;
     let rest = after_nines(scale / 9, rest)?;
@@ -133,18 +135,18 @@ pub(crate) fn plain(text: &[u8]) -> [u8; 36]
 }
 
 /// The decimal that the bytes spell, where they spell one.
-pub(crate) fn decimal_of(size: DecimalSize, text: &[u8]) -> Option<DecimalView<'_>>
+pub(crate) fn decimal_of(size: DecimalSize, text: &[u8]) -> Option<Cell<'_>>
     requires { length text.now ≡ decimal_len size.precision size.scale }
-    ensures { option_map decimal_view result ≡ decimal_of size.precision size.scale text.now }
+    ensures { option_map view result ≡ option_map decimal (decimal_of size.precision size.scale text.now) }
 {
     let len = decimal_len(size);
     let bytes = plain(text);
     if has_digits(size, &bytes[..len]) {
-        Some(DecimalView {
+        Some(Cell::Decimal(DecimalView {
             text,
-            precision: size.precision(),
-            scale: size.scale(),
-        })
+            precision: size.precision,
+            scale: size.scale,
+        }))
     } else {
         None
     }
@@ -159,8 +161,8 @@ pub(crate) fn known_decimal(size: DecimalSize, text: &[u8]) -> DecimalView<'_>
 {
     DecimalView {
         text,
-        precision: size.precision(),
-        scale: size.scale(),
+        precision: size.precision,
+        scale: size.scale,
     }
 }
 
@@ -208,8 +210,8 @@ pub(crate) fn digits_of(size: DecimalSize, bytes: &[u8]) -> Option<Digits>
     ensures digits { result ≡ digits_at size.precision size.scale bytes.now }
     ensures count { IfSome result (λ d. length d ≡ size.precision) }
 {
-    let scale = usize::from(size.scale());
-    let whole = usize::from(size.precision()) - scale;
+    let scale = usize::from(size.scale);
+    let whole = usize::from(size.precision) - scale;
     let mut digits = Digits::new();
     let rest = push_group_at(&mut digits, whole % 9, bytes)?;
     let rest = push_nines_at(&mut digits, whole / 9, rest)?;

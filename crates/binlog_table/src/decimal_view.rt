@@ -41,7 +41,10 @@ impl<'a> DecimalView<'a> {
         ensures { result ≡ (decimal_view self.now).digits }
     {
         let bytes = plain(self.text);
-        let size = DecimalSize::new(self.precision, self.scale);
+        let size = DecimalSize {
+            precision: self.precision,
+            scale: self.scale,
+        };
         digits_of(size, &bytes[..self.text.len()]).unwrap()
     }
 }

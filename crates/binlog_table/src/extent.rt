@@ -20,7 +20,7 @@ pub(crate) fn fraction_len(precision: Precision) -> usize
     ensures value { result ≡ fraction_len precision }
     ensures short { result ≤ 3 }
 {
-    (usize::from(precision.get()) + 1) / 2
+    (usize::from(precision.digits) + 1) / 2
 }
 
 /// Where the values of a layout end.
@@ -28,19 +28,19 @@ pub(crate) fn extent_of(layout: &Layout) -> Extent
     ensures { result ≡ extent_of layout.now }
 {
     match layout {
-        Layout::Integer(width) => Extent::Fixed(width.get()),
+        Layout::Integer(width) => Extent::Fixed(usize::from(width.bytes)),
         Layout::Year => Extent::Fixed(1),
         Layout::Date => Extent::Fixed(3),
         Layout::Text(width) => Extent::Prefixed(*width),
         Layout::Raw(width) => Extent::Prefixed(*width),
-        Layout::Float(width) => Extent::Fixed(width.get()),
-        Layout::Bits(width) => Extent::Fixed(width.get()),
+        Layout::Float(width) => Extent::Fixed(usize::from(width.bytes)),
+        Layout::Bits(width) => Extent::Fixed(usize::from(width.bytes)),
         Layout::Timestamp(precision) => Extent::Fixed(4 + fraction_len(*precision)),
         Layout::DateTime(precision) => Extent::Fixed(5 + fraction_len(*precision)),
         Layout::Time(precision) => Extent::Fixed(3 + fraction_len(*precision)),
         Layout::Decimal(size) => Extent::Fixed(decimal_len(*size)),
-        Layout::Enum(size) => Extent::Fixed(size.get()),
-        Layout::Set(width) => Extent::Fixed(width.get()),
+        Layout::Enum(size) => Extent::Fixed(usize::from(size.bytes)),
+        Layout::Set(width) => Extent::Fixed(usize::from(width.bytes)),
     }
 }
 
@@ -53,7 +53,7 @@ pub(crate) fn extent_len(extent: Extent, bytes: &[u8]) -> Option<usize>
     match extent {
         Extent::Fixed(len) => { if len <= bytes.len() { Some(len) } else { None } }
         Extent::Prefixed(width) => {
-            let width = width.get();
+            let width = usize::from(width.bytes);
             if width > bytes.len() {
                 return None;
             }

@@ -1,7 +1,7 @@
 //! The optional fields of a table map.
 ghost use Rattle.std.specs.Prelude.{◌≡◌, ◌≤◌, ◌+◌, ◌*◌, length};
 ghost use Rattle.binlog_table.specs.MapResult.{GivesExactly};
-ghost use Rattle.binlog_table.specs.Fields.{bytes_at, number_at, string_at, name_at, is_utf8, text_of, with_field, fields_from, no_fields};
+ghost use Rattle.binlog_table.specs.Fields.{bytes_at, number_at, string_at, name_at, is_utf8, text_of, is_refused, with_field, fields_from, no_fields};
 ghost use Rattle.binlog_table.specs.FieldsShown.{fields_view};
 
 use crate::fault::MapFault;
@@ -79,38 +79,38 @@ pub(crate) fn name_at(bytes: &[u8]) -> Result<(&str, &[u8]), MapFault>
     Ok((text_of(&rest[..len])?, &rest[len + 1..]))
 }
 
+/// Whether a field of a type can't be added: one of the type stands already, or of the two keys the other one.
+fn is_refused(fields: &Fields<'_>, kind: u8) -> bool
+    ensures { result ≡ is_refused (fields_view fields.now) kind }
+{
+    match kind {
+        1 => fields.signs.is_some(),
+        4 => fields.names.is_some(),
+        5 => fields.set_names.is_some(),
+        6 => fields.enum_names.is_some(),
+        8 | 9 => fields.key.is_some() || fields.prefix_key.is_some(),
+        _ => false,
+    }
+}
+
 /// The fields with one more: two of one type are refused, and both keys.
 fn with_field<'a>(fields: Fields<'a>, kind: u8, value: &'a [u8]) -> Result<Fields<'a>, MapFault>
     ensures { GivesExactly fields_view result (with_field (fields_view fields.entry) kind value.now) }
 {
-    match kind {
-        1 if fields.signs.is_none() => Ok(Fields {
-            signs: Some(value),
-            ..fields
-        }),
-        4 if fields.names.is_none() => Ok(Fields {
-            names: Some(value),
-            ..fields
-        }),
-        5 if fields.set_names.is_none() => Ok(Fields {
-            set_names: Some(value),
-            ..fields
-        }),
-        6 if fields.enum_names.is_none() => Ok(Fields {
-            enum_names: Some(value),
-            ..fields
-        }),
-        8 if fields.key.is_none() && fields.prefix_key.is_none() => Ok(Fields {
-            key: Some(value),
-            ..fields
-        }),
-        9 if fields.key.is_none() && fields.prefix_key.is_none() => Ok(Fields {
-            prefix_key: Some(value),
-            ..fields
-        }),
-        1 | 4 | 5 | 6 | 8 | 9 => Err(MapFault::BadMap),
-        _ => Ok(fields),
+    if is_refused(&fields, kind) {
+        return Err(MapFault::BadMap);
     }
+    let mut fields = fields;
+    match kind {
+        1 => fields.signs = Some(value),
+        4 => fields.names = Some(value),
+        5 => fields.set_names = Some(value),
+        6 => fields.enum_names = Some(value),
+        8 => fields.key = Some(value),
+        9 => fields.prefix_key = Some(value),
+        _ => {}
+    }
+    Ok(fields)
 }
 
 /// The optional fields, to the end of the bytes.

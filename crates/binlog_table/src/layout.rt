@@ -11,11 +11,11 @@ fn plain_layout(code: u8) -> Option<Layout>
     ensures { result ≡ plain_layout code }
 {
     match code {
-        1 => Some(Layout::Integer(ByteCount::new(1))),
-        2 => Some(Layout::Integer(ByteCount::new(2))),
-        9 => Some(Layout::Integer(ByteCount::new(3))),
-        3 => Some(Layout::Integer(ByteCount::new(4))),
-        8 => Some(Layout::Integer(ByteCount::new(8))),
+        1 => Some(Layout::Integer(ByteCount { bytes: 1 })),
+        2 => Some(Layout::Integer(ByteCount { bytes: 2 })),
+        9 => Some(Layout::Integer(ByteCount { bytes: 3 })),
+        3 => Some(Layout::Integer(ByteCount { bytes: 4 })),
+        8 => Some(Layout::Integer(ByteCount { bytes: 8 })),
         13 => Some(Layout::Year),
         10 => Some(Layout::Date),
         _ => None,
@@ -33,15 +33,15 @@ fn byte_layout(code: u8, byte: u8) -> Option<Layout>
     ensures { result ≡ byte_layout code byte }
 {
     match code {
-        4 => Some(Layout::Float(ByteCount::new(4))),
-        5 => Some(Layout::Float(ByteCount::new(8))),
-        17 if byte <= 6 => Some(Layout::Timestamp(Precision::new(byte))),
-        18 if byte <= 6 => Some(Layout::DateTime(Precision::new(byte))),
-        19 if byte <= 6 => Some(Layout::Time(Precision::new(byte))),
+        4 => Some(Layout::Float(ByteCount { bytes: 4 })),
+        5 => Some(Layout::Float(ByteCount { bytes: 8 })),
+        17 if byte <= 6 => Some(Layout::Timestamp(Precision { digits: byte })),
+        18 if byte <= 6 => Some(Layout::DateTime(Precision { digits: byte })),
+        19 if byte <= 6 => Some(Layout::Time(Precision { digits: byte })),
         17 | 18 | 19 => None,
         _ if byte < 1 || byte > 4 => None,
-        252 => Some(Layout::Text(ByteCount::new(byte))),
-        _ => Some(Layout::Raw(ByteCount::new(byte))),
+        252 => Some(Layout::Text(ByteCount { bytes: byte })),
+        _ => Some(Layout::Raw(ByteCount { bytes: byte })),
     }
 }
 
@@ -56,9 +56,9 @@ fn prefix(greatest: u16) -> ByteCount
     ensures { result ≡ prefix_len greatest }
 {
     if greatest <= 255 {
-        ByteCount::new(1)
+        ByteCount { bytes: 1 }
     } else {
-        ByteCount::new(2)
+        ByteCount { bytes: 2 }
     }
 }
 
@@ -73,7 +73,7 @@ fn bits_layout(odd: u8, whole: u8) -> Option<Layout>
     if bytes < 1 || bytes > 8 {
         return None;
     }
-    Some(Layout::Bits(ByteCount::new(bytes)))
+    Some(Layout::Bits(ByteCount { bytes }))
 }
 
 /// NEWDECIMAL, by its digits and those after the point.
@@ -83,7 +83,7 @@ fn decimal_layout(precision: u8, scale: u8) -> Option<Layout>
     if precision < 1 || precision > 65 || scale > 30 || scale > precision {
         return None;
     }
-    Some(Layout::Decimal(DecimalSize::new(precision, scale)))
+    Some(Layout::Decimal(DecimalSize { precision, scale }))
 }
 
 /// STRING, by its real type and its length.
@@ -93,12 +93,12 @@ fn string_layout(real: u8, len: u16) -> Result<Layout, MapFault>
     match real {
         254 => Ok(Layout::Text(prefix(len))),
         247 => match len {
-            1 => Ok(Layout::Enum(EnumSize::new(1))),
-            2 => Ok(Layout::Enum(EnumSize::new(2))),
+            1 => Ok(Layout::Enum(EnumSize { bytes: 1 })),
+            2 => Ok(Layout::Enum(EnumSize { bytes: 2 })),
             _ => Err(MapFault::BadMap),
         },
         248 => match len {
-            1 | 2 | 3 | 4 | 8 => Ok(Layout::Set(ByteCount::new(len as u8))),
+            1 | 2 | 3 | 4 | 8 => Ok(Layout::Set(ByteCount { bytes: len as u8 })),
             _ => Err(MapFault::BadMap),
         },
         _ => Err(MapFault::TypeOutOfProfile(real)),

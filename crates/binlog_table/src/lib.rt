@@ -15,6 +15,7 @@ mod image;
 mod key;
 mod laws;
 mod layout;
+mod lists;
 mod names;
 mod number;
 mod packed;

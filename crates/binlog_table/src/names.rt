@@ -1,9 +1,9 @@
 //! The names of columns, and the columns in the order of their names.
-ghost use Rattle.std.specs.Prelude.{◌≡◌, ◌≤◌, ◌<◌, ◌+◌, ◌-◌, true, false, length, map, option_map, IfOk, IfSome, vec_len};
+ghost use Rattle.std.specs.Prelude.{◌≡◌, ◌≤◌, ◌<◌, ◌+◌, ◌-◌, true, false, ℕ, List, length, map, option_map, is_some, IfOk, vec_len};
 ghost use Rattle.std.specs.String.{string_bytes};
 ghost use Rattle.binlog_table.specs.MapResult.{Gives};
-ghost use Rattle.binlog_table.specs.Names.{names_at, column_names, distinct_names, used_up};
-ghost use Rattle.binlog_table.specs.NameOrder.{IsNameOrder, AreNumbered, AreSorted, name_of, name_in};
+ghost use Rattle.binlog_table.specs.Names.{names_at, column_names, names_in, distinct_names, are_distinct, used_up};
+ghost use Rattle.binlog_table.specs.NameOrder.{IsNameOrder, AreNumbered, AreSorted, name_of, name_in, column_in};
 
 use crate::fault::MapFault;
 use crate::fields::{string_at, text_of};
@@ -68,40 +68,63 @@ fn is_repeated(sorted: &[(&str, usize)], place: usize) -> bool
     place > 0 && sorted[place - 1].0 == sorted[place].0
 }
 
+/// Whether a name stands twice.
+fn has_repeated(sorted: &[(&str, usize)]) -> bool
+    ensures yes { result ≡ true → (names : List (List ℕ)) → AreSorted names sorted.now → are_distinct names ≡ false }
+    ensures no { result ≡ false → (k : ℕ) → k + 1 < length (map name_in sorted.now) → name_of (map name_in sorted.now) k ≡ name_of (map name_in sorted.now) (k + 1) → ⊥ }
+{
+    for place in 0..sorted.len() {
+        if is_repeated(sorted, place) {
+            return true;
+        }
+    }
+    false
+}
+
+/// The columns of sorted names.
+fn sorted_columns(alloc: Global, sorted: &[(&str, usize)]) -> Result<Vec<usize>, AllocError>
+    ensures { IfOk result (λ o. o.items ≡ map column_in sorted.now) }
+{
+    let mut columns = Vec::with_capacity(alloc, sorted.len())?;
+    for (_, column) in sorted {
+        columns.push(*column)?;
+    }
+    Ok(columns)
+}
+
 /// The columns in the order of their names, where no name stands twice.
 fn name_order(alloc: Global, names: &[String]) -> Result<Vec<usize>, MapFault>
     ensures distinct { Gives (λ _. map string_bytes names.now) result (distinct_names (map string_bytes names.now)) }
     ensures order { IfOk result (λ o. IsNameOrder (map string_bytes names.now) o.items) }
 {
     let sorted = sorted_names(alloc, names)?;
-    let mut order = Vec::with_capacity(alloc, sorted.len())?;
-    for place in 0..sorted.len() {
-        if is_repeated(&sorted, place) {
-            return Err(MapFault::BadMap);
-        }
-        order.push(sorted[place].1)?;
+    if has_repeated(&sorted) {
+        return Err(MapFault::BadMap);
     }
-    Ok(order)
+    Ok(sorted_columns(alloc, &sorted)?)
 }
 
-/// The distinct names of so many columns, where there is such a field.
+/// The distinct names of so many columns, of which there are none where there is no such field.
 #[tactic(auto, unfolding(crate::specs::Names::column_names))]
 pub(crate) fn column_names(
     alloc: Global,
     count: usize,
     field: Option<&[u8]>,
-) -> Result<Option<ColumnNames>, MapFault>
-    ensures names { Gives (option_map (λ n. map string_bytes n.names.items)) result (column_names count (option_map (λ x. x.now) field.entry)) }
-    ensures count { IfOk result (λ o. IfSome o (λ n. vec_len n.names ≡ count)) }
-    ensures order { IfOk result (λ o. IfSome o (λ n. IsNameOrder (map string_bytes n.names.items) n.order.items)) }
+) -> Result<ColumnNames, MapFault>
+    ensures names { Gives (λ n. map string_bytes n.names.items) result (names_in count (option_map (λ x. x.now) field.entry)) }
+    ensures count { IfOk result (λ n. is_some field.entry ≡ true → vec_len n.names ≡ count) }
+    ensures order { IfOk result (λ n. IsNameOrder (map string_bytes n.names.items) n.order.items) }
 {
     let Some(bytes) = field else {
-        return Ok(None);
+        return Ok(ColumnNames {
+            names: Vec::new(alloc),
+            order: Vec::new(alloc),
+        });
     };
     let (names, rest) = names_of(alloc, count, bytes)?;
     if !rest.is_empty() {
         return Err(MapFault::BadMap);
     }
     let order = name_order(alloc, &names)?;
-    Ok(Some(ColumnNames { names, order }))
+    Ok(ColumnNames { names, order })
 }

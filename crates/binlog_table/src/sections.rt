@@ -1,7 +1,7 @@
 //! The parts of the body of a table map, as they stand.
 ghost use Rattle.std.specs.Prelude.{◌≡◌, ◌≤◌, ◌+◌, ◌/◌};
 ghost use Rattle.binlog_table.specs.MapResult.{GivesExactly};
-ghost use Rattle.binlog_table.specs.Map.{sections_at, sections_after, counted};
+ghost use Rattle.binlog_table.specs.Map.{sections_at, sections_after, table_names_at, count_at, types_at, counted};
 ghost use Rattle.binlog_table.specs.SectionsShown.{sections_view};
 
 use crate::fault::MapFault;
@@ -38,18 +38,41 @@ fn nulls_len(count: u64) -> u64
     (count + 7) / 8
 }
 
+/// The names of the schema and of the table, and the bytes after them.
+fn table_names_at(bytes: &[u8]) -> Result<(&str, &str, &[u8]), MapFault>
+    ensures { GivesExactly (λ x. (x.0.now, (x.1.now, x.2.now))) result (table_names_at bytes.now) }
+{
+    let (schema, rest) = name_at(bytes)?;
+    let (table, rest) = name_at(rest)?;
+    Ok((schema, table, rest))
+}
+
+/// How many columns there are, and the bytes after that number.
+fn count_at(bytes: &[u8]) -> Result<(u64, &[u8]), MapFault>
+    ensures { GivesExactly (λ x. (x.0, x.1.now)) result (count_at bytes.now) }
+{
+    let (count, rest) = number_at(bytes)?;
+    Ok((counted(count)?, rest))
+}
+
+/// The types of the columns and their metadata, and the bytes after the bits of nulls.
+fn types_at(bytes: &[u8]) -> Result<(&[u8], &[u8], &[u8]), MapFault>
+    ensures { GivesExactly (λ x. (x.0.now, (x.1.now, x.2.now))) result (types_at bytes.now) }
+{
+    let (count, rest) = count_at(bytes)?;
+    let (types, rest) = bytes_at(count, rest)?;
+    let (metadata, rest) = string_at(rest)?;
+    let (_, rest) = bytes_at(nulls_len(count), rest)?;
+    Ok((types, metadata, rest))
+}
+
 /// The sections after the table id and the flags.
 #[tactic(auto, unfolding(crate::specs::Map::sections_after))]
 fn sections_after(table_id: u64, bytes: &[u8]) -> Result<Sections<'_>, MapFault>
     ensures { GivesExactly sections_view result (sections_after table_id bytes.now) }
 {
-    let (schema, rest) = name_at(bytes)?;
-    let (table, rest) = name_at(rest)?;
-    let (count, rest) = number_at(rest)?;
-    let count = counted(count)?;
-    let (types, rest) = bytes_at(count, rest)?;
-    let (metadata, rest) = string_at(rest)?;
-    let (_, rest) = bytes_at(nulls_len(count), rest)?;
+    let (schema, table, rest) = table_names_at(bytes)?;
+    let (types, metadata, rest) = types_at(rest)?;
     let fields = fields_of(rest)?;
     Ok(Sections {
         table_id,

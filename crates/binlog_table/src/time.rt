@@ -1,10 +1,10 @@
 //! Dates and times by their bytes.
-ghost use Rattle.std.specs.Prelude.{◌≡◌, ◌≤◌, ◌+◌, ◌^◌, length};
+ghost use Rattle.std.specs.Prelude.{◌≡◌, ◌≤◌, ◌+◌, ◌^◌, length, option_map};
 ghost use Rattle.byteorder.specs.Endian.{little_number};
 ghost use Rattle.binlog_table.specs.Extent.{fraction_len};
-ghost use Rattle.binlog_table.specs.Value.{fraction_of, date_of, timestamp_of, date_time_of, time_of};
+ghost use Rattle.binlog_table.specs.Value.{fraction_of, date_of, timestamp_of, date_time_of, time_of, view, timestamp, date_time, time};
 
-use crate::cell::{Date, DateTime, Time, Timestamp};
+use crate::cell::{Cell, Date, DateTime, Time, Timestamp};
 use crate::column::Precision;
 use crate::extent::fraction_len;
 use crate::number::big;
@@ -50,22 +50,22 @@ pub(crate) fn date_of(text: &[u8]) -> Date
 }
 
 #[tactic(auto, unfolding(crate::specs::Value::timestamp_of))]
-pub(crate) fn timestamp_of(precision: Precision, text: &[u8]) -> Option<Timestamp>
+pub(crate) fn timestamp_of(precision: Precision, text: &[u8]) -> Option<Cell<'_>>
     requires { length text.now ≡ 4 + fraction_len precision }
-    ensures { result ≡ timestamp_of precision text.now }
+    ensures { option_map view result ≡ option_map timestamp (timestamp_of precision text.now) }
 {
     let fraction = fraction_of(precision, &text[4..])?;
-    Some(Timestamp {
+    Some(Cell::Timestamp(Timestamp {
         seconds: BigEndian::read_u32(text),
         fraction,
-        precision: precision.get(),
-    })
+        precision: precision.digits,
+    }))
 }
 
 #[tactic(auto, unfolding(crate::specs::Value::date_time_of))]
-pub(crate) fn date_time_of(precision: Precision, text: &[u8]) -> Option<DateTime>
+pub(crate) fn date_time_of(precision: Precision, text: &[u8]) -> Option<Cell<'_>>
     requires { length text.now ≡ 5 + fraction_len precision }
-    ensures { result ≡ date_time_of precision text.now }
+    ensures { option_map view result ≡ option_map date_time (date_time_of precision text.now) }
 {
     let number = BigEndian::read_uint(text, 5);
     if number < 1 << 39 {
@@ -74,7 +74,7 @@ pub(crate) fn date_time_of(precision: Precision, text: &[u8]) -> Option<DateTime
     let packed = number - (1 << 39);
     let fraction = fraction_of(precision, &text[5..])?;
     let year_and_month = packed >> 22;
-    Some(DateTime {
+    Some(Cell::DateTime(DateTime {
         year: (year_and_month / 13) as u32,
         month: (year_and_month % 13) as u8,
         day: ((packed >> 17) % 32) as u8,
@@ -82,8 +82,8 @@ pub(crate) fn date_time_of(precision: Precision, text: &[u8]) -> Option<DateTime
         minute: ((packed >> 6) % 64) as u8,
         second: (packed % 64) as u8,
         fraction,
-        precision: precision.get(),
-    })
+        precision: precision.digits,
+    }))
 }
 
 /// The first number that is no fraction of so many bytes.
@@ -100,9 +100,9 @@ fn fraction_limit(len: usize) -> u64
 }
 
 #[tactic(auto, unfolding(crate::specs::Value::time_of))]
-pub(crate) fn time_of(precision: Precision, text: &[u8]) -> Option<Time>
+pub(crate) fn time_of(precision: Precision, text: &[u8]) -> Option<Cell<'_>>
     requires { length text.now ≡ 3 + fraction_len precision }
-    ensures { result ≡ time_of precision text.now }
+    ensures { option_map view result ≡ option_map time (time_of precision text.now) }
 {
     let len = fraction_len(precision);
     let number = big(text, 3 + len);
@@ -119,12 +119,12 @@ pub(crate) fn time_of(precision: Precision, text: &[u8]) -> Option<Time>
     if hour >= 1024 || fraction >= fraction_limit(len) {
         return None;
     }
-    Some(Time {
+    Some(Cell::Time(Time {
         negative,
         hour: hour as u16,
         minute: (above / 64 % 64) as u8,
         second: (above % 64) as u8,
         fraction: fraction as u32,
-        precision: precision.get(),
-    })
+        precision: precision.digits,
+    }))
 }

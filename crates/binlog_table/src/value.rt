@@ -18,9 +18,9 @@ pub(crate) fn value_of<'a>(column: &Column, text: &'a [u8]) -> Option<Cell<'a>>
     match &column.layout {
         Layout::Integer(width) => {
             if column.unsigned {
-                Some(Cell::UInt(little(text, width.get())))
+                Some(Cell::UInt(little(text, usize::from(width.bytes))))
             } else {
-                Some(Cell::Int(little_signed(text, width.get())))
+                Some(Cell::Int(little_signed(text, usize::from(width.bytes))))
             }
         }
         Layout::Year => {
@@ -28,16 +28,16 @@ pub(crate) fn value_of<'a>(column: &Column, text: &'a [u8]) -> Option<Cell<'a>>
             Some(Cell::Year(if byte == 0 { 0 } else { 1900 + byte }))
         }
         Layout::Date => Some(Cell::Date(date_of(text))),
-        Layout::Text(width) => Some(Cell::Bytes(&text[width.get()..])),
-        Layout::Raw(width) => Some(Cell::Raw(&text[width.get()..])),
+        Layout::Text(width) => Some(Cell::Bytes(&text[usize::from(width.bytes)..])),
+        Layout::Raw(width) => Some(Cell::Raw(&text[usize::from(width.bytes)..])),
         Layout::Float(_) => Some(Cell::Raw(text)),
-        Layout::Bits(width) => Some(Cell::Bits(big(text, width.get()))),
-        Layout::Timestamp(precision) => Some(Cell::Timestamp(timestamp_of(*precision, text)?)),
-        Layout::DateTime(precision) => Some(Cell::DateTime(date_time_of(*precision, text)?)),
-        Layout::Time(precision) => Some(Cell::Time(time_of(*precision, text)?)),
-        Layout::Decimal(size) => Some(Cell::Decimal(decimal_of(*size, text)?)),
-        Layout::Enum(size) => Some(Cell::Enum(little(text, size.get()) as u16)),
-        Layout::Set(width) => Some(Cell::Set(little(text, width.get()))),
+        Layout::Bits(width) => Some(Cell::Bits(big(text, usize::from(width.bytes)))),
+        Layout::Timestamp(precision) => timestamp_of(*precision, text),
+        Layout::DateTime(precision) => date_time_of(*precision, text),
+        Layout::Time(precision) => time_of(*precision, text),
+        Layout::Decimal(size) => decimal_of(*size, text),
+        Layout::Enum(size) => Some(Cell::Enum(little(text, usize::from(size.bytes)) as u16)),
+        Layout::Set(width) => Some(Cell::Set(little(text, usize::from(width.bytes)))),
     }
 }
 

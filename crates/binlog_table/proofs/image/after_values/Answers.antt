@@ -1,4 +1,4 @@
-use Rattle.std.proofs.Common.{◌≡◌, ◌+◌, drop, arith}
+use Rattle.std.proofs.Common.{drop, arith}
 use Rattle.std.proofs.lemmas.List.{take_rest}
 use Rattle.binlog_table.specs.Image.{cells_at}
 use Rattle.binlog_table.proofs.CellWalk.{end_from, whole-stops, whole-goes, walk-ends}

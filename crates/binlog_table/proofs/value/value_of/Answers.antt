@@ -3,22 +3,6 @@ use Rattle.binlog_table.specs.Value
 use Rattle.std.proofs.Common.{arith}
 use Rattle.std.proofs.lemmas.Grind.{common_steps}
 
-pub returns-in_err-timestamp_of-in-Timestamp : goal.returns-in_err-timestamp_of-in-Timestamp
-unfolding Value.value_of
-returns-in_err-timestamp_of-in-Timestamp c = grind (arith, common_steps)
-
-pub returns-in_err-date_time_of-in-DateTime : goal.returns-in_err-date_time_of-in-DateTime
-unfolding Value.value_of
-returns-in_err-date_time_of-in-DateTime c = grind (arith, common_steps)
-
-pub returns-in_err-time_of-in-Time : goal.returns-in_err-time_of-in-Time
-unfolding Value.value_of
-returns-in_err-time_of-in-Time c = grind (arith, common_steps)
-
-pub returns-in_err-decimal_of-in-Decimal : goal.returns-in_err-decimal_of-in-Decimal
-unfolding Value.value_of
-returns-in_err-decimal_of-in-Decimal c = grind (arith, common_steps)
-
 pub returns-then-column : goal.returns-then-column
 unfolding Value.value_of
 returns-then-column c = grind (arith, common_steps)
@@ -51,21 +35,21 @@ pub returns-in-Bits : goal.returns-in-Bits
 unfolding Value.value_of
 returns-in-Bits c = grind (arith, common_steps)
 
-pub returns-in_ok-timestamp_of-in-Timestamp : goal.returns-in_ok-timestamp_of-in-Timestamp
+pub returns-in-Timestamp : goal.returns-in-Timestamp
 unfolding Value.value_of
-returns-in_ok-timestamp_of-in-Timestamp c = grind (arith, common_steps)
+returns-in-Timestamp c = grind (arith, common_steps)
 
-pub returns-in_ok-date_time_of-in-DateTime : goal.returns-in_ok-date_time_of-in-DateTime
+pub returns-in-DateTime : goal.returns-in-DateTime
 unfolding Value.value_of
-returns-in_ok-date_time_of-in-DateTime c = grind (arith, common_steps)
+returns-in-DateTime c = grind (arith, common_steps)
 
-pub returns-in_ok-time_of-in-Time : goal.returns-in_ok-time_of-in-Time
+pub returns-in-Time : goal.returns-in-Time
 unfolding Value.value_of
-returns-in_ok-time_of-in-Time c = grind (arith, common_steps)
+returns-in-Time c = grind (arith, common_steps)
 
-pub returns-in_ok-decimal_of-in-Decimal : goal.returns-in_ok-decimal_of-in-Decimal
+pub returns-in-Decimal : goal.returns-in-Decimal
 unfolding Value.value_of
-returns-in_ok-decimal_of-in-Decimal c = grind (arith, common_steps)
+returns-in-Decimal c = grind (arith, common_steps)
 
 pub returns-in-Enum : goal.returns-in-Enum
 unfolding Value.value_of

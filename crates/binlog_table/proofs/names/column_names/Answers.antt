@@ -1,0 +1,12 @@
+use Rattle.std.proofs.Common.{[], arith}
+use Rattle.std.proofs.lemmas.Cmp.{nat_list_cmp_total}
+use Rattle.std.proofs.lemmas.List.Sorted.{IsPermutation-refl}
+use Rattle.std.proofs.lemmas.Map.Keys.{sorted_from_all_adjacent}
+use Rattle.binlog_table.specs.NameOrder.{IsNameOrder}
+use Rattle.binlog_table.proofs.names.column_names.Goals as goal
+
+no_names : IsNameOrder [] []
+no_names = record { each = IsPermutation-refl []; ascending = sorted_from_all_adjacent nat_list_cmp_total [] [] (λ k lt. absurd (omega arith)) }
+
+pub returns-in_default-clause-order : goal.returns-in_default-clause-order
+returns-in_default-clause-order c = rw (c.new.ensures.items, c.new-in_default.ensures.items) no_names
