@@ -1,11 +1,12 @@
 -- Joining sorted intervals keeps their numbers and leaves gaps.
-use Rattle.std.proofs.Common.{◌≡◌, ◌⊎◌, ◌↔◌, ℕ, suc, ◌+◌, ◌<◌, ◌≤◌, Bool, true, false, cond, ◌||◌, ◌&&◌, eqb, leb, List, [], ◌∷◌, ◌++◌, get_or, inl, inr, sym, ap, ◌∙◌, refl, subst, append_assoc, arith}
+use Rattle.std.proofs.Common.{◌≡◌, ◌⊎◌, ◌↔◌, ℕ, suc, ◌+◌, ◌<◌, ◌≤◌, Bool, true, false, cond, ◌||◌, ◌&&◌, eqb, leb, List, [], ◌∷◌, ◌++◌, length, get_or, drop, inl, inr, sym, ap, ◌∙◌, refl, subst, append_assoc, arith}
 use Rattle.std.specs.List.{All, list_any}
 use Rattle.std.specs.List.Sorted.{IsPermutation, IsSorted}
 use Rattle.std.specs.Ordering.{nat_cmp, ordering_then, is_lt}
 use Rattle.std.specs.declared.cmp.Ordering.{Ordering}
 use Rattle.std.proofs.lemmas.Bool.{true≢false, cases_lt}
 use Rattle.std.proofs.lemmas.Bool.Decides.{nat_tests}
+use Rattle.std.proofs.lemmas.List.{at_drop_more}
 use Rattle.std.proofs.lemmas.List.Elements.{All-head, All-tail}
 use Rattle.std.proofs.lemmas.List.Sorted.{list_any-IsPermutation}
 use Rattle.binlog_select.specs.declared.interval.Interval.{Interval}
@@ -154,3 +155,22 @@ AreRising-sorted (x ∷ y ∷ xs) sorted = (
       let next : suc k + 1 ≡ suc (k + 1) = omega arith in
       subst (λ m. is_lt (by_parts (get_or (x ∷ y ∷ xs) m d) (get_or (y ∷ xs) k d)) ≡ false) next (sorted (suc k) d (omega arith) (omega arith))),
 )
+
+-- one interval more is looked at: it is joined to the current one where the two touch, and else the current one stands alone
+pub merged-touching : (rest : List Interval) (at : ℕ) (d current union : Interval) (items more : List Interval)
+    → at < length rest → true ≡ touches current (get_or rest at d) → more ≡ items → union ≡ united current (get_or rest at d)
+    → more ++ merged union (drop (at + 1) rest) ≡ items ++ merged current (drop at rest)
+merged-touching rest at d current union items more below touch same is =
+    let next = get_or rest at d in
+    let left = drop (at + 1) rest in
+    let step = at_drop_more (merged current) rest at d below ∙ ap (λ b. cond b (merged (united current next) left) (current ∷ merged next left)) (sym touch) in
+    rw (same, is) (ap (λ l. items ++ l) (sym step))
+
+pub merged-apart : (rest : List Interval) (at : ℕ) (d current last : Interval) (items more : List Interval)
+    → at < length rest → false ≡ touches current (get_or rest at d) → more ≡ items ++ (current ∷ []) → last ≡ get_or rest at d
+    → more ++ merged last (drop (at + 1) rest) ≡ items ++ merged current (drop at rest)
+merged-apart rest at d current last items more below touch one is =
+    let next = get_or rest at d in
+    let left = drop (at + 1) rest in
+    let step = at_drop_more (merged current) rest at d below ∙ ap (λ b. cond b (merged (united current next) left) (current ∷ merged next left)) (sym touch) in
+    rw (one, is) (append_assoc items (current ∷ []) (merged next left) ∙ ap (λ l. items ++ l) (sym step))

@@ -1,3 +1,4 @@
+pub mod AppendLemmas
 pub mod DecimalLemmas
 pub mod FilterLemmas
 pub mod IntervalLemmas
