@@ -1,13 +1,15 @@
--- A command with one argument more, and what it was given.
-use Rattle.std.proofs.Common.{◌≡◌, false, ◌||◌, ap, ap₂, ◌∙◌, List, [], Some, None, Result, Ok, Err, subst, option_map, unwrap_or}
+-- A command with one argument more, or one subcommand, and what it was given.
+use Rattle.std.proofs.Common.{◌≡◌, ℕ, suc, ◌+◌, ◌<◌, ◌≤◌, arith, sym, drop, drop-cons, get_or, length, false, ◌||◌, ap, ap₂, ◌∙◌, List, [], Some, None, Result, Ok, Err, subst, option_map, unwrap_or}
 use Rattle.clap.specs.Words.{App, Rule, Text, AddsArg, AddsSubcommand, app_of, rule_of, with_rule, with_subcommand, raw_values, matched_of, all_of, rows_of}
+use Rattle.std.proofs.lemmas.List.{drop_all}
 use Rattle.std.specs.Prelude.{IfOk}
 use Rattle.clap.proofs.WalkLemmas.{raw_values-rows}
 use Rattle.clap.specs.declared.parser.matches.Found.{Found}
 use Rattle.clap.specs.declared.builder.arg.Arg.{Arg}
 use Rattle.clap.specs.declared.builder.command.Command.{Command}
 use Rattle.clap.specs.declared.builder.command.Command.TheViews.{out-Command}
-use Rattle.binlogfeed.specs.Commands.{IsBuilt, HasApp}
+use Rattle.binlogfeed.specs.Commands.{IsBuilt, HasApp, rule_of_words, with_options}
+use Rattle.binlogfeed.specs.declared.commands.OptionWords.{OptionWords}
 
 pub adds : (old : Command) (argument : Arg) (new : Command) (app : App) (rule : Rule) → AddsArg old argument new → argument.global ≡ false → app_of old ≡ app → rule_of argument ≡ rule
     → app_of new ≡ with_rule app rule
@@ -20,18 +22,25 @@ pub adds_subcommand : (old sub new : Command) (app sub_app : App) → AddsSubcom
     → app_of new ≡ with_subcommand app sub_app.top
 adds_subcommand old sub new app sub_app h local app_is sub_is = h.shape local ∙ ap₂ with_subcommand app_is (ap (λ a. a.top) sub_is)
 
--- a command of this shape, without a global option
-abbrev pub HasShape : App → Command → Type 0
-HasShape app command = (app_of command ≡ app) × ((out-Command command).has_globals ≡ false)
+-- one of the options, behind those that a command has
+pub option_added : (old new : Command) (argument : Arg) (app : App) (options : List OptionWords) (at : ℕ) (none : OptionWords) → at < length options
+    → AddsArg old argument new → argument.global ≡ false → rule_of argument ≡ rule_of_words (get_or options at none)
+    → with_options (app_of old) (drop at options) ≡ app → with_options (app_of new) (drop (at + 1) options) ≡ app
+option_added old new argument app options at none within adds_it local same before =
+    let next : at + 1 ≡ suc at = omega arith in
+    ap (λ (n : ℕ). with_options (app_of new) (drop n options)) next
+    ∙ ap (λ (a : App). with_options a (drop (suc at) options)) (adds_it.shape local ∙ ap (with_rule (app_of old)) same)
+    ∙ sym (ap (with_options (app_of old)) (drop-cons options at none within)) ∙ before
 
--- where there may have been no memory
-pub argument_added : {E : Type 0} (built new : Result Command E) (old : Command) (argument : Arg) (app : App) (rule : Rule) → built ≡ Ok old → argument.global ≡ false → IfOk new (λ made. AddsArg old argument made)
-    → rule_of argument ≡ rule → IsBuilt app built → IsBuilt (with_rule app rule) new
-argument_added built (Ok made) old argument app rule e local h same before =
-    let was = subst (IsBuilt app) e before in
-    (adds old argument made app rule h local was.0 same, adds_local old argument made h local was.1)
-argument_added built (Err error) old argument app rule e local h same before = tt
+-- and the files behind all of them
+pub files_added : {E : Type 0} (old : Command) (new : Result Command E) (argument : Arg) (app : App) (rule : Rule) (options : List OptionWords) (at : ℕ) → length options ≤ at
+    → IfOk new (λ made. AddsArg old argument made) → argument.global ≡ false → rule_of argument ≡ rule
+    → with_options (app_of old) (drop at options) ≡ app → (out-Command old).has_globals ≡ false → IsBuilt (with_rule app rule) new
+files_added old (Err error) argument app rule options at past h local same before old_local = tt
+files_added old (Ok new) argument app rule options at past h local same before old_local =
+    (adds old argument new app rule h local (ap (with_options (app_of old)) (sym (drop_all at options past)) ∙ before) same, adds_local old argument new h local old_local)
 
+-- where there may have been no memory for either
 pub subcommand_added : {E : Type 0} (built sub new : Result Command E) (old inner : Command) (app inner_app : App) → built ≡ Ok old → sub ≡ Ok inner → IfOk new (λ made. AddsSubcommand old inner made)
     → HasApp app built → IsBuilt inner_app sub → HasApp (with_subcommand app inner_app.top) new
 subcommand_added built sub (Ok made) old inner app inner_app e f h before sub_before =

@@ -1,11 +1,29 @@
 //! The command line: its subcommands, with their options and their help.
 ghost use Rattle.std.specs.Prelude.{◌≡◌, IfOk, false};
-ghost use Rattle.clap.specs.Words.{App, rule_of, app_of, with_rule, with_subcommand};
-ghost use Rattle.binlogfeed.specs.Words.{file_rule, option_rule, required_rule, with_option, with_required, transactions_app, read_app, history_app, program_app};
-ghost use Rattle.binlogfeed.specs.Commands.{IsBuilt, HasApp};
+ghost use Rattle.clap.specs.Words.{App, rule_of, app_of, with_subcommand};
+ghost use Rattle.binlogfeed.specs.Words.{file_rule, program_app};
+ghost use Rattle.binlogfeed.specs.Commands.{IsBuilt, HasApp, rule_of_words, app_of_words};
 
 use clap::{Arg, ArgAction, Command};
 use std::alloc::{AllocError, Global};
+
+/// The words of an option that has one value, and is given at most once.
+#[derive(Clone, Copy)]
+struct OptionWords {
+    name: &'static str,
+    value: &'static str,
+    help: &'static str,
+    is_required: bool,
+}
+
+/// The words of a subcommand, which takes files behind its options.
+#[derive(Clone, Copy)]
+struct SubcommandWords {
+    name: &'static str,
+    about: &'static str,
+    after_help: &'static str,
+    options: &'static [OptionWords],
+}
 
 const ABOUT: &str = "Reads binary log files of MySQL 8.0, and says what stands in them";
 
@@ -30,6 +48,13 @@ end of the last, in bytes from the file's start; the GTID, or `-`; how it ends
 
 Example:
   binlogfeed transactions /var/lib/mysql/binlog.000001 /var/lib/mysql/binlog.000002";
+
+const TRANSACTIONS: SubcommandWords = SubcommandWords {
+    name: "transactions",
+    about: TRANSACTIONS_ABOUT,
+    after_help: TRANSACTIONS_AFTER,
+    options: &[],
+};
 
 const READ_ABOUT: &str = "Writes a line of JSON for each row change of a committed transaction";
 
@@ -70,19 +95,57 @@ Examples:
   binlogfeed read --auto-position 3e11fa47-71ca-11e1-9e33-c80aa9429562:1-5:7 binlog.000001
   binlogfeed read --from 3406.1@binlog.000001 binlog.000001 binlog.000002";
 
-const ONLY_EVENTS_HELP: &str = "Only changes of these kinds: insert, update, delete";
+const READ_OPTIONS: [OptionWords; 7] = [
+    OptionWords {
+        name: "only-events",
+        value: "LIST",
+        help: "Only changes of these kinds: insert, update, delete",
+        is_required: false,
+    },
+    OptionWords {
+        name: "only-tables",
+        value: "LIST",
+        help: "Only changes of tables with these names, in any schema",
+        is_required: false,
+    },
+    OptionWords {
+        name: "ignored-tables",
+        value: "LIST",
+        help: "No changes of tables with these names, in any schema",
+        is_required: false,
+    },
+    OptionWords {
+        name: "only-schemas",
+        value: "LIST",
+        help: "Only changes of tables in these schemas",
+        is_required: false,
+    },
+    OptionWords {
+        name: "ignored-schemas",
+        value: "LIST",
+        help: "No changes of tables in these schemas",
+        is_required: false,
+    },
+    OptionWords {
+        name: "auto-position",
+        value: "SET",
+        help: "No changes of transactions with these GTIDs",
+        is_required: false,
+    },
+    OptionWords {
+        name: "from",
+        value: "TOKEN",
+        help: "Only changes behind the one that has this token",
+        is_required: false,
+    },
+];
 
-const ONLY_TABLES_HELP: &str = "Only changes of tables with these names, in any schema";
-
-const IGNORED_TABLES_HELP: &str = "No changes of tables with these names, in any schema";
-
-const ONLY_SCHEMAS_HELP: &str = "Only changes of tables in these schemas";
-
-const IGNORED_SCHEMAS_HELP: &str = "No changes of tables in these schemas";
-
-const AUTO_POSITION_HELP: &str = "No changes of transactions with these GTIDs";
-
-const FROM_HELP: &str = "Only changes behind the one that has this token";
+const READ: SubcommandWords = SubcommandWords {
+    name: "read",
+    about: READ_ABOUT,
+    after_help: READ_AFTER,
+    options: &READ_OPTIONS,
+};
 
 const HISTORY_ABOUT: &str = "Writes the line of each row change that has a key, in log order";
 
@@ -102,11 +165,33 @@ Examples, with a key of one column, of two, and one of bytes that aren't text:
   binlogfeed history --schema shop --table line --key '[7,2]' binlog.000001
   binlogfeed history --schema shop --table device --key '[{\"base64\":\"/+4=\"}]' binlog.000001";
 
-const SCHEMA_HELP: &str = "The schema of the table";
+const HISTORY_OPTIONS: [OptionWords; 3] = [
+    OptionWords {
+        name: "schema",
+        value: "NAME",
+        help: "The schema of the table",
+        is_required: true,
+    },
+    OptionWords {
+        name: "table",
+        value: "NAME",
+        help: "The table, named without its schema",
+        is_required: true,
+    },
+    OptionWords {
+        name: "key",
+        value: "JSON",
+        help: "The values of the primary key's columns, as a JSON array",
+        is_required: true,
+    },
+];
 
-const TABLE_HELP: &str = "The table, named without its schema";
-
-const KEY_HELP: &str = "The values of the primary key's columns, as a JSON array";
+const HISTORY: SubcommandWords = SubcommandWords {
+    name: "history",
+    about: HISTORY_ABOUT,
+    after_help: HISTORY_AFTER,
+    options: &HISTORY_OPTIONS,
+};
 
 /// One file or more.
 fn file_argument<'a>(alloc: Global) -> Arg<'a>
@@ -120,134 +205,46 @@ fn file_argument<'a>(alloc: Global) -> Arg<'a>
         .num_args(1..)
 }
 
-/// An option that has one value, and is given at most once.
-fn option<'a>(alloc: Global, name: &'a str, value: &'a str, help: &'a str) -> Arg<'a>
-    ensures rule { rule_of result ≡ option_rule name.entry.now }
+fn option_argument<'a>(alloc: Global, words: &'a OptionWords) -> Arg<'a>
+    ensures rule { rule_of result ≡ rule_of_words words.entry.now }
     ensures local { result.global ≡ false }
 {
-    Arg::new(alloc, name)
-        .long(name)
-        .value_name(value)
-        .help(help)
+    Arg::new(alloc, words.name)
+        .long(words.name)
+        .value_name(words.value)
+        .help(words.help)
+        .required(words.is_required)
         .action(ArgAction::Set)
 }
 
-/// An option that has one value, and must be given.
-fn required_option<'a>(alloc: Global, name: &'a str, value: &'a str, help: &'a str) -> Arg<'a>
-    ensures rule { rule_of result ≡ required_rule name.entry.now }
-    ensures local { result.global ≡ false }
+/// A subcommand, which takes files behind its options.
+fn subcommand<'a>(alloc: Global, words: &'a SubcommandWords) -> Result<Command<'a>, AllocError>
+    ensures { IsBuilt (app_of_words words.entry.now) result }
 {
-    option(alloc, name, value, help).required(true)
-}
-
-/// Adds the files to a command, for which there may have been no memory.
-fn add_files<'a>(
-    alloc: Global,
-    command: Result<Command<'a>, AllocError>,
-) -> Result<Command<'a>, AllocError>
-    ensures { (app : App) → IsBuilt app command.entry → IsBuilt (with_rule app file_rule) result }
-{
-    match command {
-        Ok(command) => command.arg(file_argument(alloc)),
-        Err(error) => Err(error),
+    let mut command = Command::new(alloc, words.name)
+        .about(words.about)
+        .after_help(words.after_help);
+    'options: for option in words.options {
+        command = command.arg(option_argument(alloc, option))?;
     }
+    command.arg(file_argument(alloc))
 }
 
-/// Adds an option to a command, for which there may have been no memory.
-fn add_option<'a>(
-    alloc: Global,
-    command: Result<Command<'a>, AllocError>,
-    name: &'a str,
-    value: &'a str,
-    help: &'a str,
-) -> Result<Command<'a>, AllocError>
-    ensures { (app : App) → IsBuilt app command.entry → IsBuilt (with_option app name.entry.now) result }
-{
-    match command {
-        Ok(command) => command.arg(option(alloc, name, value, help)),
-        Err(error) => Err(error),
-    }
-}
-
-/// Adds an option that must be given to a command, for which there may have been no memory.
-fn add_required_option<'a>(
-    alloc: Global,
-    command: Result<Command<'a>, AllocError>,
-    name: &'a str,
-    value: &'a str,
-    help: &'a str,
-) -> Result<Command<'a>, AllocError>
-    ensures { (app : App) → IsBuilt app command.entry → IsBuilt (with_required app name.entry.now) result }
-{
-    match command {
-        Ok(command) => command.arg(required_option(alloc, name, value, help)),
-        Err(error) => Err(error),
-    }
-}
-
-/// Adds a subcommand to a command. There may have been no memory for either.
+/// Adds a subcommand to a command, for which there may have been no memory.
 fn add_subcommand<'a>(
+    alloc: Global,
     command: Result<Command<'a>, AllocError>,
-    subcommand: Result<Command<'a>, AllocError>,
+    words: &'a SubcommandWords,
 ) -> Result<Command<'a>, AllocError>
-    ensures { (app inner : App) → HasApp app command.entry → IsBuilt inner subcommand.entry → HasApp (with_subcommand app inner.top) result }
+    ensures { (app : App) → HasApp app command.entry → HasApp (with_subcommand app (app_of_words words.entry.now).top) result }
 {
-    let Ok(command) = command else {
-        return Err(AllocError);
-    };
-    let Ok(subcommand) = subcommand else {
-        return Err(AllocError);
-    };
-    command.subcommand(subcommand)
-}
-
-fn transactions_command<'a>(alloc: Global) -> Result<Command<'a>, AllocError>
-    ensures { IsBuilt transactions_app result }
-{
-    let command = Command::new(alloc, "transactions")
-        .about(TRANSACTIONS_ABOUT)
-        .after_help(TRANSACTIONS_AFTER);
-    add_files(alloc, Ok(command))
-}
-
-fn read_command<'a>(alloc: Global) -> Result<Command<'a>, AllocError>
-    ensures { IsBuilt read_app result }
-{
-    let command = Command::new(alloc, "read")
-        .about(READ_ABOUT)
-        .after_help(READ_AFTER);
-    let command = add_option(alloc, Ok(command), "only-events", "LIST", ONLY_EVENTS_HELP);
-    let command = add_option(alloc, command, "only-tables", "LIST", ONLY_TABLES_HELP);
-    let command = add_option(
-        alloc,
-        command,
-        "ignored-tables",
-        "LIST",
-        IGNORED_TABLES_HELP,
-    );
-    let command = add_option(alloc, command, "only-schemas", "LIST", ONLY_SCHEMAS_HELP);
-    let command = add_option(
-        alloc,
-        command,
-        "ignored-schemas",
-        "LIST",
-        IGNORED_SCHEMAS_HELP,
-    );
-    let command = add_option(alloc, command, "auto-position", "SET", AUTO_POSITION_HELP);
-    let command = add_option(alloc, command, "from", "TOKEN", FROM_HELP);
-    add_files(alloc, command)
-}
-
-fn history_command<'a>(alloc: Global) -> Result<Command<'a>, AllocError>
-    ensures { IsBuilt history_app result }
-{
-    let command = Command::new(alloc, "history")
-        .about(HISTORY_ABOUT)
-        .after_help(HISTORY_AFTER);
-    let command = add_required_option(alloc, Ok(command), "schema", "NAME", SCHEMA_HELP);
-    let command = add_required_option(alloc, command, "table", "NAME", TABLE_HELP);
-    let command = add_required_option(alloc, command, "key", "JSON", KEY_HELP);
-    add_files(alloc, command)
+    match command {
+        Ok(command) => match subcommand(alloc, words) {
+            Ok(added) => command.subcommand(added),
+            Err(error) => Err(error),
+        },
+        Err(error) => Err(error),
+    }
 }
 
 /// The program's command line.
@@ -257,7 +254,7 @@ pub(crate) fn program<'a>(alloc: Global) -> Result<Command<'a>, AllocError>
     let command = Command::new(alloc, "binlogfeed")
         .about(ABOUT)
         .after_help(STATUSES);
-    let command = add_subcommand(Ok(command), transactions_command(alloc));
-    let command = add_subcommand(command, read_command(alloc));
-    add_subcommand(command, history_command(alloc))
+    let command = add_subcommand(alloc, Ok(command), &TRANSACTIONS);
+    let command = add_subcommand(alloc, command, &READ);
+    add_subcommand(alloc, command, &HISTORY)
 }

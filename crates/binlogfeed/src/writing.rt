@@ -1,8 +1,9 @@
 //! Text on its way to a writer.
 ghost use Rattle.std.specs.Prelude.{◌≡◌, ◌<◌, ◌++◌, [], length, OnOk, OnErr};
 ghost use Rattle.std.specs.Io.KnownBytes.{Appends};
-ghost use Rattle.binlogfeed.specs.Sending.{AppendsBeginning, IsSending, Adds, enough_waits};
+ghost use Rattle.binlogfeed.specs.Sending.{AppendsBeginning, IsSending, Adds, enough_waits, fault_of_adding};
 
+use crate::fault::RunFault;
 use std::alloc::AllocError;
 use std::io::Write;
 
@@ -34,6 +35,16 @@ impl From<AllocError> for AddFault {
 
     fn from(_: AllocError) -> AddFault {
         AddFault::OutOfMemory
+    }
+}
+
+/// Why a run ends where a line was not added.
+pub(crate) fn fault_of_adding(fault: AddFault) -> RunFault
+    ensures { result ≡ fault_of_adding fault }
+{
+    match fault {
+        AddFault::Write => RunFault::Write,
+        AddFault::OutOfMemory => RunFault::OutOfMemory,
     }
 }
 
