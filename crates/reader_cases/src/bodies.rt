@@ -123,11 +123,10 @@ fn told_body(alloc: Global, kind: &str, body: &[u8]) -> Result<String, Refused> 
 
 /// `body KIND PART..`: what the body of an event of that kind says.
 pub fn body_text(alloc: Global, pieces: &Pieces, words: &[String]) -> Result<String, Refused> {
-    let Some((kind, parts)) = words.split_first() else {
-        return Err(Refused::BadPart);
-    };
-    let bytes = pieces.bytes_of(alloc, parts)?;
-    told_body(alloc, kind.as_str(), bytes.as_slice())
+    match words {
+        [kind, parts @ ..] => told_body(alloc, kind.as_str(), &pieces.bytes_of(alloc, parts)?),
+        [] => Err(Refused::BadPart),
+    }
 }
 
 /// The numbers at which a list has `true`, neighbours as a range.
@@ -151,21 +150,30 @@ fn has_reading(alloc: Global, kind: u8, body: &[u8]) -> Result<bool, Refused> {
     Ok(text.as_str() != BAD_BODY)
 }
 
-/// `lengths KIND PART..`: which beginnings of a body have a reading, by their lengths.
-pub fn lengths_text(alloc: Global, pieces: &Pieces, words: &[String]) -> Result<String, Refused> {
-    let Some((kind, parts)) = words.split_first() else {
-        return Err(Refused::BadPart);
-    };
-    let kind = kind_of(kind.as_str())?;
-    let bytes = pieces.bytes_of(alloc, parts)?;
+/// Which beginnings of a body have a reading.
+fn readable(alloc: Global, kind: u8, body: &[u8]) -> Result<Vec<bool>, Refused> {
     let mut readable = Vec::new(alloc);
-    for length in 0..=bytes.len() {
-        readable.push(has_reading(alloc, kind, &bytes[..length])?)?;
+    for length in 0..=body.len() {
+        readable.push(has_reading(alloc, kind, &body[..length])?)?;
     }
+    Ok(readable)
+}
+
+/// The line of the lengths of a body's readable beginnings.
+fn told_lengths(alloc: Global, kind: &str, body: &[u8]) -> Result<String, Refused> {
+    let readable = readable(alloc, kind_of(kind)?, body)?;
     let mut text = Page::new(alloc);
     text.push_str("readable");
-    show_ranges(&mut text, readable.as_slice());
+    show_ranges(&mut text, &readable);
     text.into_text()
+}
+
+/// `lengths KIND PART..`: which beginnings of a body have a reading, by their lengths.
+pub fn lengths_text(alloc: Global, pieces: &Pieces, words: &[String]) -> Result<String, Refused> {
+    match words {
+        [kind, parts @ ..] => told_lengths(alloc, kind.as_str(), &pieces.bytes_of(alloc, parts)?),
+        [] => Err(Refused::BadPart),
+    }
 }
 
 /// The class of a kind, where a header has these flags.

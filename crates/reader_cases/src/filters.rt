@@ -1,8 +1,10 @@
 //! Filters: which changes pass.
+use crate::page::Page;
 use crate::sets::{answer_of, gtid_of, set_of};
 use binlog_select::{ChangeKind, Filter, Kinds, Names};
 use case_language::Refused;
 use std::alloc::Global;
+use uuid::Uuid;
 
 fn kind_of(word: &str) -> Result<ChangeKind, Refused> {
     match word {
@@ -13,36 +15,46 @@ fn kind_of(word: &str) -> Result<ChangeKind, Refused> {
     }
 }
 
+/// Appends a name.
+fn push_name(alloc: Global, names: &mut Vec<String>, name: &str) -> Result<(), Refused> {
+    Ok(names.push(String::from_str(alloc, name)?)?)
+}
+
 /// The names between commas; where nothing follows a list's name, no names.
 fn names_of(alloc: Global, list: Option<&str>) -> Result<Vec<String>, Refused> {
     let mut names = Vec::new(alloc);
-    let Some(list) = list else {
-        return Ok(names);
-    };
-    for name in list.split(',') {
-        names.push(String::from_str(alloc, name)?)?;
+    if let Some(list) = list {
+        for name in list.split(',') {
+            push_name(alloc, &mut names, name)?;
+        }
     }
     Ok(names)
 }
 
-/// The kinds between commas.
-fn kinds_of(alloc: Global, list: Option<&str>) -> Result<Kinds, Refused> {
+/// The kinds that names are.
+fn kinds_named(alloc: Global, names: &[String]) -> Result<Kinds, Refused> {
     let mut kinds = Vec::new(alloc);
-    for name in &names_of(alloc, list)? {
+    for name in names {
         kinds.push(kind_of(name.as_str())?)?;
     }
     Ok(Kinds::from(kinds))
 }
 
+/// The kinds between commas.
+fn kinds_of(alloc: Global, list: Option<&str>) -> Result<Kinds, Refused> {
+    kinds_named(alloc, &names_of(alloc, list)?)
+}
+
 /// Gives a filter a list of names.
 fn set_names(filter: &mut Filter, option: &str, names: Names) -> Result<(), Refused> {
-    match option {
-        "only-tables" => filter.only_tables = Some(names),
-        "ignored-tables" => filter.ignored_tables = Some(names),
-        "only-schemas" => filter.only_schemas = Some(names),
-        "ignored-schemas" => filter.ignored_schemas = Some(names),
+    let list = match option {
+        "only-tables" => &mut filter.only_tables,
+        "ignored-tables" => &mut filter.ignored_tables,
+        "only-schemas" => &mut filter.only_schemas,
+        "ignored-schemas" => &mut filter.ignored_schemas,
         _ => return Err(Refused::UnknownWord),
-    }
+    };
+    *list = Some(names);
     Ok(())
 }
 
@@ -56,21 +68,36 @@ pub fn set_list(
     match option {
         "only-events" => filter.only_events = Some(kinds_of(alloc, list)?),
         "auto-position" => filter.auto_position = set_of(alloc, list.unwrap_or("")).ok(),
-        _ => set_names(filter, option, Names::from(names_of(alloc, list)?))?,
+        _ => return set_names(filter, option, Names::from(names_of(alloc, list)?)),
     }
     Ok(())
 }
 
-/// The filter with these lists.
-fn filter_of(alloc: Global, lists: &[String]) -> Result<Filter, Refused> {
-    let mut filter = Filter::new();
-    for list in lists {
-        match list.as_str().split_once('=') {
-            Some((name, names)) => set_list(alloc, &mut filter, name, Some(names))?,
-            None => set_list(alloc, &mut filter, list.as_str(), None)?,
-        }
+/// Gives a filter the list of a word.
+fn set_word(alloc: Global, filter: &mut Filter, word: &str) -> Result<(), Refused> {
+    match word.split_once('=') {
+        Some((name, names)) => set_list(alloc, filter, name, Some(names)),
+        None => set_list(alloc, filter, word, None),
     }
-    Ok(filter)
+}
+
+/// Gives a filter the lists of words.
+fn set_words(alloc: Global, filter: &mut Filter, words: &[String]) -> Result<(), Refused> {
+    for word in words {
+        set_word(alloc, filter, word.as_str())?;
+    }
+    Ok(())
+}
+
+/// Whether a change of a kind, a table of a schema and a GTID passes a filter.
+fn is_passed(
+    filter: &Filter,
+    kind: &str,
+    table: (&str, &str),
+    gtid: Option<(Uuid, u64)>,
+) -> Result<bool, Refused> {
+    let (schema, table) = table;
+    Ok(filter.passes(kind_of(kind)?, schema, table, gtid))
 }
 
 /// Whether a change of a kind, a schema, a table and a GTID passes a filter with the lists behind them.
@@ -78,10 +105,15 @@ fn passes(alloc: Global, words: &[String]) -> Result<bool, Refused> {
     let [kind, schema, table, gtid, lists @ ..] = words else {
         return Err(Refused::BadPart);
     };
-    let kind = kind_of(kind.as_str())?;
     let gtid = gtid_of(alloc, gtid.as_str())?;
-    let filter = filter_of(alloc, lists)?;
-    Ok(filter.passes(kind, schema.as_str(), table.as_str(), gtid))
+    let mut filter = Filter::new();
+    set_words(alloc, &mut filter, lists)?;
+    is_passed(
+        &filter,
+        kind.as_str(),
+        (schema.as_str(), table.as_str()),
+        gtid,
+    )
 }
 
 /// `passes KIND SCHEMA TABLE GTID LIST..`: whether such a change passes such a filter.
@@ -89,16 +121,26 @@ pub fn passes_text(alloc: Global, words: &[String]) -> Result<String, Refused> {
     answer_of(alloc, passes(alloc, words)?)
 }
 
-/// `names NAME..`: the names as a set of names gives them back, a line each.
-pub fn names_text(alloc: Global, words: &[String]) -> Result<String, Refused> {
+/// The set of these names.
+fn set_of_names(alloc: Global, words: &[String]) -> Result<Names, Refused> {
     let mut names = Vec::new(alloc);
     for word in words {
-        names.push(String::from_str(alloc, word.as_str())?)?;
+        push_name(alloc, &mut names, word.as_str())?;
     }
-    let mut text = String::new(alloc);
-    for name in &Names::from(names).into_vec() {
-        text.push_str(name.as_str())?;
-        text.push('\n')?;
+    Ok(Names::from(names))
+}
+
+/// Names, a line each.
+fn show_names(alloc: Global, names: &[String]) -> Result<String, Refused> {
+    let mut text = Page::new(alloc);
+    for name in names {
+        text.push_str(name.as_str());
+        text.push('\n');
     }
-    Ok(text)
+    text.into_text()
+}
+
+/// `name-set NAME..`: the names as a set of names gives them back, a line each.
+pub fn names_text(alloc: Global, words: &[String]) -> Result<String, Refused> {
+    show_names(alloc, &set_of_names(alloc, words)?.into_vec())
 }

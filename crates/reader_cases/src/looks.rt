@@ -121,14 +121,35 @@ fn looks_by<'a>(
     looks_around(place, changes, change, end_of_file, reach)
 }
 
+/// Appends the looks at a change in a line, up to which reads had reached so far, and beside it.
+fn push_looks<'a>(
+    looks: &mut Vec<Look<'a>>,
+    plain: &'a Told,
+    line: &'a str,
+    reach: Place,
+) -> Result<(), Refused> {
+    let place = place_in(line)?;
+    Ok(looks.extend_from_slice(&looks_by(plain, line, place, reach))?)
+}
+
 /// The looks at the changes that a plain feed told, and beside them.
 pub fn looks_of(alloc: Global, plain: &Told) -> Result<Vec<Look<'_>>, Refused> {
     let mut looks = Vec::new(alloc);
     for (given, line) in plain.given.iter().zip(plain.text.as_str().lines()) {
-        let place = place_in(line)?;
-        looks.extend_from_slice(&looks_by(plain, line, place, given.1))?;
+        push_looks(&mut looks, plain, line, given.1)?;
     }
     Ok(looks)
+}
+
+/// Writes why there is no change at a place.
+fn show_refusal(line: &mut Page, fault: AtFault) -> Answer {
+    match fault {
+        AtFault::Feed(fault) => show_fault(line, fault),
+        fault => {
+            write!(line, "{fault:?}");
+            Answer::Ended(None)
+        }
+    }
 }
 
 /// Asks for the change at a place, and writes it, or why there is none.
@@ -138,11 +159,7 @@ fn ask_at<L: Logs>(feed: &mut Feed<L>, token: &Token, line: &mut Page) -> Answer
             show_change(line, &change);
             Answer::Gave
         }
-        Err(AtFault::Feed(fault)) => show_fault(line, fault),
-        Err(fault) => {
-            write!(line, "{fault:?}");
-            Answer::Ended(None)
-        }
+        Err(fault) => show_refusal(line, fault),
     }
 }
 

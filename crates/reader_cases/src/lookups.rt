@@ -1,8 +1,8 @@
 //! Changes that a feed looks up between its steps.
 use crate::feed::show_change;
 use crate::page::Page;
-use crate::reads::source_of;
-use crate::starts::first_parts;
+use crate::reads::{first_window, source_of};
+use crate::starts::Parts;
 use binlog_feed::Feed;
 use binlog_frame::MemoryLogs;
 use binlog_select::Token;
@@ -20,15 +20,13 @@ fn parts_of(words: &[String]) -> (&[String], &[String]) {
     words.split_at(options.min(words.len()))
 }
 
-/// A feed of a case's files, with the first of the case's windows.
-fn feed_of(alloc: Global, case: &Case, options: &[String]) -> Result<Feed<MemoryLogs>, Refused> {
-    let window = case.windows.first().copied().unwrap_or(0);
-    let logs = source_of(alloc, case)?;
-    let (filter, start, window) = first_parts(alloc, options, window)?;
-    match Feed::open(alloc, logs, filter, start, window) {
-        Ok(feed) => Ok(feed),
-        Err(_) => Err(Refused::BadPart),
-    }
+/// What a feed of a case's files is opened with, by these options and with the first of the case's windows.
+pub fn parts_of_case(
+    alloc: Global,
+    case: &Case,
+    options: &[String],
+) -> Result<Parts<MemoryLogs>, Refused> {
+    Parts::first(alloc, source_of(alloc, case)?, options, first_window(case))
 }
 
 /// What the feed gives next.
@@ -73,9 +71,19 @@ fn show_orders(
     text.into_text()
 }
 
+/// What a feed of these parts gives for each order.
+fn look_up(alloc: Global, parts: Parts<MemoryLogs>, orders: &[String]) -> Result<String, Refused> {
+    match parts.open(alloc) {
+        Ok(mut feed) => show_orders(alloc, &mut feed, orders),
+        Err(_) => Err(Refused::BadPart),
+    }
+}
+
 /// `look-up OPTION.. ORDER..`: what a feed with these options gives for each order, which is `next` or a token to look up.
 pub fn lookups_text(alloc: Global, case: &Case, words: &[String]) -> Result<String, Refused> {
     let (options, orders) = parts_of(words);
-    let mut feed = feed_of(alloc, case, options)?;
-    show_orders(alloc, &mut feed, orders)
+    match parts_of_case(alloc, case, options) {
+        Ok(parts) => look_up(alloc, parts, orders),
+        Err(why) => Err(why),
+    }
 }

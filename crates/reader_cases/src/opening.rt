@@ -3,6 +3,7 @@ use crate::looks::looks_of;
 use crate::page::Page;
 use crate::reading::{plain_of, tell_source};
 use crate::reads::show_names;
+use crate::steps::Told;
 use crate::watched::{Seen, Watched};
 use crate::ways::{Layer, Reading};
 use binlog_frame::{FileLogs, OpenFault};
@@ -62,14 +63,19 @@ fn names_at<R: Files + AllocGlobal>(rt: &R, paths: &[&str]) -> Result<String, Re
     text.into_text()
 }
 
+/// A path, and the bytes of its file.
+fn held_by<R: Files + AllocGlobal>(rt: &R, path: &str) -> Result<Named, Refused> {
+    match fs::read(rt, path) {
+        Ok(bytes) => Ok((String::from_str(rt.alloc(), path)?, bytes)),
+        Err(_) => Err(Refused::UnknownName),
+    }
+}
+
 /// What the files of paths hold.
 fn held_at<R: Files + AllocGlobal>(rt: &R, paths: &[&str]) -> Result<Vec<Named>, Refused> {
     let mut held = Vec::new(rt.alloc());
     for path in paths {
-        match fs::read(rt, *path) {
-            Ok(bytes) => held.push((String::from_str(rt.alloc(), path)?, bytes))?,
-            Err(_) => return Err(Refused::UnknownName),
-        }
+        held.push(held_by(rt, path)?)?;
     }
     Ok(held)
 }
@@ -82,8 +88,26 @@ fn read_opened<R: Files + AllocGlobal>(
     paths: &[&str],
     held: &[Named],
 ) -> Result<Verdict, Refused> {
-    let plain = plain_of(rt.alloc(), held, layer)?;
-    let looks = looks_of(rt.alloc(), &plain)?;
+    read_with(
+        rt,
+        case,
+        layer,
+        paths,
+        held,
+        &plain_of(rt.alloc(), held, layer)?,
+    )
+}
+
+/// Reads the files of paths, with the looks at what a plain feed told.
+fn read_with<R: Files + AllocGlobal>(
+    rt: &R,
+    case: &Case,
+    layer: Layer,
+    paths: &[&str],
+    held: &[Named],
+    plain: &Told,
+) -> Result<Verdict, Refused> {
+    let looks = looks_of(rt.alloc(), plain)?;
     let reading = Reading {
         looks: &looks,
         ..Reading::plain(layer, case.reads, 0)

@@ -1,25 +1,25 @@
 //! What units and feeds hand back in the middle of their way.
+use crate::lookups::parts_of_case;
 use crate::page::Page;
-use crate::reads::source_of;
+use crate::reads::{first_window, source_of};
 use crate::steps::{Answer, Steps};
-use binlog_feed::{Feed, Start, Units};
+use binlog_feed::{Feed, Units};
 use binlog_frame::{Logs, MemoryLogs};
-use binlog_select::Filter;
 use case_language::{Case, Refused, number};
 use std::alloc::Global;
 
 /// `parts units COUNT` and `parts feed COUNT`: the source and the window after so many calls, with the first of the case's windows.
 pub fn parts_text(alloc: Global, case: &Case, words: &[String]) -> Result<String, Refused> {
-    let (layer, count) = match words {
-        [layer, count] => (layer.as_str(), number(count.as_str())?),
-        _ => return Err(Refused::BadPart),
-    };
-    let logs = source_of(alloc, case)?;
-    let window = case.windows.first().copied().unwrap_or(0);
-    let window = vec![in alloc; 0u8; window]?;
+    match words {
+        [layer, count] => parts_of(alloc, case, layer.as_str(), number(count.as_str())?),
+        _ => Err(Refused::BadPart),
+    }
+}
+
+fn parts_of(alloc: Global, case: &Case, layer: &str, count: usize) -> Result<String, Refused> {
     match layer {
-        "units" => parts_of_units(alloc, logs, window, count),
-        "feed" => parts_of_feed(alloc, logs, window, count),
+        "units" => parts_of_units(alloc, case, count),
+        "feed" => parts_of_feed(alloc, case, count),
         _ => Err(Refused::UnknownWord),
     }
 }
@@ -51,15 +51,11 @@ fn show_parts(text: &mut Page, logs: &MemoryLogs, window: &[u8]) {
     );
 }
 
-fn parts_of_units(
-    alloc: Global,
-    logs: MemoryLogs,
-    window: Vec<u8>,
-    count: usize,
-) -> Result<String, Refused> {
-    match Units::open(alloc, logs, window) {
-        Err(_) => Err(Refused::BadPart),
+fn parts_of_units(alloc: Global, case: &Case, count: usize) -> Result<String, Refused> {
+    let window = vec![in alloc; 0u8; first_window(case)]?;
+    match Units::open(alloc, source_of(alloc, case)?, window) {
         Ok(units) => told_units(alloc, units, count),
+        Err(_) => Err(Refused::BadPart),
     }
 }
 
@@ -78,15 +74,10 @@ fn told_units(
     text.into_text()
 }
 
-fn parts_of_feed(
-    alloc: Global,
-    logs: MemoryLogs,
-    window: Vec<u8>,
-    count: usize,
-) -> Result<String, Refused> {
-    match Feed::open(alloc, logs, Filter::new(), Start::Beginning, window) {
-        Err(_) => Err(Refused::BadPart),
+fn parts_of_feed(alloc: Global, case: &Case, count: usize) -> Result<String, Refused> {
+    match parts_of_case(alloc, case, &[])?.open(alloc) {
         Ok(feed) => told_feed(alloc, feed, count),
+        Err(_) => Err(Refused::BadPart),
     }
 }
 

@@ -1,8 +1,8 @@
 //! Frames, units and the feed over a case's files, step by step.
 use crate::frames::{Pass, Shown};
-use crate::looks::{Looking, looks_of};
-use crate::starts::open_feed;
-use crate::steps::{Steps, Told, tell_all};
+use crate::looks::looks_of;
+use crate::starts::{Parts, tell_feed};
+use crate::steps::{Told, tell_all};
 use crate::sweeps::sweep;
 use crate::watched::{Seen, Watched};
 use crate::ways::{Layer, Reading, Way};
@@ -32,14 +32,25 @@ pub fn tell_source<L: Logs + Drop>(
     reading: Reading<'_>,
 ) -> Result<Told, Refused> {
     let mut told = Told::new(alloc, reading.way.shows_refusals());
-    match reading.layer {
-        Layer::Frames(shown) => tell_frames(alloc, logs, seen, held, shown, reading, &mut told)?,
-        Layer::Units => tell_units(alloc, logs, seen, reading.window, &mut told)?,
-        Layer::Feed | Layer::Looks => tell_feed(alloc, logs, seen, reading, &mut told)?,
-    }
+    tell_layer(alloc, logs, seen, held, reading, &mut told)?;
     told.note_reads(seen);
     told.text.whole()?;
     Ok(told)
+}
+
+fn tell_layer<L: Logs + Drop>(
+    alloc: Global,
+    logs: L,
+    seen: &Cell<Seen>,
+    held: &[Named],
+    reading: Reading<'_>,
+    told: &mut Told,
+) -> Result<(), Refused> {
+    match reading.layer {
+        Layer::Frames(shown) => tell_frames(alloc, logs, seen, held, shown, reading, told),
+        Layer::Units => tell_units(alloc, logs, seen, reading.window, told),
+        Layer::Feed | Layer::Looks => tell_feed_of(alloc, logs, seen, reading, told),
+    }
 }
 
 fn tell_frames<L: Logs + Drop>(
@@ -94,35 +105,17 @@ fn tell_units<L: Logs + Drop>(
     }
 }
 
-/// What a feed tells. It is looked into between its steps where there are looks.
-fn tell_feed<L: Logs + Drop>(
+/// What a feed tells.
+fn tell_feed_of<L: Logs + Drop>(
     alloc: Global,
     logs: L,
     seen: &Cell<Seen>,
     reading: Reading<'_>,
     told: &mut Told,
 ) -> Result<(), Refused> {
-    match open_feed(alloc, logs, seen, reading, told)? {
-        None => Ok(()),
-        Some(feed) => {
-            let mut looking = Looking::new(alloc, feed, reading.looks, seen);
-            tell_opened(alloc, &mut looking, reading.way, seen, told)
-        }
-    }
-}
-
-/// What a reader tells that was opened: all, or only that it was.
-fn tell_opened<S: Steps>(
-    alloc: Global,
-    steps: &mut S,
-    way: Way,
-    seen: &Cell<Seen>,
-    told: &mut Told,
-) -> Result<(), Refused> {
-    if way.only_opens() {
-        told.note("opened", seen.get().reach)
-    } else {
-        tell_all(alloc, steps, seen, told)
+    match Parts::first(alloc, logs, reading.options, reading.window) {
+        Ok(parts) => tell_feed(alloc, parts, seen, reading, told),
+        Err(why) => Err(why),
     }
 }
 
@@ -154,16 +147,34 @@ pub fn judge_reading(
     if !is_offered(layer, word, options) {
         return Err(Refused::UnknownWord);
     }
-    let way = Way::of(word);
-    let plain = plain_of(alloc, &case.files, layer)?;
-    let looks = looks_of(alloc, &plain)?;
     let reading = Reading {
-        way,
+        way: Way::of(word),
         options,
-        looks: &looks,
         ..Reading::plain(layer, case.reads, SMALL_WINDOW)
     };
-    match way {
+    judge_with(
+        alloc,
+        case,
+        word,
+        reading,
+        &plain_of(alloc, &case.files, layer)?,
+    )
+}
+
+/// Reads in a way, with the looks at what a plain feed told.
+fn judge_with(
+    alloc: Global,
+    case: &Case,
+    word: &str,
+    reading: Reading<'_>,
+    plain: &Told,
+) -> Result<Verdict, Refused> {
+    let looks = looks_of(alloc, plain)?;
+    let reading = Reading {
+        looks: &looks,
+        ..reading
+    };
+    match reading.way {
         Way::Swept => sweep(alloc, case, word, reading),
         _ => each_window(alloc, case, reading),
     }

@@ -23,6 +23,11 @@ pub fn source_of(alloc: Global, case: &Case) -> Result<MemoryLogs, Refused> {
     source(copies_of(alloc, &case.files)?, case.reads)
 }
 
+/// The length of the first of the case's windows.
+pub fn first_window(case: &Case) -> usize {
+    case.windows.first().copied().unwrap_or(0)
+}
+
 /// `names`: the names and lengths of the case's files, or that they are refused.
 pub fn names_of_files(alloc: Global, case: &Case) -> Result<String, Refused> {
     let files = copies_of(alloc, &case.files)?;
@@ -64,13 +69,28 @@ fn read_once(
     Ok(())
 }
 
+/// Lets one of the reads to come fail.
+fn let_fail(logs: &mut MemoryLogs, digits: &str) -> Result<(), Refused> {
+    logs.fail_read(number(digits)? as u64);
+    Ok(())
+}
+
 /// Lets the reads to come give so many bytes at most.
-fn let_short(logs: &mut MemoryLogs, most: usize) -> Result<(), Refused> {
+fn let_short(logs: &mut MemoryLogs, digits: &str) -> Result<(), Refused> {
+    let most = number(digits)?;
     if most == 0 {
         return Err(Refused::BadPart);
     }
     logs.short_reads(most);
     Ok(())
+}
+
+/// A read by its words: the file, and `OFFSET:COUNT` behind it.
+fn read_of(file: &str, rest: &str) -> Result<(usize, u64, usize), Refused> {
+    match rest.split_once(':') {
+        Some((offset, count)) => Ok((number(file)?, number(offset)? as u64, number(count)?)),
+        None => Err(Refused::BadPart),
+    }
 }
 
 /// Whether the reads to come fail or are short, or one read: `fail:NUMBER`, `short:NUMBER` or `FILE:OFFSET:COUNT`.
@@ -84,17 +104,10 @@ fn take_step(
         return Err(Refused::BadPart);
     };
     match word {
-        "fail" => logs.fail_read(number(rest)? as u64),
-        "short" => let_short(logs, number(rest)?)?,
-        _ => {
-            let Some((offset, count)) = rest.split_once(':') else {
-                return Err(Refused::BadPart);
-            };
-            let read = (number(word)?, number(offset)? as u64, number(count)?);
-            read_once(alloc, logs, read, text)?;
-        }
+        "fail" => let_fail(logs, rest),
+        "short" => let_short(logs, rest),
+        _ => read_once(alloc, logs, read_of(word, rest)?, text),
     }
-    Ok(())
 }
 
 /// `reads STEP..`: reads of the case's files, one after the other.

@@ -10,15 +10,7 @@ const SOURCE: &str = "3e11fa47-71ca-11e1-9e33-c80aa9429562";
 
 /// The text with the source in the place of each `U`.
 pub fn with_source(alloc: Global, text: &str) -> Result<String, AllocError> {
-    let mut spelled = String::new(alloc);
-    for letter in text.chars() {
-        if letter == 'U' {
-            spelled.push_str(SOURCE)?;
-        } else {
-            spelled.push(letter)?;
-        }
-    }
-    Ok(spelled)
+    text.replace(alloc, 'U', SOURCE)
 }
 
 /// The set that a text names, with `U` for the source.
@@ -44,14 +36,7 @@ pub fn gtid_of(alloc: Global, word: &str) -> Result<Option<(Uuid, u64)>, Refused
 
 /// The text with `U` in the place of each source that is written as sets are.
 fn shortened(alloc: Global, text: &str) -> Result<String, AllocError> {
-    let mut short = String::new(alloc);
-    for (number, part) in text.split(SOURCE).enumerate() {
-        if number > 0 {
-            short.push('U')?;
-        }
-        short.push_str(part)?;
-    }
-    Ok(short)
+    text.replace(alloc, SOURCE, "U")
 }
 
 fn push_fault(text: &mut String, fault: SetFault) -> Result<(), AllocError> {
@@ -94,17 +79,32 @@ fn push_forms(alloc: Global, once: &mut String, spelled: &str) -> Result<(), All
     Ok(())
 }
 
+/// Ends the line of a written form, which may be empty.
+fn end_line(text: &mut String) -> Result<(), AllocError> {
+    if text.is_empty() {
+        text.push_str("nothing")?;
+    }
+    text.push('\n')
+}
+
+/// The line of the set that a text names, with the source in full.
+fn line_of(alloc: Global, spelled: &str) -> Result<String, AllocError> {
+    let mut once = String::new(alloc);
+    push_forms(alloc, &mut once, spelled)?;
+    end_line(&mut once)?;
+    Ok(once)
+}
+
+/// The line of the set that a text names, with `U` for the source in both.
+fn told_set(alloc: Global, text: &str) -> Result<String, AllocError> {
+    let line = line_of(alloc, &with_source(alloc, text)?)?;
+    shortened(alloc, line.as_str())
+}
+
 /// `set PART..`: the written form of the set that a text names, or its fault. Behind a written form stands what it names, where that is
 /// written in another way.
 pub fn set_text(alloc: Global, pieces: &Pieces, words: &[String]) -> Result<String, Refused> {
-    let spelled = pieces.text_of(alloc, words)?;
-    let mut once = String::new(alloc);
-    push_forms(alloc, &mut once, &with_source(alloc, spelled.as_str())?)?;
-    if once.is_empty() {
-        once.push_str("nothing")?;
-    }
-    once.push('\n')?;
-    Ok(shortened(alloc, once.as_str())?)
+    Ok(told_set(alloc, &pieces.text_of(alloc, words)?)?)
 }
 
 /// An answer as text.

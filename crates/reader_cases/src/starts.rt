@@ -1,6 +1,7 @@
 //! Feeds: their filter and start by options of the command line, and their opening.
 use crate::filters::set_list;
-use crate::steps::Told;
+use crate::looks::Looking;
+use crate::steps::{Told, tell_opened};
 use crate::watched::Seen;
 use crate::ways::{Reading, Way};
 use binlog_feed::{Feed, OpenFeedFault, Start};
@@ -34,93 +35,199 @@ fn start_of(alloc: Global, options: &[String]) -> Result<Start, Refused> {
     Ok(Start::Beginning)
 }
 
-/// The filter that the other options give, each with one value.
-fn filter_of(alloc: Global, options: &[String]) -> Result<Filter, Refused> {
-    let mut filter = Filter::new();
+/// Gives a filter the list of the option at a place, unless that is a value or `--from`.
+fn set_option(
+    alloc: Global,
+    filter: &mut Filter,
+    options: &[String],
+    at: usize,
+    option: &str,
+) -> Result<(), Refused> {
+    match option.strip_prefix("--") {
+        None | Some("from") => Ok(()),
+        Some(name) => set_list(alloc, filter, name, Some(value_at(options, at)?)),
+    }
+}
+
+/// Gives a filter the lists of the options, each with one value.
+fn set_options(alloc: Global, filter: &mut Filter, options: &[String]) -> Result<(), Refused> {
     for (at, option) in options.iter().enumerate() {
-        match option.as_str().strip_prefix("--") {
-            None | Some("from") => {}
-            Some(name) => set_list(alloc, &mut filter, name, Some(value_at(options, at)?))?,
+        set_option(alloc, filter, options, at, option.as_str())?;
+    }
+    Ok(())
+}
+
+/// What a feed is opened with.
+#[derive(Drop)]
+pub struct Parts<L> {
+    logs: L,
+    filter: Filter,
+    start: Start,
+    window: Vec<u8>,
+}
+
+/// The source, and the filter and the start that options give.
+fn parts_with<L: Logs + Drop>(
+    alloc: Global,
+    logs: L,
+    options: &[String],
+    window: Vec<u8>,
+) -> Result<Parts<L>, Refused> {
+    let start = start_of(alloc, options)?;
+    let mut filter = Filter::new();
+    set_options(alloc, &mut filter, options)?;
+    Ok(Parts {
+        logs,
+        filter,
+        start,
+        window,
+    })
+}
+
+impl<L: Logs + Drop> Parts<L> {
+    /// The parts before a feed is opened, by options and the length of the window.
+    pub fn first(
+        alloc: Global,
+        logs: L,
+        options: &[String],
+        window: usize,
+    ) -> Result<Parts<L>, Refused> {
+        parts_with(alloc, logs, options, vec![in alloc; 0u8; window]?)
+    }
+
+    /// Opens a feed, or gives all back.
+    pub fn open(self, alloc: Global) -> Result<Feed<L>, (OpenFeedFault, Parts<L>)> {
+        let Parts {
+            logs,
+            filter,
+            start,
+            window,
+        } = self;
+        match Feed::open(alloc, logs, filter, start, window) {
+            Ok(feed) => Ok(feed),
+            Err((fault, logs, filter, start, window)) => Err((
+                fault,
+                Parts {
+                    logs,
+                    filter,
+                    start,
+                    window,
+                },
+            )),
         }
     }
-    Ok(filter)
 }
 
-/// What a feed is opened with, beside its source.
-pub fn first_parts(
-    alloc: Global,
-    options: &[String],
-    window: usize,
-) -> Result<(Filter, Start, Vec<u8>), Refused> {
-    let window = vec![in alloc; 0u8; window]?;
-    let start = start_of(alloc, options)?;
-    let filter = filter_of(alloc, options)?;
-    Ok((filter, start, window))
-}
-
-/// A window of a length, if there is memory for it.
-fn larger(alloc: Global, length: u32, told: &mut Told) -> Option<Vec<u8>> {
+/// Exchanges the window for one of a length, if there is memory for it.
+fn enlarge(alloc: Global, window: &mut Vec<u8>, length: u32, told: &mut Told) -> bool {
+    told.note_window(length, window.len());
     match vec![in alloc; 0u8; length as usize] {
-        Ok(window) => Some(window),
+        Ok(larger) => {
+            *window = larger;
+            true
+        }
         Err(_) => {
             told.text.refuse(Refused::OutOfMemory);
-            None
+            false
         }
     }
 }
 
-/// What a feed that wasn't opened is opened with again: the window that came back, or one that is large enough. There is none where it
-/// isn't opened again.
-fn next_window(
+/// Makes the window ready for another opening, where the way of reading has one behind such a fault.
+fn opens_again(
     alloc: Global,
     way: Way,
     fault: OpenFeedFault,
-    back: Vec<u8>,
+    window: &mut Vec<u8>,
     seen: &Cell<Seen>,
     told: &mut Told,
-) -> Option<Vec<u8>> {
-    match fault {
-        OpenFeedFault::Read { file } if way.opens_again() => {
-            told.note_failure(file, seen.get().reach);
-            Some(back)
+) -> bool {
+    if way.opens_again() {
+        match fault {
+            OpenFeedFault::Read { file } => {
+                told.note_failure(file, seen.get().reach);
+                return true;
+            }
+            OpenFeedFault::OutOfMemory => {
+                told.note_little_memory();
+                return true;
+            }
+            OpenFeedFault::WindowTooSmall { needed } => return enlarge(alloc, window, needed, told),
+            _ => {}
         }
-        OpenFeedFault::OutOfMemory if way.opens_again() => {
-            told.note_little_memory();
-            Some(back)
-        }
-        OpenFeedFault::WindowTooSmall { needed } if way.opens_again() => {
-            told.note_window(needed, back.len());
-            larger(alloc, needed, told)
-        }
-        _ => {
-            told.note_opening(fault, way.only_opens(), seen);
-            None
-        }
+    }
+    told.note_opening(fault, way.only_opens(), seen);
+    false
+}
+
+/// What a refused opening leaves, where it is tried again; it `had` a window of that length.
+fn parts_again<L: Logs + Drop>(
+    alloc: Global,
+    refused: (OpenFeedFault, Parts<L>),
+    had: usize,
+    seen: &Cell<Seen>,
+    way: Way,
+    told: &mut Told,
+) -> Option<Parts<L>> {
+    let (fault, mut parts) = refused;
+    told.compare_windows(had, parts.window.len());
+    if opens_again(alloc, way, fault, &mut parts.window, seen, told) {
+        Some(parts)
+    } else {
+        None
     }
 }
 
-/// Opens a feed. Where the way of reading says so, a refused opening is tried again with all that came back.
-pub fn open_feed<L: Logs + Drop>(
+/// What an attempt to read a feed came to.
+enum Attempt<L> {
+    /// It was read, or will not be.
+    Ended(Result<(), Refused>),
+    /// It is opened again with these.
+    Again(Parts<L>),
+}
+
+/// What a feed tells that was opened. It is looked into between its steps where there are looks.
+fn tell_open<L: Logs + Drop>(
     alloc: Global,
-    logs: L,
+    feed: Feed<L>,
     seen: &Cell<Seen>,
     reading: Reading<'_>,
     told: &mut Told,
-) -> Result<Option<Feed<L>>, Refused> {
-    let (filter, start, window) = first_parts(alloc, reading.options, reading.window)?;
-    let mut parts = (logs, filter, start, window);
+) -> Result<(), Refused> {
+    let mut looking = Looking::new(alloc, feed, reading.looks, seen);
+    tell_opened(alloc, &mut looking, reading.way, seen, told)
+}
+
+/// What a feed of these parts tells, if it is opened.
+fn tell_once<L: Logs + Drop>(
+    alloc: Global,
+    parts: Parts<L>,
+    seen: &Cell<Seen>,
+    reading: Reading<'_>,
+    told: &mut Told,
+) -> Attempt<L> {
+    let had = parts.window.len();
+    match parts.open(alloc) {
+        Ok(feed) => Attempt::Ended(tell_open(alloc, feed, seen, reading, told)),
+        Err(refused) => match parts_again(alloc, refused, had, seen, reading.way, told) {
+            Some(parts) => Attempt::Again(parts),
+            None => Attempt::Ended(Ok(())),
+        },
+    }
+}
+
+/// What a feed tells. Where the way of reading says so, a refused opening is tried again with all that came back.
+pub fn tell_feed<L: Logs + Drop>(
+    alloc: Global,
+    mut parts: Parts<L>,
+    seen: &Cell<Seen>,
+    reading: Reading<'_>,
+    told: &mut Told,
+) -> Result<(), Refused> {
     for _ in 0..MOST_OPENINGS {
-        let (logs, filter, start, window) = parts;
-        let had = window.len();
-        match Feed::open(alloc, logs, filter, start, window) {
-            Ok(feed) => return Ok(Some(feed)),
-            Err((fault, logs, filter, start, back)) => {
-                told.compare_windows(had, back.len());
-                match next_window(alloc, reading.way, fault, back, seen, told) {
-                    None => return Ok(None),
-                    Some(window) => parts = (logs, filter, start, window),
-                }
-            }
+        match tell_once(alloc, parts, seen, reading, told) {
+            Attempt::Ended(ended) => return ended,
+            Attempt::Again(back) => parts = back,
         }
     }
     Err(Refused::BadPart)

@@ -1,6 +1,7 @@
 //! What a reader of logs gives, step by step, as lines.
 use crate::page::Page;
 use crate::watched::{Place, Seen};
+use crate::ways::Way;
 use binlog_feed::OpenFeedFault;
 use case_language::Refused;
 use std::alloc::Global;
@@ -138,6 +139,21 @@ pub fn tell_all<S: Steps>(
     }
     told.text.push_str("no end\n");
     Ok(())
+}
+
+/// What a reader tells that was opened: all, or only that it was.
+pub fn tell_opened<S: Steps>(
+    alloc: Global,
+    steps: &mut S,
+    way: Way,
+    seen: &Cell<Seen>,
+    told: &mut Told,
+) -> Result<(), Refused> {
+    if way.only_opens() {
+        told.note("opened", seen.get().reach)
+    } else {
+        tell_all(alloc, steps, seen, told)
+    }
 }
 
 /// One step, and whether it is the last one.
