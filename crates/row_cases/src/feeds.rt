@@ -1,4 +1,5 @@
 //! What a feed of all changes of files in memory answers.
+use crate::absorbing::push_absorbed;
 use crate::histories::{Key, push_indexed, push_visited};
 use crate::json_lines::push_all_lines;
 use binlog_feed::{Feed, Start};
@@ -14,8 +15,10 @@ pub enum Question<'a> {
     Lines,
     /// The places of a key's changes, by a visit.
     Visit(Key<'a>),
-    /// The same, by an index.
+    /// The same, by an index that is filled.
     Index(Key<'a>),
+    /// The same, by an index that takes the changes one by one.
+    Absorb(Key<'a>),
 }
 
 /// A feed of all changes, with a window.
@@ -48,6 +51,7 @@ fn ask(
         Question::Lines => return push_all_lines(alloc, text, feed),
         Question::Visit(key) => push_visited(alloc, text, feed, key)?,
         Question::Index(key) => push_indexed(alloc, text, feed, key)?,
+        Question::Absorb(key) => push_absorbed(alloc, text, feed, key)?,
     }
     Ok(0)
 }

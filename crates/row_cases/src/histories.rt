@@ -64,7 +64,7 @@ pub fn push_visited(
 }
 
 /// The places that an index has, and their number or why it wasn't filled to the end.
-fn push_places(
+pub fn push_places(
     text: &mut String,
     index: &KeyIndex,
     key: Key<'_>,
@@ -100,15 +100,38 @@ fn push_answer_of_case(
     push_answer(alloc, text, files, case.reads, WINDOW, question)
 }
 
-/// The places of a key's changes, by a visit. Where an index of the files has other ones, they follow.
-fn push_both(alloc: Global, text: &mut String, case: &Case, key: Key<'_>) -> Result<(), Refused> {
+/// What a feed of a case's files answers, where that is other than what a visit gave.
+fn push_other(
+    alloc: Global,
+    text: &mut String,
+    case: &Case,
+    name: &str,
+    question: Question<'_>,
+    visited: &str,
+) -> Result<(), Refused> {
     let mut other = String::new(alloc);
-    push_answer_of_case(alloc, text, case, Question::Visit(key))?;
-    push_answer_of_case(alloc, &mut other, case, Question::Index(key))?;
-    if text.as_str() != other.as_str() {
-        push_all(text, &["index:\n", other.as_str()])?;
+    push_answer_of_case(alloc, &mut other, case, question)?;
+    if other.as_str() != visited {
+        push_all(text, &[name, ":\n", other.as_str()])?;
     }
     Ok(())
+}
+
+/// The places of a key's changes, by a visit. Where an index of the files has other ones, they follow.
+fn push_each(alloc: Global, text: &mut String, case: &Case, key: Key<'_>) -> Result<(), Refused> {
+    let mut visited = String::new(alloc);
+    push_answer_of_case(alloc, &mut visited, case, Question::Visit(key))?;
+    let visited = visited.as_str();
+    text.push_str(visited)?;
+    push_other(alloc, text, case, "filled", Question::Index(key), visited)?;
+    push_other(
+        alloc,
+        text,
+        case,
+        "absorbed",
+        Question::Absorb(key),
+        visited,
+    )
 }
 
 /// `history SCHEMA TABLE KEY`: the places of the changes of the table that have the key, and their number.
@@ -126,5 +149,5 @@ pub fn push_history(
         table: table.as_str(),
         text: text_of_key.as_str(),
     };
-    push_both(alloc, text, case, key)
+    push_each(alloc, text, case, key)
 }

@@ -1,6 +1,7 @@
 //! Carries out cases of table maps, rows, values, the lines of changes, and the places of a key's changes.
 #![tactic(auto)]
 
+mod absorbing;
 mod cells;
 mod feeds;
 mod histories;
