@@ -14,12 +14,12 @@ from typing import NamedTuple
 
 sys.dont_write_bytecode = True
 
-from built import cases, faults, help_text, library_page, rows, server_logs, system, tokens, words, wrapper  # noqa: E402
+from built import cases, faults, help_text, library_page, refusals, rows, server_logs, system, tokens, words, wrapper  # noqa: E402
 from built.check import Check  # noqa: E402
 
 TOP = Path(__file__).resolve().parent.parent
 PROGRAMS = [TOP / "crates/program/out/program", TOP / "crates/program/out/program.by-rattle"]
-PARTS = (system, rows, words, faults, help_text, server_logs, tokens)
+PARTS = (system, rows, words, faults, help_text, server_logs, tokens, refusals)
 
 
 class Task(NamedTuple):
@@ -89,6 +89,7 @@ def main() -> int:
     if not given.program:
         for part in (cases, library_page):
             tasks += tasks_of(part.PROGRAMS, part.checks(), missing)
+        tasks += tasks_of(refusals.PROGRAMS, refusals.index_checks(), missing)
     if given.gate:
         tasks += tasks_of([wrapper.PROGRAM], wrapper.checks(), missing)
     for program in missing:

@@ -1,0 +1,107 @@
+"""Each request for memory refused in turn, by refuse_request.c, which is preloaded: in runs of the program, and in cases of an index."""
+import atexit
+import os
+import subprocess
+import tempfile
+from functools import cache, partial
+from pathlib import Path
+from typing import NamedTuple
+
+from built.check import SECONDS, Check, Outcome, Wanted, command, differs, said
+from built.logs import put, worked_log
+
+TOP = Path(__file__).resolve().parents[2]
+SOURCE = TOP / "tests/built/refuse_request.c"
+CASES = TOP / "crates/row_cases/data"
+# Programs that carry out the cases of an index.
+PROGRAMS = [TOP / "crates/row_cases/out/row_cases", TOP / "crates/row_cases/out/row_cases.by-rattle"]
+OUT_OF_MEMORY = said("out of memory")
+
+
+class Run(NamedTuple):
+    """How a run came out, and how many requests for memory it made."""
+
+    outcome: Outcome
+    requests: int
+
+
+@cache
+def library() -> Path:
+    """Builds what is preloaded. It goes when all checks have ended."""
+    folder = tempfile.TemporaryDirectory(prefix="binlogfeed-")
+    atexit.register(folder.cleanup)
+    built = Path(folder.name) / "refuse_request.so"
+    subprocess.run(["cc", "-O1", "-shared", "-fPIC", "-o", built, SOURCE], check=True)
+    return built
+
+
+def run_refused(program: Path, words: list[str], folder: Path, refused: int = 0, text: str = "") -> Run:
+    """Runs a program with a text as its input. The request of that number, from 1, is refused."""
+    with tempfile.NamedTemporaryFile(prefix="requests-") as requests:
+        environment = {**os.environ, "LD_PRELOAD": str(library()), "REFUSED_REQUEST": str(refused), "REQUESTS": requests.name}
+        ended = subprocess.run(
+            command(words), executable=program, cwd=folder, input=text.encode(), capture_output=True, timeout=SECONDS, check=False,
+            env=environment,
+        )  # fmt: skip
+        return Run(Outcome(ended.returncode, ended.stdout, ended.stderr), int(Path(requests.name).read_text() or 0))
+
+
+def last_token(lines: bytes) -> str:
+    """The token of the last line."""
+    return lines.rsplit(b'"token":"', maxsplit=1)[1].split(b'"', maxsplit=1)[0].decode()
+
+
+def judge_words(words: list[str], goes_on: bool, program: Path, folder: Path) -> list[str]:
+    """A run ends out of memory behind a beginning of its lines. Begun anew behind the last one, it gives the others."""
+    put(folder, ["log"], worked_log(3))
+    whole, requests = run_refused(program, words, folder)
+    if whole.status != 0 or requests == 0:
+        return [f"status {whole.status} with {requests} requests, where none is refused"]
+    for refused in range(1, requests + 1):
+        came = run_refused(program, words, folder, refused).outcome
+        reasons = differs(came, Wanted(5, None, OUT_OF_MEMORY))
+        if not whole.stdout.startswith(came.stdout) or came.stdout[-1:] not in (b"", b"\n"):
+            reasons.append("its lines are no beginning")
+        elif goes_on and came.stdout:
+            rest = run_refused(program, [words[0], "--from", last_token(came.stdout), *words[1:]], folder).outcome
+            reasons += differs(rest, Wanted(0, whole.stdout[len(came.stdout) :]))
+        if reasons:
+            return [f"request {refused} of {requests}", *reasons]
+    return []
+
+
+def judge_index(program: Path, _folder: Path) -> list[str]:
+    """A refused request leaves an index as it was, and a feed where it was: what is done once more comes out. Or the case says that there
+    was no memory."""
+    pieces = "from pieces.cases\n"
+    before = run_refused(program, [], CASES, text=pieces).requests
+    whole, requests = run_refused(program, [], CASES, text=f"{pieces}from histories.cases\n")
+    done_again = 0
+    for refused in range(before + 1, requests + 1):
+        came = run_refused(program, [], CASES, refused, f"{pieces}from histories.cases\n").outcome
+        if came == whole:
+            done_again += 1
+        elif b"out of memory" not in came.stdout and b"OutOfMemory" not in came.stderr:
+            return [f"request {refused} of {requests}", *differs(came, Wanted(0, whole.stdout))]
+    return [] if done_again else ["nothing was done once more"]
+
+
+KEY = ["history", "--schema", "s", "--table", "t", "--key", "[1]", "log"]
+
+# Runs of the program: their words, and whether they can go on behind a line's token.
+RUNS = (
+    (["read", "log"], True),
+    (["read", "--only-tables", "t", "--auto-position", "3e11fa47-71ca-11e1-9e33-c80aa9429562:1", "log"], True),
+    (["transactions", "log"], False),
+    (KEY, True),
+)
+
+
+def checks() -> list[Check]:
+    """The checks of the program."""
+    return [Check(f"{words[0]}, each request for memory refused in turn", partial(judge_words, words, goes_on)) for words, goes_on in RUNS]
+
+
+def index_checks() -> list[Check]:
+    """The checks of the programs of cases."""
+    return [Check("an index, each request for memory refused in turn", judge_index)]
