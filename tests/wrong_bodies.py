@@ -1,7 +1,7 @@
 #!/usr/bin/env python3
 """Tries the wrong bodies of crates/NAME/wrong-bodies/*.edit, many of them in one check.
 
-usage: tests/wrong_bodies.py [--only TEXT] [CRATE ..]
+usage: tests/wrong_bodies.py [--only TEXT] [--while FILE] [CRATE ..]
 
 A check judges each function by itself, since a proof cites only the contracts of what it calls. So edits of different
 functions are planted together in a copy of the crate, and `rt check` must refuse each edit's own function by a goal of
@@ -18,7 +18,8 @@ the edited functions alone, and so for what they call: what calls them would be 
 that it tells of and no edit touches must be proved, or be unproved only with what it calls.
 
 The copies lie in .git/wrong-bodies, with what was kept. Checks run side by side, one a processor or as many as RT_JOBS
-says. --only tries the edits whose name has TEXT. The last line is 'N passed, M failed'.
+says. --only tries the edits whose name has TEXT. As long as the file of --while is there, tests/proofs.py runs: a crate
+waits until that has proved it and kept the work. The last line is 'N passed, M failed'.
 """
 import argparse
 import fcntl
@@ -41,7 +42,8 @@ FOLDER = "wrong-bodies"
 PARTS = ("src", "specs", "proofs")
 # So many edits in one check: more would make the last checks of a run wait for one long one.
 MOST_IN_A_ROUND = 64
-LONGEST_CHECK = 3600
+LONGEST_CHECK = 7200
+SECONDS_BETWEEN_LOOKS = 2
 
 HEAD = re.compile(r"^( *)(?:pub(?:\([^)]*\))? )?(?:const )?fn (\w+)")
 IMPL = re.compile(r"^impl\b(?P<rest>.*)")
@@ -486,16 +488,22 @@ def halves(edits):
 # The run
 
 
-def try_all(base, chosen, crates, jobs):
+def try_all(base, chosen, crates, jobs, proving):
     """Checks rounds of edits until each has its verdict, side by side; rounds that follow on another go before those of other crates."""
-    by_size = sorted(chosen, key=lambda it: -sum(file.stat().st_size for file in sources(it)))
-    queue, running = deque((it, edits) for it in by_size for edits in opening_of(it, base)), {}
+    waiting = sorted(chosen, key=lambda it: -sum(file.stat().st_size for file in sources(it)))
+    queue, running = deque(), {}
     with ThreadPoolExecutor(jobs) as pool:
-        while queue or running:
+        while waiting or queue or running:
+            begun = [it for it in waiting if is_kept(it, base)] if proving and proving.exists() else waiting
+            waiting = [it for it in waiting if it not in begun]
+            queue.extend(opening_of(begun, base, crates))
             while queue and len(running) < jobs:
                 crate, edits = queue.popleft()
                 running[pool.submit(check_round, base, crate, crates, edits)] = crate, edits
-            for done in wait(running, return_when=FIRST_COMPLETED).done:
+            if not running:
+                time.sleep(SECONDS_BETWEEN_LOOKS)
+                continue
+            for done in wait(running, SECONDS_BETWEEN_LOOKS if waiting else None, FIRST_COMPLETED).done:
                 crate, edits = running.pop(done)
                 said, seconds = done.result()
                 crate.rounds += 1
@@ -506,10 +514,19 @@ def try_all(base, chosen, crates, jobs):
                     tell(crate)
 
 
-def opening_of(crate, base):
-    """Returns the checks that a crate begins with: one without edits, where `rt ci` hasn't shown that the crate is proved."""
-    is_known = is_of_the_gate(crate) and (base / f"gate-{crate.name}").is_dir()
-    return rounds_of(crate.edits) if is_known else [[]]
+def is_kept(crate, base):
+    """Returns whether `rt ci` has proved the crate, and its checks of edits have kept their work."""
+    return is_of_the_gate(crate) and (base / f"gate-{crate.name}").is_dir()
+
+
+def opening_of(begun, base, crates):
+    """Returns the checks that crates begin with: one without edits, where `rt ci` hasn't shown that the crate is proved."""
+    lacking = build_libraries(begun, crates)
+    for crate in begun if lacking else []:
+        take_down_all(crate, f"its library {lacking} isn't proved")
+        tell(crate)
+    known = lambda crate: rounds_of(crate.edits) if is_kept(crate, base) else [[]]
+    return [] if lacking else [(crate, edits) for crate in begun for edits in known(crate)]
 
 
 def after_clean(crate, _, said, seconds):
@@ -517,9 +534,14 @@ def after_clean(crate, _, said, seconds):
     if re.search(r"^logic=proved ", said, re.M):
         print(f"{crate.name}: proved as it is, {seconds:.0f} s", flush=True)
         return rounds_of(crate.edits)
-    for edit in crate.edits:
-        crate.failed[edit.name] = f"not tried, since the crate itself isn't proved: {first_error(said)}"
+    take_down_all(crate, f"the crate itself isn't proved: {first_error(said)}")
     return []
+
+
+def take_down_all(crate, why):
+    """Takes down that no edit of a crate was tried."""
+    for edit in crate.edits:
+        crate.failed[edit.name] = f"not tried, since {why}"
 
 
 def after_round(crate, edits, said, seconds):
@@ -544,39 +566,36 @@ def tell(crate):
 def clear(base):
     """Removes the copies, and leaves what was kept."""
     for it in base.iterdir():
-        if it.is_dir() and not it.name.startswith(("kept-", "gate-")):
+        if it.is_dir() and not it.name.startswith(("kept-", "gate-", "taking-")):
             shutil.rmtree(it)
 
 
-def try_in(base, chosen, crates):
-    """Tries the crates' edits in copies below a folder that no other run uses. Returns how many failed for want of a library."""
+def try_in(base, chosen, crates, proving):
+    """Tries the crates' edits in copies below a folder that no other run uses."""
     with open(base / "lock", "w") as lock:
         fcntl.flock(lock, fcntl.LOCK_EX)
         clear(base)
-        with_edits = [it for it in chosen if it.edits]
-        library = build_libraries(with_edits, crates)
-        if library:
-            print(f"the library {library} isn't proved, so no edit was tried")
-            return sum(len(it.edits) for it in with_edits)
         number = os.environ.get("RT_JOBS", "")
-        try_all(base, with_edits, crates, int(number) if number.isdigit() and int(number) else len(os.sched_getaffinity(0)))
+        jobs = int(number) if number.isdigit() and int(number) else len(os.sched_getaffinity(0))
+        try_all(base, [it for it in chosen if it.edits], crates, jobs, proving)
         clear(base)
-    return 0
 
 
-def try_somewhere(chosen, crates):
+def try_somewhere(chosen, crates, proving):
     """The same, in .git where that is a folder, so that what was kept is there for the next run."""
     if (ROOT / ".git").is_dir():
         base = ROOT / ".git" / FOLDER
         base.mkdir(exist_ok=True)
-        return try_in(base, chosen, crates)
-    with tempfile.TemporaryDirectory(prefix=f"{FOLDER}-") as base:
-        return try_in(Path(base), chosen, crates)
+        try_in(base, chosen, crates, proving)
+    else:
+        with tempfile.TemporaryDirectory(prefix=f"{FOLDER}-") as base:
+            try_in(Path(base), chosen, crates, proving)
 
 
 def main():
     reader = argparse.ArgumentParser(description="Tries the wrong bodies of the crates.")
     reader.add_argument("--only", default="", metavar="TEXT", help="the edits whose name has this")
+    reader.add_argument("--while", type=Path, metavar="FILE", dest="proving", help="the file that is there as long as tests/proofs.py runs")
     reader.add_argument("names", nargs="*", metavar="CRATE")
     given = reader.parse_args()
     start, crates = time.time(), read_crates()
@@ -589,9 +608,9 @@ def main():
         read_edits(crate, given.only)
         if not crate.edits:
             tell(crate)
-    failed = len(unknown) + (not names) + try_somewhere(chosen, crates)
+    try_somewhere(chosen, crates, given.proving)
     passed = sum(it.refused for it in chosen)
-    failed += sum(len(it.failed) for it in chosen)
+    failed = len(unknown) + (not names) + sum(len(it.failed) for it in chosen)
     used = resource.getrusage(resource.RUSAGE_CHILDREN)
     processors = f"{used.ru_utime + used.ru_stime:.0f} s of processors"
     print(f"wrong bodies: {sum(it.rounds for it in chosen)} checks, {time.time() - start:.0f} s, {processors}")

@@ -46,26 +46,24 @@ fn name_of(layout: &Layout) -> &'static str {
 fn push_sizes(text: &mut String, layout: &Layout) -> Result<(), AllocError> {
     match layout {
         Layout::Year | Layout::Date => Ok(()),
-        Layout::Integer(width) | Layout::Text(width) | Layout::Raw(width) => push_size(
-            text,
-            width.get(),
-        ),
-        Layout::Float(width) | Layout::Bits(width) | Layout::Set(width) => push_size(
-            text,
-            width.get(),
-        ),
-        Layout::Enum(width) => push_size(text, width.get()),
+        Layout::Integer(width)
+        | Layout::Text(width)
+        | Layout::Raw(width)
+        | Layout::Float(width)
+        | Layout::Bits(width)
+        | Layout::Set(width) => push_size(text, width.bytes),
+        Layout::Enum(width) => push_size(text, width.bytes),
         Layout::Timestamp(precision) | Layout::DateTime(precision) | Layout::Time(precision) => {
-            push_size(text, usize::from(precision.get()))
+            push_size(text, precision.digits)
         }
         Layout::Decimal(size) => {
-            push_size(text, usize::from(size.precision()))?;
-            push_size(text, usize::from(size.scale()))
+            push_size(text, size.precision)?;
+            push_size(text, size.scale)
         }
     }
 }
 
-fn push_size(text: &mut String, size: usize) -> Result<(), AllocError> {
+fn push_size(text: &mut String, size: u8) -> Result<(), AllocError> {
     write!(text, " {size}")
 }
 
