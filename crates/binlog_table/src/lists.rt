@@ -24,7 +24,6 @@ pub(crate) struct Lists {
 }
 
 /// The lists of the map of these sections, or its first fault.
-#[tactic(auto, using(crate::proofs::MapSteps::map_in_steps))]
 pub(crate) fn lists_of(alloc: Global, sections: &Sections<'_>) -> Result<Lists, MapFault>
     ensures value { Gives (λ l. listed_map (sections_view sections.now) l) result (map_of (sections_view sections.now)) }
     ensures fit { IfOk result AreFit }
