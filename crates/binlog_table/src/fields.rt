@@ -127,8 +127,8 @@ pub(crate) fn fields_of(bytes: &[u8]) -> Result<Fields<'_>, MapFault>
     };
     let mut rest = bytes;
     while let [kind, after @ ..] = rest {
-        let (value, after) = string_at(after)?;
-        fields = with_field(fields, *kind, value)?;
+        let (value, after) = given!(string_at(after));
+        fields = given!(with_field(fields, *kind, value));
         rest = after;
     }
     Ok(fields)
