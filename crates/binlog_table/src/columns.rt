@@ -6,7 +6,7 @@ ghost use Rattle.binlog_table.specs.Map.{columns_in, columns_stand};
 ghost use Rattle.binlog_table.specs.SectionsShown.{sections_view};
 
 use crate::column::Column;
-use crate::fault::MapFault;
+use crate::fault::{MapFault, given};
 use crate::layout::layout_at;
 use crate::sections::Sections;
 use std::alloc::Global;
@@ -62,7 +62,7 @@ pub(crate) fn columns_of<'a>(
     let mut rest = metadata;
     let mut numeric = 0;
     for code in types {
-        let (layout, len) = layout_at(*code, rest)?;
+        let (layout, len) = given!(layout_at(*code, rest));
         let unsigned = is_unsigned(*code, signs, numeric);
         columns.push(Column { layout, unsigned })?;
         numeric = next_numeric(*code, numeric);

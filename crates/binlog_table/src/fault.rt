@@ -39,7 +39,7 @@ impl<T: Drop> From<AllocFailed<T>> for MapFault {
 }
 
 /// What a step gave, or its fault as that of the caller. `?` would convert the fault, which is one already, and each
-/// early exit would have two calls more to prove. For steps that give no owned values.
+/// early exit would have two calls more to prove.
 macro_rules! given {
     ($step:expr) => {
         match $step {

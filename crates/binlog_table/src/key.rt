@@ -51,8 +51,8 @@ fn key_from(
     let mut seen = vec![in alloc; false; count]?;
     let mut rest = bytes;
     while !rest.is_empty() {
-        let (index, after) = index_at(prefixed, rest)?;
-        let index = unseen(&seen, index)?;
+        let (index, after) = given!(index_at(prefixed, rest));
+        let index = given!(unseen(&seen, index));
         seen[index] = true;
         key.push(index)?;
         rest = after;

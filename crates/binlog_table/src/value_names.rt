@@ -5,7 +5,7 @@ ghost use Rattle.binlog_table.specs.Names.{strings_at, list_in, value_names_of, 
 ghost use Rattle.binlog_table.specs.ValueNamesShown.{names_view};
 
 use crate::column::{Column, Layout};
-use crate::fault::MapFault;
+use crate::fault::{MapFault, given};
 use crate::fields::{number_at, string_at};
 use std::alloc::Global;
 
@@ -20,7 +20,7 @@ fn strings_of<'a>(
     let mut strings = Vec::new(alloc);
     let mut rest = bytes;
     for _ in 0..count {
-        let (text, after) = string_at(rest)?;
+        let (text, after) = given!(string_at(rest));
         strings.push(Vec::from_slice(alloc, text)?)?;
         rest = after;
     }
