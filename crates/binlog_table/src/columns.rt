@@ -101,7 +101,12 @@ pub(crate) fn columns_in(alloc: Global, sections: &Sections<'_>) -> Result<Vec<C
 {
     let fields = &sections.fields;
     let signs = fields.signs.unwrap_or(&[]);
-    let (columns, left, numeric) = columns_of(alloc, sections.types, sections.metadata, signs)?;
-    columns_stand(left, fields.names, signs, numeric)?;
+    let (columns, left, numeric) = given!(columns_of(
+        alloc,
+        sections.types,
+        sections.metadata,
+        signs
+    ));
+    given!(columns_stand(left, fields.names, signs, numeric));
     Ok(columns)
 }

@@ -121,10 +121,10 @@ pub(crate) fn column_names(
             order: Vec::new(alloc),
         });
     };
-    let (names, rest) = names_of(alloc, count, bytes)?;
+    let (names, rest) = given!(names_of(alloc, count, bytes));
     if !rest.is_empty() {
         return Err(MapFault::BadMap);
     }
-    let order = name_order(alloc, &names)?;
+    let order = given!(name_order(alloc, &names));
     Ok(ColumnNames { names, order })
 }
