@@ -1,10 +1,10 @@
 -- The map of sections, read in four steps.
-use Rattle.std.proofs.Common.{◌≡◌, ℕ, List, [], length, Option, Some, None, Result, Ok, Err, refl}
+use Rattle.std.proofs.Common.{◌≡◌, ℕ, List, [], length, Option, Some, None, Result, Ok, Err, refl, ◌∙◌}
 use Rattle.std.specs.Prelude.{unwrap_or}
 use Rattle.binlog_table.specs.declared.fault.MapFault.{MapFault}
-use Rattle.binlog_table.specs.declared.fault.MapFault.TheVariants.{NoColumnNames}
+use Rattle.binlog_table.specs.declared.fault.MapFault.TheVariants.{BadMap, TypeOutOfProfile, NoColumnNames, OutOfMemory}
 use Rattle.binlog_table.specs.declared.column.Column.{Column}
-use Rattle.binlog_table.specs.MapResult.{◌>>=◌}
+use Rattle.binlog_table.specs.MapResult.{◌>>=◌, Fails}
 use Rattle.binlog_table.specs.Columns.{columns_at}
 use Rattle.binlog_table.specs.Names.{names_at, column_names, names_in, distinct_names, named, key_in, used_up, value_names}
 use Rattle.binlog_table.specs.Map.{Sections, Map, signed_enough, columns_stand, columns_in, map_of}
@@ -81,3 +81,34 @@ map_in_steps s =
     by_field s.fields.names (length s.types) (key_in (length s.types) s.fields.key s.fields.prefix_key)
     (columns_at s.types s.metadata (unwrap_or s.fields.signs []) 0) s.fields.signs (λ cs. value_names cs s.fields.set_names s.fields.enum_names)
     (λ names key columns values. record { table_id = s.table_id; schema = s.schema; table = s.table; columns = columns; names = names; key = key; value_names = values })
+
+-- ---- the first fault, and no fault
+
+pub names-failed : (s : Sections) (e : MapFault) → Fails e (names_in (length s.types) s.fields.names) → Fails e (map_of s)
+names-failed s OutOfMemory f = tt
+names-failed s BadMap f = map_in_steps s ∙ rw f refl
+names-failed s (TypeOutOfProfile t) f = map_in_steps s ∙ rw f refl
+names-failed s NoColumnNames f = map_in_steps s ∙ rw f refl
+
+pub key-failed : (s : Sections) (n : Names) (e : MapFault) → names_in (length s.types) s.fields.names ≡ Ok n → Fails e (key_in (length s.types) s.fields.key s.fields.prefix_key) → Fails e (map_of s)
+key-failed s n OutOfMemory a f = tt
+key-failed s n BadMap a f = map_in_steps s ∙ rw (a, f) refl
+key-failed s n (TypeOutOfProfile t) a f = map_in_steps s ∙ rw (a, f) refl
+key-failed s n NoColumnNames a f = map_in_steps s ∙ rw (a, f) refl
+
+pub columns-failed : (s : Sections) (n : Names) (k : List ℕ) (e : MapFault) → names_in (length s.types) s.fields.names ≡ Ok n → key_in (length s.types) s.fields.key s.fields.prefix_key ≡ Ok k → Fails e (columns_in s) → Fails e (map_of s)
+columns-failed s n k OutOfMemory a b f = tt
+columns-failed s n k BadMap a b f = map_in_steps s ∙ rw (a, b, f) refl
+columns-failed s n k (TypeOutOfProfile t) a b f = map_in_steps s ∙ rw (a, b, f) refl
+columns-failed s n k NoColumnNames a b f = map_in_steps s ∙ rw (a, b, f) refl
+
+pub values-failed : (s : Sections) (n : Names) (k : List ℕ) (cs : List Column) (e : MapFault) → names_in (length s.types) s.fields.names ≡ Ok n → key_in (length s.types) s.fields.key s.fields.prefix_key ≡ Ok k → columns_in s ≡ Ok cs
+    → Fails e (value_names cs s.fields.set_names s.fields.enum_names) → Fails e (map_of s)
+values-failed s n k cs OutOfMemory a b c f = tt
+values-failed s n k cs BadMap a b c f = map_in_steps s ∙ rw (a, b, c, f) refl
+values-failed s n k cs (TypeOutOfProfile t) a b c f = map_in_steps s ∙ rw (a, b, c, f) refl
+values-failed s n k cs NoColumnNames a b c f = map_in_steps s ∙ rw (a, b, c, f) refl
+
+pub map-given : (s : Sections) (n : Names) (k : List ℕ) (cs : List Column) (v : ValueNames) → names_in (length s.types) s.fields.names ≡ Ok n → key_in (length s.types) s.fields.key s.fields.prefix_key ≡ Ok k → columns_in s ≡ Ok cs
+    → value_names cs s.fields.set_names s.fields.enum_names ≡ Ok v → map_of s ≡ Ok (record { table_id = s.table_id; schema = s.schema; table = s.table; columns = cs; names = n; key = k; value_names = v })
+map-given s n k cs v a b c d = map_in_steps s ∙ rw (a, b, c, d) refl

@@ -6,7 +6,7 @@ ghost use Rattle.binlog_table.specs.Map.{columns_in, columns_stand};
 ghost use Rattle.binlog_table.specs.SectionsShown.{sections_view};
 
 use crate::column::Column;
-use crate::fault::MapFault;
+use crate::fault::{MapFault, given};
 use crate::layout::layout_at;
 use crate::sections::Sections;
 use std::alloc::Global;
@@ -62,7 +62,7 @@ pub(crate) fn columns_of<'a>(
     let mut rest = metadata;
     let mut numeric = 0;
     for code in types {
-        let (layout, len) = layout_at(*code, rest)?;
+        let (layout, len) = given!(layout_at(*code, rest));
         let unsigned = is_unsigned(*code, signs, numeric);
         columns.push(Column { layout, unsigned })?;
         numeric = next_numeric(*code, numeric);
@@ -101,7 +101,12 @@ pub(crate) fn columns_in(alloc: Global, sections: &Sections<'_>) -> Result<Vec<C
 {
     let fields = &sections.fields;
     let signs = fields.signs.unwrap_or(&[]);
-    let (columns, left, numeric) = columns_of(alloc, sections.types, sections.metadata, signs)?;
-    columns_stand(left, fields.names, signs, numeric)?;
+    let (columns, left, numeric) = given!(columns_of(
+        alloc,
+        sections.types,
+        sections.metadata,
+        signs
+    ));
+    given!(columns_stand(left, fields.names, signs, numeric));
     Ok(columns)
 }

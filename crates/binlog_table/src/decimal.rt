@@ -99,9 +99,15 @@ fn after_digits(size: DecimalSize, bytes: &[u8]) -> Option<&[u8]>
 {
     let scale = usize::from(size.scale);
     let whole = usize::from(size.precision) - scale;
-    let rest = after_group(whole % 9, bytes)?;
-    let rest = after_nines(whole / 9, rest)?;
-    let rest = after_nines(scale / 9, rest)?;
+    let Some(rest) = after_group(whole % 9, bytes) else {
+        return None;
+    };
+    let Some(rest) = after_nines(whole / 9, rest) else {
+        return None;
+    };
+    let Some(rest) = after_nines(scale / 9, rest) else {
+        return None;
+    };
     after_group(scale % 9, rest)
 }
 
@@ -213,9 +219,17 @@ pub(crate) fn digits_of(size: DecimalSize, bytes: &[u8]) -> Option<Digits>
     let scale = usize::from(size.scale);
     let whole = usize::from(size.precision) - scale;
     let mut digits = Digits::new();
-    let rest = push_group_at(&mut digits, whole % 9, bytes)?;
-    let rest = push_nines_at(&mut digits, whole / 9, rest)?;
-    let rest = push_nines_at(&mut digits, scale / 9, rest)?;
-    push_group_at(&mut digits, scale % 9, rest)?;
-    Some(digits)
+    let Some(rest) = push_group_at(&mut digits, whole % 9, bytes) else {
+        return None;
+    };
+    let Some(rest) = push_nines_at(&mut digits, whole / 9, rest) else {
+        return None;
+    };
+    let Some(rest) = push_nines_at(&mut digits, scale / 9, rest) else {
+        return None;
+    };
+    match push_group_at(&mut digits, scale % 9, rest) {
+        Some(_) => Some(digits),
+        None => None,
+    }
 }

@@ -38,6 +38,19 @@ impl<T: Drop> From<AllocFailed<T>> for MapFault {
     }
 }
 
+/// What a step gave, or its fault as that of the caller. `?` would convert the fault, which is one already, and each
+/// early exit would have two calls more to prove.
+macro_rules! given {
+    ($step:expr) => {
+        match $step {
+            Ok(value) => value,
+            Err(fault) => return Err(fault),
+        }
+    };
+}
+
+pub(crate) use given;
+
 /// The body of a rows event has no reading under its table map.
 #[derive(Clone, Copy, Debug, PartialEq, Eq, Error)]
 #[error("the rows event has no reading")]

@@ -4,7 +4,7 @@ ghost use Rattle.binlog_table.specs.MapResult.{GivesExactly};
 ghost use Rattle.binlog_table.specs.Fields.{bytes_at, number_at, string_at, name_at, is_utf8, text_of, is_refused, with_field, fields_from, no_fields};
 ghost use Rattle.binlog_table.specs.FieldsShown.{fields_view};
 
-use crate::fault::MapFault;
+use crate::fault::{MapFault, given};
 use crate::packed::packed_at;
 
 /// The values of the optional fields that are read.
@@ -50,7 +50,7 @@ pub(crate) fn number_at(bytes: &[u8]) -> Result<(u64, &[u8]), MapFault>
 pub(crate) fn string_at(bytes: &[u8]) -> Result<(&[u8], &[u8]), MapFault>
     ensures { GivesExactly (λ x. (x.0.now, x.1.now)) result (string_at bytes.now) }
 {
-    let (len, rest) = number_at(bytes)?;
+    let (len, rest) = given!(number_at(bytes));
     bytes_at(len, rest)
 }
 
@@ -76,7 +76,7 @@ pub(crate) fn name_at(bytes: &[u8]) -> Result<(&str, &[u8]), MapFault>
     if len > 250 || len >= rest.len() || rest[len] != 0 {
         return Err(MapFault::BadMap);
     }
-    Ok((text_of(&rest[..len])?, &rest[len + 1..]))
+    Ok((given!(text_of(&rest[..len])), &rest[len + 1..]))
 }
 
 /// Whether a field of a type can't be added: one of the type stands already, or of the two keys the other one.
@@ -127,8 +127,8 @@ pub(crate) fn fields_of(bytes: &[u8]) -> Result<Fields<'_>, MapFault>
     };
     let mut rest = bytes;
     while let [kind, after @ ..] = rest {
-        let (value, after) = string_at(after)?;
-        fields = with_field(fields, *kind, value)?;
+        let (value, after) = given!(string_at(after));
+        fields = given!(with_field(fields, *kind, value));
         rest = after;
     }
     Ok(fields)

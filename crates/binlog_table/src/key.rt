@@ -5,7 +5,7 @@ ghost use Rattle.binlog_table.specs.MapResult.{Gives, GivesExactly};
 ghost use Rattle.binlog_table.specs.declared.fault.MapFault.TheVariants.{BadMap};
 ghost use Rattle.binlog_table.specs.Names.{index_at, key_from, key_in};
 
-use crate::fault::MapFault;
+use crate::fault::{MapFault, given};
 use crate::fields::number_at;
 use std::alloc::Global;
 
@@ -14,11 +14,11 @@ use std::alloc::Global;
 fn index_at(prefixed: bool, bytes: &[u8]) -> Result<(u64, &[u8]), MapFault>
     ensures { GivesExactly (λ x. (x.0, x.1.now)) result (index_at prefixed bytes.now) }
 {
-    let (index, rest) = number_at(bytes)?;
+    let (index, rest) = given!(number_at(bytes));
     if !prefixed {
         return Ok((index, rest));
     }
-    let (_, rest) = number_at(rest)?;
+    let (_, rest) = given!(number_at(rest));
     Ok((index, rest))
 }
 
@@ -51,8 +51,8 @@ fn key_from(
     let mut seen = vec![in alloc; false; count]?;
     let mut rest = bytes;
     while !rest.is_empty() {
-        let (index, after) = index_at(prefixed, rest)?;
-        let index = unseen(&seen, index)?;
+        let (index, after) = given!(index_at(prefixed, rest));
+        let index = given!(unseen(&seen, index));
         seen[index] = true;
         key.push(index)?;
         rest = after;

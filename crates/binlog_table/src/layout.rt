@@ -4,7 +4,7 @@ ghost use Rattle.binlog_table.specs.MapResult.{GivesExactly};
 ghost use Rattle.binlog_table.specs.Columns.{plain_layout, has_byte, byte_layout, has_pair, pair_layout, string_layout, bits_layout, decimal_layout, prefix_len, layout_at, byte_at, pair_at, real_type, string_len};
 
 use crate::column::{ByteCount, DecimalSize, EnumSize, Layout, Precision};
-use crate::fault::MapFault;
+use crate::fault::{MapFault, given};
 
 /// The layout of a type without metadata.
 fn plain_layout(code: u8) -> Option<Layout>
@@ -152,7 +152,7 @@ pub(crate) fn layout_at(code: u8, metadata: &[u8]) -> Result<(Layout, usize), Ma
         let [first, second, ..] = metadata else {
             return Err(MapFault::BadMap);
         };
-        let layout = pair_layout(code, *first, *second)?;
+        let layout = given!(pair_layout(code, *first, *second));
         return Ok((layout, 2));
     }
     Err(MapFault::TypeOutOfProfile(code))

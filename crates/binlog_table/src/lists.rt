@@ -7,7 +7,7 @@ ghost use Rattle.binlog_table.specs.SectionsShown.{sections_view};
 
 use crate::column::Column;
 use crate::columns::columns_in;
-use crate::fault::MapFault;
+use crate::fault::{MapFault, given};
 use crate::key::key_in;
 use crate::names::{ColumnNames, column_names};
 use crate::sections::Sections;
@@ -24,17 +24,16 @@ pub(crate) struct Lists {
 }
 
 /// The lists of the map of these sections, or its first fault.
-#[tactic(auto, using(crate::proofs::MapSteps::map_in_steps))]
 pub(crate) fn lists_of(alloc: Global, sections: &Sections<'_>) -> Result<Lists, MapFault>
     ensures value { Gives (λ l. listed_map (sections_view sections.now) l) result (map_of (sections_view sections.now)) }
     ensures fit { IfOk result AreFit }
 {
     let fields = &sections.fields;
     let count = sections.types.len();
-    let names = column_names(alloc, count, fields.names)?;
-    let key = key_in(alloc, count, fields.key, fields.prefix_key)?;
-    let columns = columns_in(alloc, sections)?;
-    let value_names = value_names(alloc, &columns, fields.set_names, fields.enum_names)?;
+    let names = given!(column_names(alloc, count, fields.names));
+    let key = given!(key_in(alloc, count, fields.key, fields.prefix_key));
+    let columns = given!(columns_in(alloc, sections));
+    let value_names = given!(value_names(alloc, &columns, fields.set_names, fields.enum_names));
     Ok(Lists {
         columns,
         names,

@@ -5,7 +5,7 @@ ghost use Rattle.binlog_table.specs.MapResult.{Gives};
 ghost use Rattle.binlog_table.specs.Names.{names_at, column_names, names_in, distinct_names, are_distinct, used_up};
 ghost use Rattle.binlog_table.specs.NameOrder.{IsNameOrder, AreNumbered, AreSorted, name_of, name_in, column_in};
 
-use crate::fault::MapFault;
+use crate::fault::{MapFault, given};
 use crate::fields::{string_at, text_of};
 use std::alloc::{AllocError, Global};
 
@@ -28,8 +28,8 @@ fn names_of<'a>(
     let mut names = Vec::with_capacity(alloc, count)?;
     let mut rest = bytes;
     for _ in 0..count {
-        let (text, after) = string_at(rest)?;
-        let name = text_of(text)?;
+        let (text, after) = given!(string_at(rest));
+        let name = given!(text_of(text));
         names.push(String::from_str(alloc, name)?)?;
         rest = after;
     }
@@ -121,10 +121,10 @@ pub(crate) fn column_names(
             order: Vec::new(alloc),
         });
     };
-    let (names, rest) = names_of(alloc, count, bytes)?;
+    let (names, rest) = given!(names_of(alloc, count, bytes));
     if !rest.is_empty() {
         return Err(MapFault::BadMap);
     }
-    let order = name_order(alloc, &names)?;
+    let order = given!(name_order(alloc, &names));
     Ok(ColumnNames { names, order })
 }

@@ -4,7 +4,7 @@ ghost use Rattle.binlog_table.specs.MapResult.{GivesExactly};
 ghost use Rattle.binlog_table.specs.Map.{sections_at, sections_after, table_names_at, count_at, types_at, counted};
 ghost use Rattle.binlog_table.specs.SectionsShown.{sections_view};
 
-use crate::fault::MapFault;
+use crate::fault::{MapFault, given};
 use crate::fields::{Fields, bytes_at, fields_of, name_at, number_at, string_at};
 use byteorder::{ByteOrder, LittleEndian};
 
@@ -42,8 +42,8 @@ fn nulls_len(count: u64) -> u64
 fn table_names_at(bytes: &[u8]) -> Result<(&str, &str, &[u8]), MapFault>
     ensures { GivesExactly (λ x. (x.0.now, (x.1.now, x.2.now))) result (table_names_at bytes.now) }
 {
-    let (schema, rest) = name_at(bytes)?;
-    let (table, rest) = name_at(rest)?;
+    let (schema, rest) = given!(name_at(bytes));
+    let (table, rest) = given!(name_at(rest));
     Ok((schema, table, rest))
 }
 
@@ -51,18 +51,18 @@ fn table_names_at(bytes: &[u8]) -> Result<(&str, &str, &[u8]), MapFault>
 fn count_at(bytes: &[u8]) -> Result<(u64, &[u8]), MapFault>
     ensures { GivesExactly (λ x. (x.0, x.1.now)) result (count_at bytes.now) }
 {
-    let (count, rest) = number_at(bytes)?;
-    Ok((counted(count)?, rest))
+    let (count, rest) = given!(number_at(bytes));
+    Ok((given!(counted(count)), rest))
 }
 
 /// The types of the columns and their metadata, and the bytes after the bits of nulls.
 fn types_at(bytes: &[u8]) -> Result<(&[u8], &[u8], &[u8]), MapFault>
     ensures { GivesExactly (λ x. (x.0.now, (x.1.now, x.2.now))) result (types_at bytes.now) }
 {
-    let (count, rest) = count_at(bytes)?;
-    let (types, rest) = bytes_at(count, rest)?;
-    let (metadata, rest) = string_at(rest)?;
-    let (_, rest) = bytes_at(nulls_len(count), rest)?;
+    let (count, rest) = given!(count_at(bytes));
+    let (types, rest) = given!(bytes_at(count, rest));
+    let (metadata, rest) = given!(string_at(rest));
+    let (_, rest) = given!(bytes_at(nulls_len(count), rest));
     Ok((types, metadata, rest))
 }
 
@@ -71,9 +71,9 @@ fn types_at(bytes: &[u8]) -> Result<(&[u8], &[u8], &[u8]), MapFault>
 fn sections_after(table_id: u64, bytes: &[u8]) -> Result<Sections<'_>, MapFault>
     ensures { GivesExactly sections_view result (sections_after table_id bytes.now) }
 {
-    let (schema, table, rest) = table_names_at(bytes)?;
-    let (types, metadata, rest) = types_at(rest)?;
-    let fields = fields_of(rest)?;
+    let (schema, table, rest) = given!(table_names_at(bytes));
+    let (types, metadata, rest) = given!(types_at(rest));
+    let fields = given!(fields_of(rest));
     Ok(Sections {
         table_id,
         schema,

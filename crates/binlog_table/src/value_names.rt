@@ -5,7 +5,7 @@ ghost use Rattle.binlog_table.specs.Names.{strings_at, list_in, value_names_of, 
 ghost use Rattle.binlog_table.specs.ValueNamesShown.{names_view};
 
 use crate::column::{Column, Layout};
-use crate::fault::MapFault;
+use crate::fault::{MapFault, given};
 use crate::fields::{number_at, string_at};
 use std::alloc::Global;
 
@@ -20,7 +20,7 @@ fn strings_of<'a>(
     let mut strings = Vec::new(alloc);
     let mut rest = bytes;
     for _ in 0..count {
-        let (text, after) = string_at(rest)?;
+        let (text, after) = given!(string_at(rest));
         strings.push(Vec::from_slice(alloc, text)?)?;
         rest = after;
     }
@@ -38,8 +38,8 @@ fn list_in<'a>(
     let Some(bytes) = field else {
         return Ok((None, None));
     };
-    let (count, rest) = number_at(bytes)?;
-    let (names, rest) = strings_of(alloc, count, rest)?;
+    let (count, rest) = given!(number_at(bytes));
+    let (names, rest) = given!(strings_of(alloc, count, rest));
     Ok((Some(names), Some(rest)))
 }
 
@@ -64,11 +64,11 @@ fn value_names_of<'a>(
 {
     match layout {
         Layout::Set(_) => {
-            let (names, sets) = list_in(alloc, sets)?;
+            let (names, sets) = given!(list_in(alloc, sets));
             Ok(Named { names, sets, enums })
         }
         Layout::Enum(_) => {
-            let (names, enums) = list_in(alloc, enums)?;
+            let (names, enums) = given!(list_in(alloc, enums));
             Ok(Named { names, sets, enums })
         }
         _ => Ok(Named {
@@ -104,7 +104,7 @@ pub(crate) fn value_names(
     let mut sets_left = sets;
     let mut enums_left = enums;
     for column in columns {
-        let named = value_names_of(alloc, &column.layout, sets_left, enums_left)?;
+        let named = given!(value_names_of(alloc, &column.layout, sets_left, enums_left));
         sets_left = named.sets;
         enums_left = named.enums;
         all.push(named.names)?;

@@ -11,9 +11,9 @@ pub returns-then-len-gt250 : goal.returns-then-len-gt250
 unfolding Fields.name_at
 returns-then-len-gt250 c = grind (arith, common_steps)
 
-pub returns-in_err-text_of : goal.returns-in_err-text_of
+pub returns-in-Err : goal.returns-in-Err
 unfolding Fields.name_at
-returns-in_err-text_of c = grind (arith, common_steps)
+returns-in-Err c = grind (arith, common_steps)
 
 pub returns : goal.returns
 unfolding Fields.name_at

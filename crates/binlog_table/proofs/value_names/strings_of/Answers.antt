@@ -1,6 +1,5 @@
 use Rattle.std.proofs.Common.{◌≡◌, ℕ, List, ◌++◌, ◌∷◌, [], map, Vec, ap, ◌∙◌}
 use Rattle.std.specs.declared.alloc.Global.{Global}
-use Rattle.std.proofs.lemmas.Result.{err_from_is_err_and}
 use Rattle.std.proofs.lemmas.List.{map_push}
 use Rattle.binlog_table.specs.Names.{strings_at}
 use Rattle.binlog_table.proofs.FirstFaults.{fails_as}
@@ -10,15 +9,14 @@ use Rattle.binlog_table.proofs.value_names.strings_of.Goals as goal
 abbrev bytes_in : Vec ℕ Global → List ℕ
 bytes_in v = v.items
 
-pub returns-in_err-text : goal.returns-in_err-text
-returns-in_err-text c =
-    let p = err_from_is_err_and c.from_residual.result c.from_residual.ensures.1 in
-    rw (p.1, p.2) (strings-no_string c.args.count c.loop.counter (map bytes_in c.loop.strings.items) c.loop.rest.now (strings_at c.args.count c.args.bytes.now) c.loop-test.true c.loop.invariant c.in_err-text.field-0.0 (fails_as _ _ c.in_err-text.ensures))
+pub returns-in-Err : goal.returns-in-Err
+returns-in-Err c =
+    strings-no_string c.args.count c.loop.counter (map bytes_in c.loop.strings.items) c.loop.rest.now (strings_at c.args.count c.args.bytes.now) c.loop-test.true c.loop.invariant c.in-Err.fault (fails_as _ _ c.in-Err.ensures)
 
 pub loop-preserved : goal.loop-preserved
 loop-preserved c =
-    let e : map bytes_in c.push.new.self.items ≡ map bytes_in c.loop.strings.items ++ c.in_ok-text.text.now ∷ [] = rw c.in_ok-push.ensures.items (map_push bytes_in c.loop.strings.items c.in_ok-from_slice.field-0 ∙ ap (λ (s : List ℕ). map bytes_in c.loop.strings.items ++ s ∷ []) c.in_ok-from_slice.ensures.items) in
-    rw e (strings-more c.args.count c.loop.counter (map bytes_in c.loop.strings.items) c.loop.rest.now (strings_at c.args.count c.args.bytes.now) c.loop-test.true c.loop.invariant (c.in_ok-text.text.now, c.in_ok-text.after.now) c.in_ok-text.ensures)
+    let e : map bytes_in c.push.new.self.items ≡ map bytes_in c.loop.strings.items ++ c.in-Ok.value.0.now ∷ [] = rw c.in_ok-push.ensures.items (map_push bytes_in c.loop.strings.items c.in_ok-from_slice.field-0 ∙ ap (λ (s : List ℕ). map bytes_in c.loop.strings.items ++ s ∷ []) c.in_ok-from_slice.ensures.items) in
+    rw e (strings-more c.args.count c.loop.counter (map bytes_in c.loop.strings.items) c.loop.rest.now (strings_at c.args.count c.args.bytes.now) c.loop-test.true c.loop.invariant (c.in-Ok.value.0.now, c.in-Ok.value.1.now) c.in-Ok.ensures)
 
 pub returns : goal.returns
 returns c = strings-done c.args.count c.loop.counter (map bytes_in c.loop.strings.items) c.loop.rest.now (strings_at c.args.count c.args.bytes.now) c.loop-test.false c.loop.invariant
