@@ -1,19 +1,19 @@
 -- The values of a key's columns, and the keys of a change.
-use Rattle.std.proofs.Common.{◌≡◌, ℕ, suc, ◌+◌, ◌<◌, List, [], ◌∷◌, ◌++◌, length, drop, get_or, drop-cons, add-one, append_assoc, Bool, true, false, true≢false, cond, ◌||◌, Option, None, Some, option_map, slice_get, refl, sym, ap, ◌∙◌}
+use Rattle.std.proofs.Common.{◌≡◌, ℕ, suc, ◌+◌, ◌<◌, ◌≤◌, ◌==◌, eqb-true, eq-eqb, List, [], ◌∷◌, ◌++◌, length, drop, get_or, drop-cons, drop_of_length-le, add-one, append_assoc, Bool, true, false, true≢false, cond, ◌||◌, Option, None, Some, option_map, slice_get, refl, sym, subst, ap, ◌∙◌, arith}
 use Rattle.std.specs.Prelude.{option_and_then, is_some}
 use Rattle.std.proofs.lemmas.Slice.Eq.{bytes_eq-Decides}
 use Rattle.std.specs.List.{list_any}
 use Rattle.std.specs.Str.{bytes_eq}
-use Rattle.serde_json.specs.Data.{Data}
+use Rattle.serde_json.specs.Data.{Data, array}
 use Rattle.serde_json.specs.View.{items_of}
-use Rattle.serde_json.specs.Written.{items_text}
+use Rattle.serde_json.specs.Written.{compact_text, items_text}
 use Rattle.binlog_table.specs.declared.cell.Cell.{Cell}
 use Rattle.binlog_table.specs.declared.cell.Cell.TheVariants as cells
 use Rattle.binlog_table.specs.MapWords.{value_names_in}
 use Rattle.binlog_table.specs.RowImage.{RowImage}
 use Rattle.binlog_table.specs.Value.{view, absent}
 use Rattle.binlog_json.specs.Joining.{comma_if}
-use Rattle.binlog_json.specs.Keys.{different_texts, is_text, value_in, value_in_either, values_in}
+use Rattle.binlog_json.specs.Keys.{different_texts, image_key, is_text, key_of, value_in, value_in_either, values_in}
 use Rattle.binlog_json.specs.Values.{content_data}
 use Rattle.binlog_json.specs.Written.{text_if}
 use Rattle.binlog_json.proofs.ColumnTexts.{absent_is, index_of_get, present_is}
@@ -49,6 +49,71 @@ key_more image other columns k text comma new later now whole below c n is found
     let next : k + 1 ≡ suc k = add-one k in
     let step = key_step (value_in_either image other column) (values_in image other (drop (suc k) columns)) text comma new later now c n is found in
     rw next (step ∙ (rw first at inv))
+
+-- ---- the key of an image
+
+no_columns : (image : RowImage) (other : Option RowImage) (columns : List ℕ) → true ≡ (length columns == 0) → None ≡ option_map compact_text (key_of image other columns)
+no_columns image other [] none = refl
+no_columns image other (column ∷ columns) none =
+    let zero_long : length (column ∷ columns) ≡ 0 = eqb-true (length (column ∷ columns)) 0 (sym none) in
+    absurd (omega arith)
+
+-- no columns are no key
+pub key_empty : (image : RowImage) (other : Option RowImage) (columns : List ℕ) → columns ≡ image.table.key → true ≡ (length columns == 0) → None ≡ option_map compact_text (image_key image other)
+key_empty image other columns is none = subst (λ (key : List ℕ). None ≡ option_map compact_text (key_of image other key)) is (no_columns image other columns none)
+
+none_of : (values : Option (List Data)) (begun : List ℕ) → option_map (λ values. begun ++ items_text false (items_of values)) values ≡ None
+    → None ≡ option_map compact_text (option_map (λ values. array (items_of values)) values)
+none_of None begun none = refl
+none_of (Some values) begun none = absurd (cc)
+
+none_at : (image : RowImage) (other : Option RowImage) (columns : List ℕ) (begun : List ℕ) → option_map (λ values. begun ++ items_text false (items_of values)) (values_in image other columns) ≡ None
+    → None ≡ option_map compact_text (key_of image other columns)
+none_at image other [] begun none = refl
+none_at image other (column ∷ columns) begun none = none_of (values_in image other (column ∷ columns)) begun none
+
+lacks_step : (v : Option Data) (rest : Option (List Data)) (now : Bool) → now ≡ is_some v → now ≡ false
+    → option_and_then (λ value. option_map (λ values. value ∷ values) rest) v ≡ None
+lacks_step None rest now has none = refl
+lacks_step (Some value) rest now has none = absurd (true≢false (sym has ∙ none))
+
+-- a column that neither image has
+pub key_lacks : (image : RowImage) (other : Option RowImage) (columns : List ℕ) (k : ℕ) (begun text : List ℕ) (later now : Bool) → columns ≡ image.table.key → k < length columns
+    → now ≡ is_some (value_in_either image other (get_or columns k 0)) → now ≡ false
+    → option_map (λ values. text ++ items_text later (items_of values)) (values_in image other (drop k columns))
+    ≡ option_map (λ values. begun ++ items_text false (items_of values)) (values_in image other columns)
+    → None ≡ option_map compact_text (image_key image other)
+key_lacks image other columns k begun text later now of_key below has none inv =
+    let column = get_or columns k 0 in
+    let first : drop k columns ≡ column ∷ drop (suc k) columns = drop-cons columns k 0 below in
+    let lacks : values_in image other (drop k columns) ≡ None =
+    ap (λ (list : List ℕ). values_in image other list) first ∙ lacks_step (value_in_either image other column) (values_in image other (drop (suc k) columns)) now has none in
+    let whole : option_map (λ values. begun ++ items_text false (items_of values)) (values_in image other columns) ≡ None =
+    sym inv ∙ ap (λ (list : Option (List Data)). option_map (λ values. text ++ items_text later (items_of values)) list) lacks in
+    subst (λ (key : List ℕ). None ≡ option_map compact_text (key_of image other key)) of_key (none_at image other columns begun whole)
+
+all_of : (values : Option (List Data)) (begun text : List ℕ) → begun ≡ 91 ∷ [] → Some text ≡ option_map (λ values. begun ++ items_text false (items_of values)) values
+    → Some text ≡ option_map compact_text (option_map (λ values. array (items_of values)) values)
+all_of None begun text b all = absurd (cc)
+all_of (Some values) begun text b all = all ∙ ap (λ (front : List ℕ). Some (front ++ items_text false (items_of values))) b
+
+all_at : (image : RowImage) (other : Option RowImage) (columns : List ℕ) (begun text : List ℕ) → false ≡ (length columns == 0) → begun ≡ 91 ∷ []
+    → Some text ≡ option_map (λ values. begun ++ items_text false (items_of values)) (values_in image other columns)
+    → Some text ≡ option_map compact_text (key_of image other columns)
+all_at image other [] begun text some b all = absurd (true≢false (sym (some ∙ eq-eqb 0 0 refl)))
+all_at image other (column ∷ columns) begun text some b all = all_of (values_in image other (column ∷ columns)) begun text b all
+
+-- behind the last column
+pub key_ends : (image : RowImage) (other : Option RowImage) (columns : List ℕ) (k : ℕ) (start begun text new : List ℕ) (later : Bool) → columns ≡ image.table.key → false ≡ (length columns == 0)
+    → length columns ≤ k → start ≡ [] → begun ≡ start ++ 91 ∷ [] → new ≡ text ++ 93 ∷ []
+    → option_map (λ values. text ++ items_text later (items_of values)) (values_in image other (drop k columns))
+    ≡ option_map (λ values. begun ++ items_text false (items_of values)) (values_in image other columns)
+    → Some new ≡ option_map compact_text (image_key image other)
+key_ends image other columns k start begun text new later of_key some end empty b n inv =
+    let none : drop k columns ≡ [] = drop_of_length-le columns {i = k} end in
+    let bracket : begun ≡ 91 ∷ [] = b ∙ ap (λ (list : List ℕ). list ++ 91 ∷ []) empty in
+    let all : Some (text ++ 93 ∷ []) ≡ option_map (λ values. begun ++ items_text false (items_of values)) (values_in image other columns) = rw none at inv in
+    ap Some n ∙ subst (λ (key : List ℕ). Some (text ++ 93 ∷ []) ≡ option_map compact_text (key_of image other key)) of_key (all_at image other columns begun (text ++ 93 ∷ []) some bracket all)
 
 -- ---- a key among those of both rows
 
