@@ -1,8 +1,9 @@
 -- The values of a key's columns, and the keys of a change.
-use Rattle.std.proofs.Common.{◌≡◌, ℕ, suc, ◌+◌, ◌<◌, ◌≤◌, ◌==◌, eqb-true, eq-eqb, List, [], ◌∷◌, ◌++◌, length, drop, get_or, drop-cons, drop_of_length-le, add-one, append_assoc, Bool, true, false, true≢false, cond, ◌||◌, Option, None, Some, option_map, slice_get, refl, sym, subst, ap, ◌∙◌, arith}
+use Rattle.std.proofs.Common.{◌≡◌, ℕ, suc, ◌+◌, ◌<◌, ◌≤◌, ◌==◌, eqb-true, eq-eqb, List, [], ◌∷◌, ◌++◌, length, drop, get_or, drop-cons, drop_of_length-le, add-one, append_assoc, Bool, true, false, true≢false, cond, ◌||◌, Option, None, Some, Result, Ok, Err, OnOk, IfOk, append-nil, option_map, slice_get, refl, sym, subst, ap, ◌∙◌, arith}
 use Rattle.std.specs.Prelude.{option_and_then, is_some}
 use Rattle.std.proofs.lemmas.Slice.Eq.{bytes_eq-Decides}
 use Rattle.std.specs.List.{list_any}
+use Rattle.std.specs.Option.{option_or}
 use Rattle.std.specs.Str.{bytes_eq}
 use Rattle.serde_json.specs.Data.{Data, array}
 use Rattle.serde_json.specs.View.{items_of}
@@ -27,6 +28,46 @@ pub value_is : (image : RowImage) (column : ℕ) (cell : Cell) → slice_get ima
     → value_in image column ≡ Some (content_data (value_names_in image.table column) (view cell))
 value_is image column cell at some =
     rw (present_is image column cell at some) (ap (λ content. Some (content_data (value_names_in image.table column) content)) (index_of_get image.cells column (view cell) absent at))
+
+-- ---- the value of a column in an image, or else in another one
+
+first_or : (first second : Option Data) (has : Bool) → has ≡ is_some first → has ≡ true → option_or first second ≡ first
+first_or None second has is there = absurd (true≢false (sym there ∙ is))
+first_or (Some value) second has is there = refl
+
+none_first : (first : Option Data) (has : Bool) → has ≡ is_some first → has ≡ false → first ≡ None
+none_first None has is none = refl
+none_first (Some value) has is none = absurd (true≢false (sym is ∙ none))
+
+pub first_is : (image : RowImage) (other : Option RowImage) (column : ℕ) (has : Bool) → has ≡ is_some (value_in image column) → has ≡ true
+    → value_in_either image other column ≡ value_in image column
+first_is image other column has is there = first_or (value_in image column) (option_and_then (λ second. value_in second column) other) has is there
+
+pub second_is : (image : RowImage) (other : Option RowImage) (column : ℕ) (has : Bool) → has ≡ is_some (value_in image column) → has ≡ false
+    → value_in_either image other column ≡ option_and_then (λ second. value_in second column) other
+second_is image other column has is none =
+    ap (λ (first : Option Data). option_or first (option_and_then (λ second. value_in second column) other)) (none_first (value_in image column) has is none)
+
+-- nothing was appended for an image that lacks the column
+pub lacks_text : (image : RowImage) (column : ℕ) (has : Bool) (old new : List ℕ) → has ≡ is_some (value_in image column) → has ≡ false → new ≡ old ++ text_if (value_in image column) → new ≡ old
+lacks_text image column has old new is none text =
+    text ∙ ap (λ (first : Option Data). old ++ text_if first) (none_first (value_in image column) has is none) ∙ append-nil old
+
+pub second_text : {E : Type 0} (r : Result Bool E) (image : RowImage) (other : Option RowImage) (second : RowImage) (column : ℕ) (has : Bool) (old mid new : List ℕ)
+    → has ≡ is_some (value_in image column) → has ≡ false → mid ≡ old ++ text_if (value_in image column) → other ≡ Some second
+    → OnOk r (new ≡ mid ++ text_if (value_in second column)) → OnOk r (new ≡ old ++ text_if (value_in_either image other column))
+second_text (Ok u) image other second column has old mid new is none first some text =
+    text ∙ ap (λ (list : List ℕ). list ++ text_if (value_in second column)) (lacks_text image column has old mid is none first)
+    ∙ ap (λ (value : Option Data). old ++ text_if value)
+    (sym (second_is image other column has is none ∙ ap (λ (o : Option RowImage). option_and_then (λ second. value_in second column) o) some))
+second_text (Err x) image other second column has old mid new is none first some text = tt
+
+pub second_has : {E : Type 0} (r : Result Bool E) (image : RowImage) (other : Option RowImage) (second : RowImage) (column : ℕ) (has : Bool)
+    → has ≡ is_some (value_in image column) → has ≡ false → other ≡ Some second
+    → IfOk r (λ now. now ≡ is_some (value_in second column)) → IfOk r (λ now. now ≡ is_some (value_in_either image other column))
+second_has (Ok b) image other second column has is none some now =
+    now ∙ ap is_some (sym (second_is image other column has is none ∙ ap (λ (o : Option RowImage). option_and_then (λ second. value_in second column) o) some))
+second_has (Err x) image other second column has is none some now = tt
 
 -- ---- the values of a key's columns, one behind another
 
