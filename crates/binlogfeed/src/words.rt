@@ -54,7 +54,10 @@ pub fn read_words<'a>(alloc: Global, words: &'a [&'a str]) -> Result<Order<'a>, 
     ensures answers { AnswersWords (texts words.entry.now) result }
     ensures taken { takes program_app (texts words.entry.now) ≡ true → AnswersFound (subcommand_of program_app (texts words.entry.now)) result }
 {
-    let command = program(alloc)?;
+    let command = match program(alloc) {
+        Ok(command) => command,
+        Err(_) => return Err(WordsFault::OutOfMemory),
+    };
     let matches = match command.try_get_matches_from(words) {
         Ok(matches) => matches,
         Err(error) => return Err(refused(error)),
