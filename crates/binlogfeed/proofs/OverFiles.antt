@@ -37,6 +37,7 @@ unopened_is_status (open_faults.BadName path) = inr (inr (inr (inr (inl refl))))
 unopened_is_status (open_faults.CannotOpen path) = inr (inr (inr (inr (inl refl))))
 unopened_is_status open_faults.OutOfMemory = inr (inr (inr (inr (inr refl))))
 
+-- whatever the words come to
 pub words_are_status : (fault : WordsFault) → IsStatus (words_status_of fault)
 words_are_status (Help error) = inl refl
 words_are_status CommandLine = inr (inr (inl refl))
