@@ -1,7 +1,7 @@
 -- What a subcommand that was found comes to.
 use Rattle.std.proofs.Common.{◌≡◌, refl, Bool, true, false, true≢false, List, Option, Some, None, option_map, Result, Ok, Err, codes, sym, ap, subst, ◌∙◌}
 use Rattle.std.proofs.lemmas.Slice.Eq.{bytes_eq-Decides}
-use Rattle.std.specs.Prelude.{Box, IsErrAnd}
+use Rattle.std.specs.Prelude.{Box, IfErr, IsErrAnd}
 use Rattle.std.specs.Str.{bytes_eq}
 use Rattle.std.specs.Box.{box_value}
 use Rattle.std.specs.declared.alloc.Global.{Global}
@@ -88,3 +88,7 @@ key_refused rows (Help error) h = absurd h
 pub failed : (found : Option (Text × List Row)) (fault : WordsFault) (result : Result Order WordsFault) → AnswersFound found (Err fault) → IsErrAnd result (λ given. given ≡ fault) → AnswersFound found result
 failed found fault (Ok order) h k = absurd k
 failed found fault (Err given) h k = subst (λ (f : WordsFault). AnswersFound found (Err f)) (sym k) h
+
+pub token_failed : {A : Type 0} (given : Option Text) (fault : WordsFault) (result : Result A WordsFault) → IsTokenFault given fault → IsErrAnd result (λ found. found ≡ fault) → IfErr result (IsTokenFault given)
+token_failed given fault (Ok order) h k = tt
+token_failed given fault (Err found) h k = subst (IsTokenFault given) (sym k) h

@@ -1,5 +1,5 @@
 -- A key of the command line has no float.
-use Rattle.std.proofs.Common.{◌≡◌, List, [], ◌∷◌, ℕ, suc, length, ◌==◌, Bool, true, false, true≢false, ◌&&◌, ◌||◌, Option, Some, None, String, BTreeMap, Global, codes, refl, sym, ap, ◌∙◌, subst, arith}
+use Rattle.std.proofs.Common.{◌≡◌, List, [], ◌∷◌, ℕ, suc, length, ◌==◌, Bool, true, false, true≢false, ◌&&◌, ◌||◌, Some, None, String, BTreeMap, Global, codes, refl, sym, ap, ◌∙◌, subst, arith}
 use Rattle.std.proofs.lemmas.Bool.{ne_eqb}
 use Rattle.std.specs.Prelude.{option_and_then, is_some}
 use Rattle.std.specs.Ordering.{match_ordering, nat_cmp}

@@ -2,7 +2,13 @@
 use Rattle.std.proofs.Common.{◌≡◌, ℕ, List, Bool, Option, Result, Ok, Err, refl, sym, subst, inl, inr}
 use Rattle.binlog_frame.specs.declared.open_fault.OpenFault.{OpenFault}
 use Rattle.binlog_frame.specs.declared.open_fault.OpenFault.TheVariants as open_faults
-use Rattle.binlogfeed.specs.Statuses.{EndsRun, IsStatus, judgement_of, open_status_of, output_of, run_status_of}
+use Rattle.binlog_frame.specs.declared.files.FileLogs.{FileLogs}
+use Rattle.binlogfeed.specs.Words.{words_status_of}
+use Rattle.binlogfeed.specs.declared.words.Order.{Order}
+use Rattle.binlogfeed.specs.declared.words_fault.WordsFault.{WordsFault}
+use Rattle.binlogfeed.specs.declared.words_fault.WordsFault.TheVariants.{Help, CommandLine, EventName, Set, Key}
+use Rattle.binlogfeed.specs.declared.words_fault.WordsFault.TheVariants as words_faults
+use Rattle.binlogfeed.specs.Statuses.{EndsAnswer, EndsRun, IsStatus, judgement_of, open_status_of, output_of, run_status_of}
 use Rattle.binlogfeed.specs.declared.fault.RunFault.{RunFault}
 use Rattle.binlogfeed.specs.declared.fault.RunFault.TheVariants.{DuplicateFile, Token, Log, Read, Write, OutOfMemory}
 use Rattle.binlogfeed.specs.declared.program.Task.{Task}
@@ -30,3 +36,18 @@ pub unopened_is_status : (fault : OpenFault) → IsStatus (open_status_of fault)
 unopened_is_status (open_faults.BadName path) = inr (inr (inr (inr (inl refl))))
 unopened_is_status (open_faults.CannotOpen path) = inr (inr (inr (inr (inl refl))))
 unopened_is_status open_faults.OutOfMemory = inr (inr (inr (inr (inr refl))))
+
+-- whatever the words come to
+pub words_are_status : (fault : WordsFault) → IsStatus (words_status_of fault)
+words_are_status (Help error) = inl refl
+words_are_status CommandLine = inr (inr (inl refl))
+words_are_status (EventName word) = inr (inr (inl refl))
+words_are_status (Set at) = inr (inr (inl refl))
+words_are_status words_faults.Token = inr (inr (inr (inl refl)))
+words_are_status Key = inr (inr (inl refl))
+words_are_status words_faults.OutOfMemory = inr (inr (inr (inr (inr refl))))
+
+pub ended_is_status : {F : Type 0} (answer : Result Order WordsFault) (contents : List (List ℕ)) (logs : Option (FileLogs F)) (old new : Option (List ℕ)) (status : ℕ)
+    → EndsAnswer answer contents logs old new status → IsStatus status
+ended_is_status (Ok order) contents logs old new status h = h.is_status
+ended_is_status (Err fault) contents logs old new status (none, same, e) = subst IsStatus (sym e) (words_are_status fault)

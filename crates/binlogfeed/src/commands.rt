@@ -225,7 +225,10 @@ fn subcommand<'a>(alloc: Global, words: &'a SubcommandWords) -> Result<Command<'
         .about(words.about)
         .after_help(words.after_help);
     'options: for option in words.options {
-        command = command.arg(option_argument(alloc, option))?;
+        match command.arg(option_argument(alloc, option)) {
+            Ok(more) => command = more,
+            Err(error) => return Err(error),
+        }
     }
     command.arg(file_argument(alloc))
 }

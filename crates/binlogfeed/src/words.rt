@@ -1,7 +1,8 @@
 //! What the words of the command line ask for.
-ghost use Rattle.std.specs.Prelude.{◌≡◌, ◌∷◌, IfOk, codes, true, Some};
+ghost use Rattle.std.specs.Prelude.{◌≡◌, ◌∷◌, IfOk, IfErr, codes, true, Some};
 ghost use Rattle.clap.specs.Words.{rows_of, found_of, subcommand_of, subcommand_rows_of, takes};
 ghost use Rattle.binlogfeed.specs.KeyWords.{value_given};
+ghost use Rattle.binlogfeed.specs.StartWords.{IsStart, IsTokenFault, token_text};
 ghost use Rattle.binlogfeed.specs.Words.{program_app, IsFaultOf, AnswersFound, AnswersWords, texts, files_given};
 
 use crate::commands::program;
@@ -53,7 +54,10 @@ pub fn read_words<'a>(alloc: Global, words: &'a [&'a str]) -> Result<Order<'a>, 
     ensures answers { AnswersWords (texts words.entry.now) result }
     ensures taken { takes program_app (texts words.entry.now) ≡ true → AnswersFound (subcommand_of program_app (texts words.entry.now)) result }
 {
-    let command = program(alloc)?;
+    let command = match program(alloc) {
+        Ok(command) => command,
+        Err(_) => return Err(WordsFault::OutOfMemory),
+    };
     let matches = match command.try_get_matches_from(words) {
         Ok(matches) => matches,
         Err(error) => return Err(refused(error)),
@@ -89,13 +93,26 @@ fn read<'a>(alloc: Global, matches: &ArgMatches<'a>) -> Result<Order<'a>, WordsF
     ensures { AnswersFound (Some (codes "read", rows_of (found_of matches.now))) result }
 {
     let filter = filter_given(alloc, matches)?;
-    let start = start_given(alloc, text_given(matches, "from"))?;
-    let files = files(alloc, matches)?;
+    let (files, start) = files_and_start(alloc, matches)?;
     Ok(Order::Read {
         filter,
         start,
         files,
     })
+}
+
+/// The files of a read, and the start that `--from` names.
+fn files_and_start<'a>(
+    alloc: Global,
+    matches: &ArgMatches<'a>,
+) -> Result<(Vec<&'a str>, Start), WordsFault>
+    ensures files { IfOk result (λ given. texts given.0.items ≡ files_given (rows_of (found_of matches.now))) }
+    ensures start { IfOk result (λ given. IsStart (token_text (rows_of (found_of matches.now))) given.1) }
+    ensures err { IfErr result (IsTokenFault (token_text (rows_of (found_of matches.now)))) }
+{
+    let files = files(alloc, matches)?;
+    let start = start_given(alloc, text_given(matches, "from"))?;
+    Ok((files, start))
 }
 
 fn history<'a>(alloc: Global, matches: &ArgMatches<'a>) -> Result<Order<'a>, WordsFault>

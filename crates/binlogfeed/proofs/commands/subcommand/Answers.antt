@@ -18,9 +18,9 @@ options-init c =
 
 pub options-preserved : goal.options-preserved
 options-preserved c = record {
-  app = option_added c.options.command c.in_ok-command.command c.option_argument.result (with_options (new_app c.args.words.now.name.now) c.args.words.now.options.now) c.args.words.now.options.now c.options.option-index _
-      c.options-test.true c.in_ok-command.ensures c.option_argument.ensures.local c.option_argument.ensures.rule c.options.invariant.app;
-  local = adds_local c.options.command c.option_argument.result c.in_ok-command.command c.in_ok-command.ensures c.option_argument.ensures.local c.options.invariant.local;
+  app = option_added c.options.command c.in-Ok.more c.option_argument.result (with_options (new_app c.args.words.now.name.now) c.args.words.now.options.now) c.args.words.now.options.now c.options.option-index _
+      c.options-test.true c.in-Ok.ensures c.option_argument.ensures.local c.option_argument.ensures.rule c.options.invariant.app;
+  local = adds_local c.options.command c.option_argument.result c.in-Ok.more c.in-Ok.ensures c.option_argument.ensures.local c.options.invariant.local;
 }
 
 pub returns : goal.returns

@@ -20,59 +20,66 @@ opening-preserved g c =
       start = back.start_back ∙ c.opening.invariant.start;
     }
 
-pub returns-in-Ok-clause-fits : goal.returns-in-Ok-clause-fits
-returns-in-Ok-clause-fits g c = λ h.
+pub returns-in-Ok : goal.returns-in-Ok
+returns-in-Ok g c =
     let kept = c.opening.invariant.source in
-    rw (kept.same_names, kept.same_contents, c.opening.invariant.start) at (c.in-Ok.ensures.begins h).0
+    let given = c.in-Ok.ensures in
+    record {
+      fits = λ h. rw (kept.same_names, kept.same_contents, c.opening.invariant.start) at (given.begins h).0;
+      begins = λ h. rw (kept.same_names, kept.same_contents, c.opening.invariant.start, c.opening.invariant.filter) at (given.begins h).1;
+      differ = rw kept.same_names at given.differ;
+      names = given.names ∙ kept.same_names;
+      contents = given.contents ∙ kept.same_contents;
+      lengths = given.lengths ∙ kept.same_lengths;
+      was_honest = λ h. kept.was_honest (given.was_honest h);
+      no_fewer = no_fewer_still _ _ _ kept.no_fewer given.no_fewer;
+      refused = tt;
+      source_back = tt;
+      named = tt;
+      failed = tt;
+    }
 
-pub returns-in-Ok-clause-begins : goal.returns-in-Ok-clause-begins
-returns-in-Ok-clause-begins g c = λ h.
+pub returns-in_default : goal.returns-in_default
+returns-in_default g c =
     let kept = c.opening.invariant.source in
-    rw (kept.same_names, kept.same_contents, c.opening.invariant.start, c.opening.invariant.filter) at (c.in-Ok.ensures.begins h).1
-
-pub returns-in-Ok-clause-differ : goal.returns-in-Ok-clause-differ
-returns-in-Ok-clause-differ g c = rw c.opening.invariant.source.same_names at c.in-Ok.ensures.differ
-
-pub returns-in-Ok-clause-names : goal.returns-in-Ok-clause-names
-returns-in-Ok-clause-names g c = c.in-Ok.ensures.names ∙ c.opening.invariant.source.same_names
-
-pub returns-in-Ok-clause-contents : goal.returns-in-Ok-clause-contents
-returns-in-Ok-clause-contents g c = c.in-Ok.ensures.contents ∙ c.opening.invariant.source.same_contents
-
-pub returns-in-Ok-clause-lengths : goal.returns-in-Ok-clause-lengths
-returns-in-Ok-clause-lengths g c = c.in-Ok.ensures.lengths ∙ c.opening.invariant.source.same_lengths
-
-pub returns-in-Ok-clause-was_honest : goal.returns-in-Ok-clause-was_honest
-returns-in-Ok-clause-was_honest g c = λ h. c.opening.invariant.source.was_honest (c.in-Ok.ensures.was_honest h)
-
-pub returns-in-Ok-clause-no_fewer : goal.returns-in-Ok-clause-no_fewer
-returns-in-Ok-clause-no_fewer g c = no_fewer_still _ _ _ c.opening.invariant.source.no_fewer c.in-Ok.ensures.no_fewer
-
-pub returns-in_default-clause-refused : goal.returns-in_default-clause-refused
-returns-in_default-clause-refused g c = λ h.
     let arm = c.in-Err-WindowTooSmall-default-default-default-default in
-    let small = rw arm.field-0-0-is at (arm.ensures.refused h) in
-    (rw c.opening.invariant.source.same_names at small.0, tt)
+    record {
+      fits = tt;
+      begins = tt;
+      differ = tt;
+      names = tt;
+      contents = tt;
+      lengths = tt;
+      was_honest = tt;
+      no_fewer = tt;
+      refused = λ h.
+          let small = rw arm.field-0-0-is at (arm.ensures.refused h) in
+          (rw kept.same_names at small.0, tt);
+      source_back = source_kept_further _ _ _ _ _ _ _ _ kept arm.ensures.source_back;
+      named = tt;
+      failed = tt;
+    }
 
-pub returns-in_default-clause-source_back : goal.returns-in_default-clause-source_back
-returns-in_default-clause-source_back g c =
-    source_kept_further _ _ _ _ _ _ _ _ c.opening.invariant.source (c.in-Err-WindowTooSmall-default-default-default-default).ensures.source_back
-
-pub returns-in-Err-clause-refused : goal.returns-in-Err-clause-refused
-returns-in-Err-clause-refused g c = λ h.
+pub returns-in-Err : goal.returns-in-Err
+returns-in-Err g c =
     let kept = c.opening.invariant.source in
-    rw (kept.same_names, kept.same_contents, c.opening.invariant.start) at (c.in-Err.ensures.refused h)
-
-pub returns-in-Err-clause-source_back : goal.returns-in-Err-clause-source_back
-returns-in-Err-clause-source_back g c =
-    source_kept_further _ _ _ _ _ _ _ _ c.opening.invariant.source c.in-Err.ensures.source_back
-
-pub returns-in-Err-clause-named : goal.returns-in-Err-clause-named
-returns-in-Err-clause-named g c =
-    subst (λ (names : List (List ℕ)). IsNamed names (fault_of_opening c.in-Err.fault)) c.opening.invariant.source.same_names
-    (start_named (g.L.Logs.names c.opening.logs) (length c.opening.window.items) (g.L.Logs.failures c.opening.logs) (g.L.Logs.failures c.in-Err.logs_back) c.in-Err.fault c.in-Err.ensures.reason)
-
-pub returns-in-Err-clause-failed : goal.returns-in-Err-clause-failed
-returns-in-Err-clause-failed g c =
-    reads_failed_since (g.L.Logs.failures c.args.logs) (g.L.Logs.failures c.opening.logs) (g.L.Logs.failures c.in-Err.logs_back) (fault_of_opening c.in-Err.fault) c.opening.invariant.source.no_fewer
-    (start_failed (g.L.Logs.names c.opening.logs) (length c.opening.window.items) (g.L.Logs.failures c.opening.logs) (g.L.Logs.failures c.in-Err.logs_back) c.in-Err.fault c.in-Err.ensures.reason)
+    let back = c.in-Err.ensures in
+    let names = g.L.Logs.names c.opening.logs in
+    let window = length c.opening.window.items in
+    let before = g.L.Logs.failures c.opening.logs in
+    let after = g.L.Logs.failures c.in-Err.logs_back in
+    let fault = c.in-Err.fault in
+    record {
+      fits = tt;
+      begins = tt;
+      differ = tt;
+      names = tt;
+      contents = tt;
+      lengths = tt;
+      was_honest = tt;
+      no_fewer = tt;
+      refused = λ h. rw (kept.same_names, kept.same_contents, c.opening.invariant.start) at (back.refused h);
+      source_back = source_kept_further _ _ _ _ _ _ _ _ kept back.source_back;
+      named = subst (λ (list : List (List ℕ)). IsNamed list (fault_of_opening fault)) kept.same_names (start_named names window before after fault back.reason);
+      failed = reads_failed_since (g.L.Logs.failures c.args.logs) before after (fault_of_opening fault) kept.no_fewer (start_failed names window before after fault back.reason);
+    }
