@@ -146,7 +146,7 @@ fn show_refusal(line: &mut Page, fault: AtFault) -> Answer {
     match fault {
         AtFault::Feed(fault) => show_fault(line, fault),
         fault => {
-            write!(line, "{fault:?}");
+            line.push_debug(&fault);
             Answer::Ended(None)
         }
     }
@@ -174,8 +174,9 @@ fn judge_look(look: Look<'_>, answer: Answer, reach: Place, line: &mut Page) -> 
         line.clear();
         return None;
     }
-    let (file, offset) = reach;
-    write!(line, "; reach {file}:{offset}, in place of {wanted}");
+    line.push_place("; reach ", reach);
+    line.push_str(", in place of ");
+    line.push_str(wanted);
     Some(Answer::Ended(None))
 }
 

@@ -58,7 +58,10 @@ fn names_at<R: Files + AllocGlobal>(rt: &R, paths: &[&str]) -> Result<String, Re
     let mut text = Page::new(rt.alloc());
     match opened(rt, rt.alloc(), paths) {
         Ok(logs) => show_names(&mut text, &logs),
-        Err(fault) => write!(text, "{fault:?}\n"),
+        Err(fault) => {
+            text.push_debug(&fault);
+            text.push('\n');
+        }
     }
     text.into_text()
 }

@@ -7,15 +7,14 @@ use std::alloc::Global;
 /// The names and the lengths of a source's files.
 pub fn show_names<L: Logs>(text: &mut Page, logs: &L) {
     for file in 0..logs.count() {
-        write!(
-            text,
-            "{file} {}, {} bytes\n",
-            logs.name(file),
-            logs.len(file)
-        );
+        text.push_number(file as u64);
+        text.push(' ');
+        text.push_str(logs.name(file));
+        text.push_named(", ", logs.len(file));
+        text.push_str(" bytes\n");
     }
-    let count = logs.count();
-    write!(text, "{count} files\n");
+    text.push_number(logs.count() as u64);
+    text.push_str(" files\n");
 }
 
 /// A source of the case's files.
@@ -34,17 +33,21 @@ pub fn names_of_files(alloc: Global, case: &Case) -> Result<String, Refused> {
     let mut text = Page::new(alloc);
     match MemoryLogs::new(files) {
         Ok(logs) => show_names(&mut text, &logs),
-        Err(fault) => write!(text, "{fault:?}\n"),
+        Err(fault) => {
+            text.push_debug(&fault);
+            text.push('\n');
+        }
     }
     text.into_text()
 }
 
 /// How many bytes a read gave, and which.
 fn show_given(text: &mut Page, bytes: &[u8]) {
-    let count = bytes.len();
-    write!(text, "{count}:");
+    text.push_number(bytes.len() as u64);
+    text.push(':');
     for byte in bytes {
-        write!(text, " {byte:02x}");
+        text.push(' ');
+        text.push_hex(*byte);
     }
 }
 
@@ -61,11 +64,11 @@ fn read_once(
     }
     let mut buf = vec![in alloc; 0u8; count]?;
     match logs.read_at(file, offset, &mut buf) {
-        Err(fault) => write!(text, "{fault:?}"),
+        Err(fault) => text.push_debug(&fault),
         Ok(count) => show_given(text, &buf[..count]),
     }
-    let (file, offset) = logs.reach();
-    write!(text, "; reach {file}:{offset}\n");
+    text.push_place("; reach ", logs.reach());
+    text.push('\n');
     Ok(())
 }
 

@@ -1,11 +1,11 @@
 //! Sweeps over frames, units and the feed: reads that fail, are short or turn to other bytes, and files that are cut or changed.
+use crate::page::Page;
 use crate::reading::tell;
 use crate::steps::Told;
 use crate::watched::{Place, Turning};
 use crate::ways::{Layer, Reading};
 use case_language::{Case, Named, Reads, Refused, Verdict, copies_of};
 use std::alloc::Global;
-use std::fmt::Write;
 
 /// Reads of at most so many bytes are tried.
 const SHORT_READS: usize = 130;
@@ -107,27 +107,31 @@ fn wanted_of_cut(
     let Some(given) = whole.text.as_str().get(..length) else {
         return Err(Refused::NoText);
     };
-    let mut text = String::from_str(alloc, given)?;
+    let mut text = Page::new(alloc);
+    text.push_str(given);
     match layer {
-        Layer::Frames(_) => show_tail(&mut text, place, reached)?,
-        _ => text.push_str("end\n")?,
+        Layer::Frames(_) => show_tail(&mut text, place, reached),
+        _ => text.push_str("end\n"),
     }
-    Ok(text)
+    text.into_text()
 }
 
 /// How the frames of a beginning of a file end. The first event stands behind four bytes.
-fn show_tail(text: &mut String, cut: Place, reached: Place) -> Result<(), Refused> {
+fn show_tail(text: &mut Page, cut: Place, reached: Place) {
     let (file, length) = cut;
     let place = match length {
         0..=3 => 0,
         _ => reached.1.max(4),
     };
     if place == length && place != 0 {
-        write!(text, "{file} end; place {place}\n")?;
+        text.push_number(file as u64);
+        text.push_str(" end");
     } else {
-        write!(text, "{file}:{place} cut tail; place {place}\n")?;
+        text.push_place("", (file, place));
+        text.push_str(" cut tail");
     }
-    Ok(())
+    text.push_named("; place ", place);
+    text.push('\n');
 }
 
 /// What is told where the last file is cut to a length.
