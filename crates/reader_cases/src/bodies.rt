@@ -2,7 +2,7 @@
 use crate::page::Page;
 use crate::units::show_numbered;
 use binlog_frame::{Class, Header, kind, read_gtid, read_query, read_rotate, read_xid};
-use case_language::{Pieces, Refused, number, only_word};
+use case_language::{Pieces, Refused, only_word};
 use std::alloc::Global;
 use uuid::Uuid;
 
@@ -92,7 +92,7 @@ pub fn show_body(line: &mut Page, kind: u8, body: &[u8]) {
 
 /// The kind that a word names.
 fn kind_of(word: &str) -> Result<u8, Refused> {
-    match u8::try_from(number(word)?) {
+    match word.parse::<u8>() {
         Ok(kind) => Ok(kind),
         Err(_) => Err(Refused::BadPart),
     }
@@ -127,14 +127,6 @@ fn told_body(alloc: Global, kind: &str, body: &[u8]) -> Result<String, Refused> 
     show_body(&mut text, kind_of(kind)?, body);
     text.push('\n');
     text.into_text()
-}
-
-/// `body KIND PART..`: what the body of an event of that kind says.
-pub fn body_text(alloc: Global, pieces: &Pieces, words: &[String]) -> Result<String, Refused> {
-    match words {
-        [kind, parts @ ..] => told_body(alloc, kind.as_str(), &pieces.bytes_of(alloc, parts)?),
-        [] => Err(Refused::BadPart),
-    }
 }
 
 /// The numbers at which a list has `true`, neighbours as a range.
@@ -176,11 +168,28 @@ fn told_lengths(alloc: Global, kind: &str, body: &[u8]) -> Result<String, Refuse
     text.into_text()
 }
 
-/// `lengths KIND PART..`: which beginnings of a body have a reading, by their lengths.
-pub fn lengths_text(alloc: Global, pieces: &Pieces, words: &[String]) -> Result<String, Refused> {
-    match words {
-        [kind, parts @ ..] => told_lengths(alloc, kind.as_str(), &pieces.bytes_of(alloc, parts)?),
-        [] => Err(Refused::BadPart),
+/// `body KIND PART..`: what the body of an event of that kind says. `lengths KIND PART..`: which beginnings of it have a reading, by
+/// their lengths.
+pub fn body_text(
+    alloc: Global,
+    pieces: &Pieces,
+    verb: &str,
+    words: &[String],
+) -> Result<String, Refused> {
+    let Some((kind, parts)) = words.split_first() else {
+        return Err(Refused::BadPart);
+    };
+    match pieces.bytes_of(alloc, parts) {
+        Ok(body) => told_of_body(alloc, verb, kind.as_str(), &body),
+        Err(why) => Err(why),
+    }
+}
+
+/// What `body` or `lengths` gives.
+fn told_of_body(alloc: Global, verb: &str, kind: &str, body: &[u8]) -> Result<String, Refused> {
+    match verb {
+        "body" => told_body(alloc, kind, body),
+        _ => told_lengths(alloc, kind, body),
     }
 }
 
@@ -208,7 +217,7 @@ fn members_of(class: Class, flags: u16) -> [bool; 256] {
 
 /// `kinds FLAGS`: the kinds of each class, where a header has these flags.
 pub fn kinds_text(alloc: Global, words: &[String]) -> Result<String, Refused> {
-    let Ok(flags) = u16::try_from(number(only_word(words)?)?) else {
+    let Ok(flags) = only_word(words)?.parse::<u16>() else {
         return Err(Refused::BadPart);
     };
     let mut text = Page::new(alloc);

@@ -26,9 +26,12 @@ fn place_in(line: &str) -> Result<TokenRef<'_>, Refused> {
     let word = line.split(' ').nth(4).unwrap_or("");
     let (place, file) = word.split_once('@').unwrap_or(("", ""));
     let (position, count) = place.split_once('.').unwrap_or(("", ""));
+    let (Ok(position), Ok(count)) = (number(position), number(count)) else {
+        return Err(Refused::BadPart);
+    };
     Ok(TokenRef {
-        position: number(position)? as u64,
-        count: number(count)? as u64,
+        position: position as u64,
+        count: count as u64,
         file,
     })
 }
@@ -128,8 +131,13 @@ fn push_looks<'a>(
     line: &'a str,
     reach: Place,
 ) -> Result<(), Refused> {
-    let place = place_in(line)?;
-    Ok(looks.extend_from_slice(&looks_by(plain, line, place, reach))?)
+    let Ok(place) = place_in(line) else {
+        return Err(Refused::BadPart);
+    };
+    match looks.extend_from_slice(&looks_by(plain, line, place, reach)) {
+        Ok(()) => Ok(()),
+        Err(_) => Err(Refused::OutOfMemory),
+    }
 }
 
 /// The looks at the changes that a plain feed told, and beside them.

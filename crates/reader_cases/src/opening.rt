@@ -68,9 +68,12 @@ fn names_at<R: Files + AllocGlobal>(rt: &R, paths: &[&str]) -> Result<String, Re
 
 /// A path, and the bytes of its file.
 fn held_by<R: Files + AllocGlobal>(rt: &R, path: &str) -> Result<Named, Refused> {
-    match fs::read(rt, path) {
-        Ok(bytes) => Ok((String::from_str(rt.alloc(), path)?, bytes)),
-        Err(_) => Err(Refused::UnknownName),
+    let Ok(bytes) = fs::read(rt, path) else {
+        return Err(Refused::UnknownName);
+    };
+    match String::from_str(rt.alloc(), path) {
+        Ok(name) => Ok((name, bytes)),
+        Err(_) => Err(Refused::OutOfMemory),
     }
 }
 

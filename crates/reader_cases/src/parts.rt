@@ -2,7 +2,7 @@
 use crate::lookups::parts_of_case;
 use crate::page::Page;
 use crate::reads::{first_window, source_of};
-use crate::steps::{Answer, Steps};
+use crate::steps::{Answer, Steps, window_of};
 use binlog_feed::{Feed, Units};
 use binlog_frame::{Logs, MemoryLogs};
 use case_language::{Case, Refused, number};
@@ -54,7 +54,7 @@ fn show_parts(text: &mut Page, logs: &MemoryLogs, window: &[u8]) {
 }
 
 fn parts_of_units(alloc: Global, case: &Case, count: usize) -> Result<String, Refused> {
-    let window = vec![in alloc; 0u8; first_window(case)]?;
+    let window = window_of(alloc, first_window(case))?;
     match Units::open(alloc, source_of(alloc, case)?, window) {
         Ok(units) => told_units(alloc, units, count),
         Err(_) => Err(Refused::BadPart),

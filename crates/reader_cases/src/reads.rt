@@ -1,5 +1,6 @@
 //! Files in memory: their names and lengths, and reads of them.
 use crate::page::Page;
+use crate::steps::window_of;
 use binlog_frame::{Logs, MemoryLogs};
 use case_language::{Case, Refused, copies_of, number, source};
 use std::alloc::Global;
@@ -62,7 +63,7 @@ fn read_once(
     if file >= logs.count() {
         return Err(Refused::UnknownName);
     }
-    let mut buf = vec![in alloc; 0u8; count]?;
+    let mut buf = window_of(alloc, count)?;
     match logs.read_at(file, offset, &mut buf) {
         Err(fault) => text.push_debug(&fault),
         Ok(count) => show_given(text, &buf[..count]),
@@ -74,26 +75,33 @@ fn read_once(
 
 /// Lets one of the reads to come fail.
 fn let_fail(logs: &mut MemoryLogs, digits: &str) -> Result<(), Refused> {
-    logs.fail_read(number(digits)? as u64);
+    let Ok(failing) = number(digits) else {
+        return Err(Refused::BadPart);
+    };
+    logs.fail_read(failing as u64);
     Ok(())
 }
 
 /// Lets the reads to come give so many bytes at most.
 fn let_short(logs: &mut MemoryLogs, digits: &str) -> Result<(), Refused> {
-    let most = number(digits)?;
-    if most == 0 {
-        return Err(Refused::BadPart);
+    match number(digits) {
+        Ok(most) if most > 0 => {
+            logs.short_reads(most);
+            Ok(())
+        }
+        _ => Err(Refused::BadPart),
     }
-    logs.short_reads(most);
-    Ok(())
 }
 
 /// A read by its words: the file, and `OFFSET:COUNT` behind it.
 fn read_of(file: &str, rest: &str) -> Result<(usize, u64, usize), Refused> {
-    match rest.split_once(':') {
-        Some((offset, count)) => Ok((number(file)?, number(offset)? as u64, number(count)?)),
-        None => Err(Refused::BadPart),
-    }
+    let Some((offset, count)) = rest.split_once(':') else {
+        return Err(Refused::BadPart);
+    };
+    let (Ok(file), Ok(offset), Ok(count)) = (number(file), number(offset), number(count)) else {
+        return Err(Refused::BadPart);
+    };
+    Ok((file, offset as u64, count))
 }
 
 /// Whether the reads to come fail or are short, or one read: `fail:NUMBER`, `short:NUMBER` or `FILE:OFFSET:COUNT`.

@@ -131,6 +131,14 @@ impl Told {
     }
 }
 
+/// A window of a length.
+pub fn window_of(alloc: Global, length: usize) -> Result<Vec<u8>, Refused> {
+    match vec![in alloc; 0u8; length] {
+        Ok(window) => Ok(window),
+        Err(_) => Err(Refused::OutOfMemory),
+    }
+}
+
 /// All that a reader tells until it ends. A window that is too small is exchanged, and a read that fails is tried again.
 pub fn tell_all<S: Steps>(
     alloc: Global,
@@ -239,7 +247,11 @@ fn enlarge<S: Steps>(
     told: &mut Told,
 ) -> Result<(), Refused> {
     ask_twice(alloc, steps, "", Answer::Needs(needed), told);
-    let had = steps.exchange(vec![in alloc; 0u8; needed as usize]?);
-    told.note_window(needed, had.len());
-    Ok(())
+    match window_of(alloc, needed as usize) {
+        Ok(window) => {
+            told.note_window(needed, steps.exchange(window).len());
+            Ok(())
+        }
+        Err(why) => Err(why),
+    }
 }

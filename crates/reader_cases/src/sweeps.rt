@@ -7,8 +7,8 @@ use crate::ways::{Layer, Reading};
 use case_language::{Case, Named, Reads, Refused, Verdict, copies_of};
 use std::alloc::Global;
 
-/// Reads of at most so many bytes are tried.
-const SHORT_READS: usize = 130;
+/// Reads of fewer bytes than so many are tried.
+const SHORT_READS: u64 = 131;
 
 /// A bound on the reads of a run.
 const MANY_READS: u64 = 100_000;
@@ -26,8 +26,8 @@ pub fn sweep(
         return Ok(Verdict::Differs { came });
     }
     match way {
-        "each-read" => each_read(alloc, case, reading),
-        "each-short" => each_short(alloc, case, reading),
+        "each-read" => each_read(alloc, case, reading, false),
+        "each-short" => each_read(alloc, case, reading, true),
         "each-cut" => each_cut(alloc, case, reading, &whole),
         "each-turn" => each_turn(alloc, case, reading, &whole),
         _ => Err(Refused::UnknownWord),
@@ -41,39 +41,45 @@ fn differs(alloc: Global, which: &str, at: u64, came: &Told) -> Result<Verdict, 
     Ok(Verdict::Differs { came })
 }
 
-/// Lets each read fail in turn, until none is left that could. It is tried again, and nothing else changes.
-fn each_read(alloc: Global, case: &Case, reading: Reading<'_>) -> Result<Verdict, Refused> {
-    for failing in 1..MANY_READS {
-        let reads = Reads {
-            failing,
-            ..reading.reads
-        };
+/// Lets each read fail in turn, until none is left that could: it is tried again. Or lets each read give few bytes at most. Neither
+/// changes anything.
+fn each_read(
+    alloc: Global,
+    case: &Case,
+    reading: Reading<'_>,
+    is_short: bool,
+) -> Result<Verdict, Refused> {
+    let end = if is_short { SHORT_READS } else { MANY_READS };
+    for number in 1..end {
+        let reads = disturbed(reading.reads, is_short, number);
         let told = tell(alloc, &case.files, Reading { reads, ..reading })?;
-        if told.text.as_str() != case.wanted.as_str() {
-            return differs(alloc, "read", failing, &told);
+        if !case.wants(told.text.as_str()) {
+            return differs(alloc, read_name(is_short), number, &told);
         }
-        if told.failed_reads == 0 {
-            return Ok(Verdict::Well { runs: failing - 1 });
+        if !is_short && told.failed_reads == 0 {
+            return Ok(Verdict::Well { runs: number - 1 });
         }
     }
-    Err(Refused::BadPart)
+    if is_short {
+        Ok(Verdict::Well { runs: end - 1 })
+    } else {
+        Err(Refused::BadPart)
+    }
 }
 
-/// Lets each read give few bytes at most, which changes nothing.
-fn each_short(alloc: Global, case: &Case, reading: Reading<'_>) -> Result<Verdict, Refused> {
-    let mut runs = 0u64;
-    for most in 1..=SHORT_READS {
-        let reads = Reads {
-            most,
-            ..reading.reads
-        };
-        let told = tell(alloc, &case.files, Reading { reads, ..reading })?;
-        if told.text.as_str() != case.wanted.as_str() {
-            return differs(alloc, "reads of", most as u64, &told);
-        }
-        runs = runs.saturating_add(1);
+/// Reads of so many bytes at most, or of which the one with this number fails.
+fn disturbed(reads: Reads, is_short: bool, number: u64) -> Reads {
+    if is_short {
+        let most = number as usize;
+        Reads { most, ..reads }
+    } else {
+        let failing = number;
+        Reads { failing, ..reads }
     }
-    Ok(Verdict::Well { runs })
+}
+
+fn read_name(is_short: bool) -> &'static str {
+    if is_short { "reads of" } else { "read" }
 }
 
 /// The files of a case, the last of them cut to so many bytes.
