@@ -121,10 +121,11 @@ fn told_header(alloc: Global, bytes: &[u8]) -> Result<String, Refused> {
 
 /// The line of a body.
 fn told_body(alloc: Global, kind: &str, body: &[u8]) -> Result<String, Refused> {
+    let number = kind_of(kind)?;
     let mut text = Page::new(alloc);
     text.push_str("kind ");
     text.push_str(kind);
-    show_body(&mut text, kind_of(kind)?, body);
+    show_body(&mut text, number, body);
     text.push('\n');
     text.into_text()
 }
@@ -134,10 +135,8 @@ fn show_ranges(text: &mut Page, members: &[bool]) {
     for (number, is_member) in members.iter().enumerate() {
         let follows = members.get(number.wrapping_sub(1)) == Some(&true);
         let goes_on = members.get(number.saturating_add(1)) == Some(&true);
-        if *is_member && !follows {
-            text.push_named(" ", number as u64);
-        } else if *is_member && !goes_on {
-            text.push_named("-", number as u64);
+        if *is_member && !(follows && goes_on) {
+            text.push_named(if follows { "-" } else { " " }, number as u64);
         }
     }
     text.push('\n');

@@ -120,8 +120,10 @@ fn is_passed(
 /// The filter that words give its lists.
 fn filter_of(alloc: Global, words: &[String]) -> Result<Filter, Refused> {
     let mut filter = Filter::new();
-    set_words(alloc, &mut filter, words)?;
-    Ok(filter)
+    match set_words(alloc, &mut filter, words) {
+        Ok(()) => Ok(filter),
+        Err(why) => Err(why),
+    }
 }
 
 /// Whether a change of a kind, a schema, a table and a GTID passes a filter with the lists behind them.
@@ -129,12 +131,12 @@ fn passes(alloc: Global, words: &[String]) -> Result<bool, Refused> {
     let [kind, schema, table, gtid, lists @ ..] = words else {
         return Err(Refused::BadPart);
     };
-    is_passed(
-        &filter_of(alloc, lists)?,
-        kind.as_str(),
-        (schema.as_str(), table.as_str()),
-        gtid_of(alloc, gtid.as_str())?,
-    )
+    let gtid = gtid_of(alloc, gtid.as_str())?;
+    let table = (schema.as_str(), table.as_str());
+    match filter_of(alloc, lists) {
+        Ok(filter) => is_passed(&filter, kind.as_str(), table, gtid),
+        Err(why) => Err(why),
+    }
 }
 
 /// `passes KIND SCHEMA TABLE GTID LIST..`: whether such a change passes such a filter.

@@ -26,7 +26,10 @@ fn place_in(line: &str) -> Result<TokenRef<'_>, Refused> {
     let word = line.split(' ').nth(4).unwrap_or("");
     let (place, file) = word.split_once('@').unwrap_or(("", ""));
     let (position, count) = place.split_once('.').unwrap_or(("", ""));
-    let (Ok(position), Ok(count)) = (number(position), number(count)) else {
+    let Ok(position) = number(position) else {
+        return Err(Refused::BadPart);
+    };
+    let Ok(count) = number(count) else {
         return Err(Refused::BadPart);
     };
     Ok(TokenRef {

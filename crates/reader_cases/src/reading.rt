@@ -2,7 +2,7 @@
 use crate::frames::{Pass, Shown};
 use crate::looks::looks_of;
 use crate::starts::{Parts, tell_feed};
-use crate::steps::{Told, tell_all, window_of};
+use crate::steps::{Told, differing, tell_all, window_of};
 use crate::sweeps::sweep;
 use crate::watched::{Seen, Watched};
 use crate::ways::{Layer, Reading, Way};
@@ -213,8 +213,7 @@ fn each_window(alloc: Global, case: &Case, reading: Reading<'_>) -> Result<Verdi
             },
         )?;
         if !case.wants(told.text.as_str()) {
-            let came = told.text.into_text()?;
-            return Ok(Verdict::Differs { came });
+            return differing(told);
         }
         runs = runs.saturating_add(1);
     }

@@ -35,10 +35,13 @@ fn gtid_in(spelled: &str) -> Result<Option<(Uuid, u64)>, Refused> {
     let Some((source, number)) = spelled.split_once(':') else {
         return Err(Refused::BadPart);
     };
-    let (Ok(source), Ok(number)) = (Uuid::parse_str(source), number.parse::<u64>()) else {
+    let Ok(source) = Uuid::parse_str(source) else {
         return Err(Refused::BadPart);
     };
-    Ok(Some((source, number)))
+    match number.parse::<u64>() {
+        Ok(number) => Ok(Some((source, number))),
+        Err(_) => Err(Refused::BadPart),
+    }
 }
 
 /// The text with `U` in the place of each source that is written as sets are.

@@ -3,7 +3,7 @@ use crate::page::Page;
 use crate::watched::{Place, Seen};
 use crate::ways::Way;
 use binlog_feed::OpenFeedFault;
-use case_language::Refused;
+use case_language::{Refused, Verdict};
 use std::alloc::Global;
 use std::cell::Cell;
 
@@ -128,6 +128,14 @@ impl Told {
             self.text.push_named(" bytes, had ", had as u64);
             self.text.push('\n');
         }
+    }
+}
+
+/// What was told differs from what has to come.
+pub fn differing(told: Told) -> Result<Verdict, Refused> {
+    match told.text.into_text() {
+        Ok(came) => Ok(Verdict::Differs { came }),
+        Err(why) => Err(why),
     }
 }
 

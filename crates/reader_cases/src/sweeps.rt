@@ -1,7 +1,7 @@
 //! Sweeps over frames, units and the feed: reads that fail, are short or turn to other bytes, and files that are cut or changed.
 use crate::page::Page;
 use crate::reading::tell;
-use crate::steps::Told;
+use crate::steps::{Told, differing};
 use crate::watched::{Place, Turning};
 use crate::ways::{Layer, Reading};
 use case_language::{Case, Named, Reads, Refused, Verdict, copies_of};
@@ -21,15 +21,26 @@ pub fn sweep(
     reading: Reading<'_>,
 ) -> Result<Verdict, Refused> {
     let whole = tell(alloc, &case.files, reading)?;
-    if whole.text.as_str() != case.wanted.as_str() {
-        let came = whole.text.into_text()?;
-        return Ok(Verdict::Differs { came });
+    if case.wants(whole.text.as_str()) {
+        sweep_from(alloc, case, way, reading, &whole)
+    } else {
+        differing(whole)
     }
+}
+
+/// Sweeps over what nothing disturbs, which is told.
+fn sweep_from(
+    alloc: Global,
+    case: &Case,
+    way: &str,
+    reading: Reading<'_>,
+    whole: &Told,
+) -> Result<Verdict, Refused> {
     match way {
         "each-read" => each_read(alloc, case, reading, false),
         "each-short" => each_read(alloc, case, reading, true),
-        "each-cut" => each_cut(alloc, case, reading, &whole),
-        "each-turn" => each_turn(alloc, case, reading, &whole),
+        "each-cut" => each_cut(alloc, case, reading, whole),
+        "each-turn" => each_turn(alloc, case, reading, whole),
         _ => Err(Refused::UnknownWord),
     }
 }
