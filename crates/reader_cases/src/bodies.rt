@@ -1,7 +1,8 @@
 //! Headers, and the bodies that are read without a table map.
 use crate::page::Page;
+use crate::units::show_numbered;
 use binlog_frame::{Class, Header, kind, read_gtid, read_query, read_rotate, read_xid};
-use case_language::{Pieces, Refused, number, only_word};
+use case_language::{Pieces, Refused, only_word};
 use std::alloc::Global;
 use uuid::Uuid;
 
@@ -11,10 +12,10 @@ const BAD_BODY: &str = ", BadBody";
 /// Bytes as text where they are some, and otherwise as hex digits.
 fn show_bytes(line: &mut Page, bytes: &[u8]) {
     match str::from_utf8(bytes) {
-        Ok(text) => write!(line, "{text:?}"),
+        Ok(text) => line.push_debug(&text),
         Err(_) => {
             for byte in bytes {
-                write!(line, "{byte:02x}");
+                line.push_hex(*byte);
             }
         }
     }
@@ -22,12 +23,13 @@ fn show_bytes(line: &mut Page, bytes: &[u8]) {
 
 /// A header's parts but for its length, and its class.
 pub fn show_header(line: &mut Page, header: &Header) {
-    let (kind, class, timestamp) = (header.kind, header.class(), header.timestamp);
-    let (server, next, flags) = (header.server_id, header.next_position, header.flags);
-    write!(
-        line,
-        "kind {kind}, {class:?}, time {timestamp}, server {server}, next {next}, flags {flags}"
-    );
+    line.push_named("kind ", header.kind as u64);
+    line.push_str(", ");
+    line.push_debug(&header.class());
+    line.push_named(", time ", header.timestamp as u64);
+    line.push_named(", server ", header.server_id as u64);
+    line.push_named(", next ", header.next_position as u64);
+    line.push_named(", flags ", header.flags as u64);
 }
 
 /// A GTID by the bytes of its source.
@@ -38,7 +40,10 @@ fn show_gtid(line: &mut Page, kind: u8, body: &[u8]) {
     match read_gtid(kind, body) {
         Err(_) => line.push_str(BAD_BODY),
         Ok(gtid) => match Uuid::from_slice(gtid.source) {
-            Ok(source) => write!(line, ", GTID {source}:{}", gtid.number),
+            Ok(source) => {
+                line.push_str(", GTID ");
+                show_numbered(line, source, gtid.number);
+            }
             Err(_) => line.push_str(", a source of another length"),
         },
     }
@@ -60,7 +65,8 @@ fn show_rotate(line: &mut Page, body: &[u8]) {
     match read_rotate(body) {
         Err(_) => line.push_str(BAD_BODY),
         Ok(rotate) => {
-            write!(line, ", to {} of ", rotate.position);
+            line.push_named(", to ", rotate.position);
+            line.push_str(" of ");
             show_bytes(line, rotate.name);
         }
     }
@@ -69,7 +75,7 @@ fn show_rotate(line: &mut Page, body: &[u8]) {
 fn show_xid(line: &mut Page, body: &[u8]) {
     match read_xid(body) {
         Err(_) => line.push_str(BAD_BODY),
-        Ok(number) => write!(line, ", XID {number}"),
+        Ok(number) => line.push_named(", XID ", number),
     }
 }
 
@@ -86,7 +92,7 @@ pub fn show_body(line: &mut Page, kind: u8, body: &[u8]) {
 
 /// The kind that a word names.
 fn kind_of(word: &str) -> Result<u8, Refused> {
-    match u8::try_from(number(word)?) {
+    match word.parse::<u8>() {
         Ok(kind) => Ok(kind),
         Err(_) => Err(Refused::BadPart),
     }
@@ -106,7 +112,8 @@ fn told_header(alloc: Global, bytes: &[u8]) -> Result<String, Refused> {
     head.copy_from_slice(bytes);
     let header = Header::read(&head);
     let mut text = Page::new(alloc);
-    write!(text, "length {}, ", header.length);
+    text.push_named("length ", header.length as u64);
+    text.push_str(", ");
     show_header(&mut text, &header);
     text.push('\n');
     text.into_text()
@@ -114,19 +121,13 @@ fn told_header(alloc: Global, bytes: &[u8]) -> Result<String, Refused> {
 
 /// The line of a body.
 fn told_body(alloc: Global, kind: &str, body: &[u8]) -> Result<String, Refused> {
+    let number = kind_of(kind)?;
     let mut text = Page::new(alloc);
-    write!(text, "kind {kind}");
-    show_body(&mut text, kind_of(kind)?, body);
+    text.push_str("kind ");
+    text.push_str(kind);
+    show_body(&mut text, number, body);
     text.push('\n');
     text.into_text()
-}
-
-/// `body KIND PART..`: what the body of an event of that kind says.
-pub fn body_text(alloc: Global, pieces: &Pieces, words: &[String]) -> Result<String, Refused> {
-    match words {
-        [kind, parts @ ..] => told_body(alloc, kind.as_str(), &pieces.bytes_of(alloc, parts)?),
-        [] => Err(Refused::BadPart),
-    }
 }
 
 /// The numbers at which a list has `true`, neighbours as a range.
@@ -134,10 +135,8 @@ fn show_ranges(text: &mut Page, members: &[bool]) {
     for (number, is_member) in members.iter().enumerate() {
         let follows = members.get(number.wrapping_sub(1)) == Some(&true);
         let goes_on = members.get(number.saturating_add(1)) == Some(&true);
-        if *is_member && !follows {
-            write!(text, " {number}");
-        } else if *is_member && !goes_on {
-            write!(text, "-{number}");
+        if *is_member && !(follows && goes_on) {
+            text.push_named(if follows { "-" } else { " " }, number as u64);
         }
     }
     text.push('\n');
@@ -168,11 +167,28 @@ fn told_lengths(alloc: Global, kind: &str, body: &[u8]) -> Result<String, Refuse
     text.into_text()
 }
 
-/// `lengths KIND PART..`: which beginnings of a body have a reading, by their lengths.
-pub fn lengths_text(alloc: Global, pieces: &Pieces, words: &[String]) -> Result<String, Refused> {
-    match words {
-        [kind, parts @ ..] => told_lengths(alloc, kind.as_str(), &pieces.bytes_of(alloc, parts)?),
-        [] => Err(Refused::BadPart),
+/// `body KIND PART..`: what the body of an event of that kind says. `lengths KIND PART..`: which beginnings of it have a reading, by
+/// their lengths.
+pub fn body_text(
+    alloc: Global,
+    pieces: &Pieces,
+    verb: &str,
+    words: &[String],
+) -> Result<String, Refused> {
+    let Some((kind, parts)) = words.split_first() else {
+        return Err(Refused::BadPart);
+    };
+    match pieces.bytes_of(alloc, parts) {
+        Ok(body) => told_of_body(alloc, verb, kind.as_str(), &body),
+        Err(why) => Err(why),
+    }
+}
+
+/// What `body` or `lengths` gives.
+fn told_of_body(alloc: Global, verb: &str, kind: &str, body: &[u8]) -> Result<String, Refused> {
+    match verb {
+        "body" => told_body(alloc, kind, body),
+        _ => told_lengths(alloc, kind, body),
     }
 }
 
@@ -200,7 +216,7 @@ fn members_of(class: Class, flags: u16) -> [bool; 256] {
 
 /// `kinds FLAGS`: the kinds of each class, where a header has these flags.
 pub fn kinds_text(alloc: Global, words: &[String]) -> Result<String, Refused> {
-    let Ok(flags) = u16::try_from(number(only_word(words)?)?) else {
+    let Ok(flags) = only_word(words)?.parse::<u16>() else {
         return Err(Refused::BadPart);
     };
     let mut text = Page::new(alloc);
@@ -210,7 +226,7 @@ pub fn kinds_text(alloc: Global, words: &[String]) -> Result<String, Refused> {
         Class::Skipped,
         Class::OutOfProfile,
     ] {
-        write!(text, "{class:?}");
+        text.push_debug(&class);
         show_ranges(&mut text, &members_of(class, flags));
     }
     text.into_text()

@@ -17,32 +17,49 @@ fn kind_of(word: &str) -> Result<ChangeKind, Refused> {
 
 /// Appends a name.
 fn push_name(alloc: Global, names: &mut Vec<String>, name: &str) -> Result<(), Refused> {
-    Ok(names.push(String::from_str(alloc, name)?)?)
+    let Ok(name) = String::from_str(alloc, name) else {
+        return Err(Refused::OutOfMemory);
+    };
+    match names.push(name) {
+        Ok(()) => Ok(()),
+        Err(_) => Err(Refused::OutOfMemory),
+    }
+}
+
+/// Appends the names between commas.
+fn push_names(alloc: Global, names: &mut Vec<String>, list: &str) -> Result<(), Refused> {
+    for name in list.split(',') {
+        push_name(alloc, names, name)?;
+    }
+    Ok(())
 }
 
 /// The names between commas; where nothing follows a list's name, no names.
-fn names_of(alloc: Global, list: Option<&str>) -> Result<Vec<String>, Refused> {
+fn names_of(alloc: Global, list: Option<&str>) -> Result<Names, Refused> {
     let mut names = Vec::new(alloc);
     if let Some(list) = list {
-        for name in list.split(',') {
-            push_name(alloc, &mut names, name)?;
+        push_names(alloc, &mut names, list)?;
+    }
+    Ok(Names::from(names))
+}
+
+/// Appends the kinds between commas.
+fn push_kinds(kinds: &mut Vec<ChangeKind>, list: &str) -> Result<(), Refused> {
+    for name in list.split(',') {
+        if kinds.push(kind_of(name)?).is_err() {
+            return Err(Refused::OutOfMemory);
         }
     }
-    Ok(names)
+    Ok(())
 }
 
-/// The kinds that names are.
-fn kinds_named(alloc: Global, names: &[String]) -> Result<Kinds, Refused> {
+/// The kinds between commas; where nothing follows a list's name, no kinds.
+fn kinds_of(alloc: Global, list: Option<&str>) -> Result<Kinds, Refused> {
     let mut kinds = Vec::new(alloc);
-    for name in names {
-        kinds.push(kind_of(name.as_str())?)?;
+    if let Some(list) = list {
+        push_kinds(&mut kinds, list)?;
     }
     Ok(Kinds::from(kinds))
-}
-
-/// The kinds between commas.
-fn kinds_of(alloc: Global, list: Option<&str>) -> Result<Kinds, Refused> {
-    kinds_named(alloc, &names_of(alloc, list)?)
 }
 
 /// Gives a filter a list of names.
@@ -68,7 +85,7 @@ pub fn set_list(
     match option {
         "only-events" => filter.only_events = Some(kinds_of(alloc, list)?),
         "auto-position" => filter.auto_position = set_of(alloc, list.unwrap_or("")).ok(),
-        _ => return set_names(filter, option, Names::from(names_of(alloc, list)?)),
+        _ => return set_names(filter, option, names_of(alloc, list)?),
     }
     Ok(())
 }
@@ -100,20 +117,26 @@ fn is_passed(
     Ok(filter.passes(kind_of(kind)?, schema, table, gtid))
 }
 
+/// The filter that words give its lists.
+fn filter_of(alloc: Global, words: &[String]) -> Result<Filter, Refused> {
+    let mut filter = Filter::new();
+    match set_words(alloc, &mut filter, words) {
+        Ok(()) => Ok(filter),
+        Err(why) => Err(why),
+    }
+}
+
 /// Whether a change of a kind, a schema, a table and a GTID passes a filter with the lists behind them.
 fn passes(alloc: Global, words: &[String]) -> Result<bool, Refused> {
     let [kind, schema, table, gtid, lists @ ..] = words else {
         return Err(Refused::BadPart);
     };
     let gtid = gtid_of(alloc, gtid.as_str())?;
-    let mut filter = Filter::new();
-    set_words(alloc, &mut filter, lists)?;
-    is_passed(
-        &filter,
-        kind.as_str(),
-        (schema.as_str(), table.as_str()),
-        gtid,
-    )
+    let table = (schema.as_str(), table.as_str());
+    match filter_of(alloc, lists) {
+        Ok(filter) => is_passed(&filter, kind.as_str(), table, gtid),
+        Err(why) => Err(why),
+    }
 }
 
 /// `passes KIND SCHEMA TABLE GTID LIST..`: whether such a change passes such a filter.

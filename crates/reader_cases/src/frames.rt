@@ -98,9 +98,13 @@ impl<L: Logs> Pass<'_, L> {
     }
 
     fn show_content(&self, line: &mut Page, header: &Header, body_len: u32) {
-        let (kind, length) = (header.kind, header.length);
+        let kind = header.kind;
         match self.shown {
-            Shown::Frame => write!(line, "kind {kind}, length {length}, body {body_len}"),
+            Shown::Frame => {
+                line.push_named("kind ", kind as u64);
+                line.push_named(", length ", header.length as u64);
+                line.push_named(", body ", body_len as u64);
+            }
             Shown::Event => {
                 show_header(line, header);
                 show_body(line, kind, self.body(body_len));
@@ -110,7 +114,8 @@ impl<L: Logs> Pass<'_, L> {
 
     /// An event at a place, and whether the window has other bytes than the file.
     fn show_event(&self, line: &mut Page, place: u64, header: &Header, body_len: u32) {
-        write!(line, "{}:{place} ", self.file);
+        line.push_place("", (self.file, place));
+        line.push(' ');
         self.show_content(line, header, body_len);
         if !self.holds(place, header.length) {
             line.push_str(", not the bytes of the file");
@@ -128,8 +133,14 @@ impl<L: Logs> Pass<'_, L> {
                 self.show_event(line, place, &header, body_len);
                 return Answer::Gave;
             }
-            Step::CutTail { place } => write!(line, "{}:{place} cut tail", self.file),
-            Step::End => write!(line, "{} end", self.file),
+            Step::CutTail { place } => {
+                line.push_place("", (self.file, place));
+                line.push_str(" cut tail");
+            }
+            Step::End => {
+                line.push_number(self.file as u64);
+                line.push_str(" end");
+            }
         }
         Answer::Ended(None)
     }
@@ -140,7 +151,9 @@ impl<L: Logs> Pass<'_, L> {
             FrameFault::Read => Answer::ReadFailed(self.file),
             FrameFault::WindowTooSmall { needed } => Answer::Needs(needed),
             _ => {
-                write!(line, "{} {fault:?}", self.file);
+                line.push_number(self.file as u64);
+                line.push(' ');
+                line.push_debug(&fault);
                 Answer::Ended(Some((self.file, self.frames.place())))
             }
         }
@@ -149,7 +162,7 @@ impl<L: Logs> Pass<'_, L> {
     /// Where the frames stand then. Where nothing was given and nothing has ended, they are as they were.
     fn show_place(&self, line: &mut Page, answer: Answer, before: Frames) {
         match answer {
-            Answer::Gave | Answer::Ended(_) => write!(line, "; place {}", self.frames.place()),
+            Answer::Gave | Answer::Ended(_) => line.push_named("; place ", self.frames.place()),
             _ => {
                 if self.frames != before {
                     line.push_str("refused, and moved\n");

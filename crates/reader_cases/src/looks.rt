@@ -26,9 +26,15 @@ fn place_in(line: &str) -> Result<TokenRef<'_>, Refused> {
     let word = line.split(' ').nth(4).unwrap_or("");
     let (place, file) = word.split_once('@').unwrap_or(("", ""));
     let (position, count) = place.split_once('.').unwrap_or(("", ""));
+    let Ok(position) = number(position) else {
+        return Err(Refused::BadPart);
+    };
+    let Ok(count) = number(count) else {
+        return Err(Refused::BadPart);
+    };
     Ok(TokenRef {
-        position: number(position)? as u64,
-        count: number(count)? as u64,
+        position: position as u64,
+        count: count as u64,
         file,
     })
 }
@@ -128,8 +134,13 @@ fn push_looks<'a>(
     line: &'a str,
     reach: Place,
 ) -> Result<(), Refused> {
-    let place = place_in(line)?;
-    Ok(looks.extend_from_slice(&looks_by(plain, line, place, reach))?)
+    let Ok(place) = place_in(line) else {
+        return Err(Refused::BadPart);
+    };
+    match looks.extend_from_slice(&looks_by(plain, line, place, reach)) {
+        Ok(()) => Ok(()),
+        Err(_) => Err(Refused::OutOfMemory),
+    }
 }
 
 /// The looks at the changes that a plain feed told, and beside them.
@@ -146,7 +157,7 @@ fn show_refusal(line: &mut Page, fault: AtFault) -> Answer {
     match fault {
         AtFault::Feed(fault) => show_fault(line, fault),
         fault => {
-            write!(line, "{fault:?}");
+            line.push_debug(&fault);
             Answer::Ended(None)
         }
     }
@@ -174,8 +185,9 @@ fn judge_look(look: Look<'_>, answer: Answer, reach: Place, line: &mut Page) -> 
         line.clear();
         return None;
     }
-    let (file, offset) = reach;
-    write!(line, "; reach {file}:{offset}, in place of {wanted}");
+    line.push_place("; reach ", reach);
+    line.push_str(", in place of ");
+    line.push_str(wanted);
     Some(Answer::Ended(None))
 }
 

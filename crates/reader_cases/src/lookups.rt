@@ -34,7 +34,7 @@ fn show_next(feed: &mut Feed<MemoryLogs>, line: &mut Page) {
     match feed.next() {
         Ok(Some(change)) => show_change(line, &change),
         Ok(None) => line.push_str("end"),
-        Err(fault) => write!(line, "{fault:?}"),
+        Err(fault) => line.push_debug(&fault),
     }
 }
 
@@ -42,7 +42,7 @@ fn show_next(feed: &mut Feed<MemoryLogs>, line: &mut Page) {
 fn show_lookup(feed: &mut Feed<MemoryLogs>, token: &Token, line: &mut Page) {
     match feed.change_at(token) {
         Ok(change) => show_change(line, &change),
-        Err(fault) => write!(line, "{fault:?}"),
+        Err(fault) => line.push_debug(&fault),
     }
 }
 

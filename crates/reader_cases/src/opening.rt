@@ -58,16 +58,22 @@ fn names_at<R: Files + AllocGlobal>(rt: &R, paths: &[&str]) -> Result<String, Re
     let mut text = Page::new(rt.alloc());
     match opened(rt, rt.alloc(), paths) {
         Ok(logs) => show_names(&mut text, &logs),
-        Err(fault) => write!(text, "{fault:?}\n"),
+        Err(fault) => {
+            text.push_debug(&fault);
+            text.push('\n');
+        }
     }
     text.into_text()
 }
 
 /// A path, and the bytes of its file.
 fn held_by<R: Files + AllocGlobal>(rt: &R, path: &str) -> Result<Named, Refused> {
-    match fs::read(rt, path) {
-        Ok(bytes) => Ok((String::from_str(rt.alloc(), path)?, bytes)),
-        Err(_) => Err(Refused::UnknownName),
+    let Ok(bytes) = fs::read(rt, path) else {
+        return Err(Refused::UnknownName);
+    };
+    match String::from_str(rt.alloc(), path) {
+        Ok(name) => Ok((name, bytes)),
+        Err(_) => Err(Refused::OutOfMemory),
     }
 }
 

@@ -1,8 +1,9 @@
 //! A text that is written piece by piece.
-use binlog_select::TokenRef;
+use crate::watched::Place;
+use binlog_select::{GtidSet, TokenRef};
 use case_language::Refused;
 use std::alloc::{AllocError, Global};
-use std::fmt::Display;
+use std::fmt::{Debug, Display};
 
 /// A text that is written piece by piece. What can't be written has no answer at once: the page keeps why, from the first time on.
 #[derive(Drop)]
@@ -46,6 +47,41 @@ impl Page {
     /// What `write!` calls.
     pub fn write_fmt<D: Display + Drop>(&mut self, value: D) {
         let written = self.text.write_fmt(value);
+        self.take(written);
+    }
+
+    /// A number.
+    pub fn push_number(&mut self, number: u64) {
+        let written = self.text.write_fmt(number);
+        self.take(written);
+    }
+
+    /// A number behind what says which it is.
+    pub fn push_named(&mut self, name: &str, number: u64) {
+        self.push_str(name);
+        self.push_number(number);
+    }
+
+    /// The number of a file and an offset in it, behind what says which they are.
+    pub fn push_place(&mut self, name: &str, place: Place) {
+        let (file, offset) = place;
+        self.push_named(name, file as u64);
+        self.push_named(":", offset);
+    }
+
+    /// A byte in two hex digits.
+    pub fn push_hex(&mut self, byte: u8) {
+        write!(self, "{byte:02x}");
+    }
+
+    /// A value as it is derived to be shown.
+    pub fn push_debug<D: Debug>(&mut self, value: &D) {
+        write!(self, "{value:?}");
+    }
+
+    /// A set's written form.
+    pub fn push_set(&mut self, set: &GtidSet) {
+        let written = set.write(&mut self.text);
         self.take(written);
     }
 

@@ -2,7 +2,7 @@
 use crate::lookups::parts_of_case;
 use crate::page::Page;
 use crate::reads::{first_window, source_of};
-use crate::steps::{Answer, Steps};
+use crate::steps::{Answer, Steps, window_of};
 use binlog_feed::{Feed, Units};
 use binlog_frame::{Logs, MemoryLogs};
 use case_language::{Case, Refused, number};
@@ -27,11 +27,15 @@ fn parts_of(alloc: Global, case: &Case, layer: &str, count: usize) -> Result<Str
 /// What a call came to.
 fn show_answer(text: &mut Page, answer: Answer) {
     match answer {
-        Answer::Gave => text.push_str("; Gave\n"),
-        Answer::Ended(fault) => write!(text, "; Ended({fault:?})\n"),
-        Answer::ReadFailed(file) => write!(text, "; ReadFailed({file})\n"),
-        Answer::Needs(needed) => write!(text, "; Needs({needed})\n"),
+        Answer::Gave => return text.push_str("; Gave\n"),
+        Answer::Ended(fault) => {
+            text.push_str("; Ended(");
+            text.push_debug(&fault);
+        }
+        Answer::ReadFailed(file) => text.push_named("; ReadFailed(", file as u64),
+        Answer::Needs(needed) => text.push_named("; Needs(", needed as u64),
     }
+    text.push_str(")\n");
 }
 
 /// Asks so often, and notes what came.
@@ -43,16 +47,14 @@ fn ask_often<S: Steps>(steps: &mut S, count: usize, text: &mut Page) {
 }
 
 fn show_parts(text: &mut Page, logs: &MemoryLogs, window: &[u8]) {
-    let ((file, offset), files) = (logs.reach(), logs.count());
-    let length = window.len();
-    write!(
-        text,
-        "{files} files, reach {file}:{offset}, window {length}\n"
-    );
+    text.push_number(logs.count() as u64);
+    text.push_place(" files, reach ", logs.reach());
+    text.push_named(", window ", window.len() as u64);
+    text.push('\n');
 }
 
 fn parts_of_units(alloc: Global, case: &Case, count: usize) -> Result<String, Refused> {
-    let window = vec![in alloc; 0u8; first_window(case)]?;
+    let window = window_of(alloc, first_window(case))?;
     match Units::open(alloc, source_of(alloc, case)?, window) {
         Ok(units) => told_units(alloc, units, count),
         Err(_) => Err(Refused::BadPart),
@@ -67,8 +69,8 @@ fn told_units(
 ) -> Result<String, Refused> {
     let mut text = Page::new(alloc);
     ask_often(&mut units, count, &mut text);
-    let (file, offset) = units.logs().reach();
-    write!(text, "reach {file}:{offset}\n");
+    text.push_place("reach ", units.logs().reach());
+    text.push('\n');
     let (logs, window) = units.into_parts();
     show_parts(&mut text, &logs, window.as_slice());
     text.into_text()

@@ -2,7 +2,7 @@
 use crate::frames::{Pass, Shown};
 use crate::looks::looks_of;
 use crate::starts::{Parts, tell_feed};
-use crate::steps::{Told, tell_all};
+use crate::steps::{Told, differing, tell_all, window_of};
 use crate::sweeps::sweep;
 use crate::watched::{Seen, Watched};
 use crate::ways::{Layer, Reading, Way};
@@ -63,7 +63,7 @@ fn tell_frames<L: Logs + Drop>(
     told: &mut Told,
 ) -> Result<(), Refused> {
     let count = logs.count();
-    let window = vec![in alloc; 0u8; reading.window]?;
+    let window = window_of(alloc, reading.window)?;
     match Pass::begin(logs, window, held, shown, reading.way.goes_back()) {
         None => Ok(()),
         Some(mut pass) => tell_files(alloc, &mut pass, count, seen, told),
@@ -94,7 +94,7 @@ fn tell_units<L: Logs + Drop>(
     window: usize,
     told: &mut Told,
 ) -> Result<(), Refused> {
-    let bytes = vec![in alloc; 0u8; window]?;
+    let bytes = window_of(alloc, window)?;
     match Units::open(alloc, logs, bytes) {
         Ok(mut units) => tell_all(alloc, &mut units, seen, told),
         Err((fault, _logs, back)) => {
@@ -213,8 +213,7 @@ fn each_window(alloc: Global, case: &Case, reading: Reading<'_>) -> Result<Verdi
             },
         )?;
         if !case.wants(told.text.as_str()) {
-            let came = told.text.into_text()?;
-            return Ok(Verdict::Differs { came });
+            return differing(told);
         }
         runs = runs.saturating_add(1);
     }

@@ -1,5 +1,6 @@
 //! Files in memory: their names and lengths, and reads of them.
 use crate::page::Page;
+use crate::steps::window_of;
 use binlog_frame::{Logs, MemoryLogs};
 use case_language::{Case, Refused, copies_of, number, source};
 use std::alloc::Global;
@@ -7,15 +8,14 @@ use std::alloc::Global;
 /// The names and the lengths of a source's files.
 pub fn show_names<L: Logs>(text: &mut Page, logs: &L) {
     for file in 0..logs.count() {
-        write!(
-            text,
-            "{file} {}, {} bytes\n",
-            logs.name(file),
-            logs.len(file)
-        );
+        text.push_number(file as u64);
+        text.push(' ');
+        text.push_str(logs.name(file));
+        text.push_named(", ", logs.len(file));
+        text.push_str(" bytes\n");
     }
-    let count = logs.count();
-    write!(text, "{count} files\n");
+    text.push_number(logs.count() as u64);
+    text.push_str(" files\n");
 }
 
 /// A source of the case's files.
@@ -34,17 +34,21 @@ pub fn names_of_files(alloc: Global, case: &Case) -> Result<String, Refused> {
     let mut text = Page::new(alloc);
     match MemoryLogs::new(files) {
         Ok(logs) => show_names(&mut text, &logs),
-        Err(fault) => write!(text, "{fault:?}\n"),
+        Err(fault) => {
+            text.push_debug(&fault);
+            text.push('\n');
+        }
     }
     text.into_text()
 }
 
 /// How many bytes a read gave, and which.
 fn show_given(text: &mut Page, bytes: &[u8]) {
-    let count = bytes.len();
-    write!(text, "{count}:");
+    text.push_number(bytes.len() as u64);
+    text.push(':');
     for byte in bytes {
-        write!(text, " {byte:02x}");
+        text.push(' ');
+        text.push_hex(*byte);
     }
 }
 
@@ -59,38 +63,45 @@ fn read_once(
     if file >= logs.count() {
         return Err(Refused::UnknownName);
     }
-    let mut buf = vec![in alloc; 0u8; count]?;
+    let mut buf = window_of(alloc, count)?;
     match logs.read_at(file, offset, &mut buf) {
-        Err(fault) => write!(text, "{fault:?}"),
+        Err(fault) => text.push_debug(&fault),
         Ok(count) => show_given(text, &buf[..count]),
     }
-    let (file, offset) = logs.reach();
-    write!(text, "; reach {file}:{offset}\n");
+    text.push_place("; reach ", logs.reach());
+    text.push('\n');
     Ok(())
 }
 
 /// Lets one of the reads to come fail.
 fn let_fail(logs: &mut MemoryLogs, digits: &str) -> Result<(), Refused> {
-    logs.fail_read(number(digits)? as u64);
+    let Ok(failing) = number(digits) else {
+        return Err(Refused::BadPart);
+    };
+    logs.fail_read(failing as u64);
     Ok(())
 }
 
 /// Lets the reads to come give so many bytes at most.
 fn let_short(logs: &mut MemoryLogs, digits: &str) -> Result<(), Refused> {
-    let most = number(digits)?;
-    if most == 0 {
-        return Err(Refused::BadPart);
+    match number(digits) {
+        Ok(most) if most > 0 => {
+            logs.short_reads(most);
+            Ok(())
+        }
+        _ => Err(Refused::BadPart),
     }
-    logs.short_reads(most);
-    Ok(())
 }
 
 /// A read by its words: the file, and `OFFSET:COUNT` behind it.
 fn read_of(file: &str, rest: &str) -> Result<(usize, u64, usize), Refused> {
-    match rest.split_once(':') {
-        Some((offset, count)) => Ok((number(file)?, number(offset)? as u64, number(count)?)),
-        None => Err(Refused::BadPart),
-    }
+    let Some((offset, count)) = rest.split_once(':') else {
+        return Err(Refused::BadPart);
+    };
+    let (Ok(file), Ok(offset), Ok(count)) = (number(file), number(offset), number(count)) else {
+        return Err(Refused::BadPart);
+    };
+    Ok((file, offset as u64, count))
 }
 
 /// Whether the reads to come fail or are short, or one read: `fail:NUMBER`, `short:NUMBER` or `FILE:OFFSET:COUNT`.

@@ -1,8 +1,8 @@
 //! GTID sets as texts.
+use crate::page::Page;
 use binlog_select::{GtidSet, SetFault};
 use case_language::{Pieces, Refused};
 use std::alloc::{AllocError, Global};
-use std::fmt::Write;
 use uuid::Uuid;
 
 /// What `U` stands for in the texts of sets and GTIDs.
@@ -24,13 +24,23 @@ pub fn gtid_of(alloc: Global, word: &str) -> Result<Option<(Uuid, u64)>, Refused
     if word == "-" {
         return Ok(None);
     }
-    let spelled = with_source(alloc, word)?;
-    let Some((source, number)) = spelled.as_str().split_once(':') else {
+    match with_source(alloc, word) {
+        Ok(spelled) => gtid_in(spelled.as_str()),
+        Err(_) => Err(Refused::OutOfMemory),
+    }
+}
+
+/// The GTID that a text with the source in full is.
+fn gtid_in(spelled: &str) -> Result<Option<(Uuid, u64)>, Refused> {
+    let Some((source, number)) = spelled.split_once(':') else {
         return Err(Refused::BadPart);
     };
-    match (Uuid::parse_str(source), number.parse::<u64>()) {
-        (Ok(source), Ok(number)) => Ok(Some((source, number))),
-        _ => Err(Refused::BadPart),
+    let Ok(source) = Uuid::parse_str(source) else {
+        return Err(Refused::BadPart);
+    };
+    match number.parse::<u64>() {
+        Ok(number) => Ok(Some((source, number))),
+        Err(_) => Err(Refused::BadPart),
     }
 }
 
@@ -39,72 +49,53 @@ fn shortened(alloc: Global, text: &str) -> Result<String, AllocError> {
     text.replace(alloc, SOURCE, "U")
 }
 
-fn push_fault(text: &mut String, fault: SetFault) -> Result<(), AllocError> {
-    match fault {
-        SetFault::BadSet { at } => write!(text, "BadSet {at}"),
-        SetFault::OutOfMemory => text.push_str("OutOfMemory"),
-    }
-}
-
-/// The written form of the set that a text names, or its fault.
-fn push_form(alloc: Global, text: &mut String, spelled: &str) -> Result<bool, AllocError> {
+/// The written form of the set that a text names, or its fault. It says whether it is a form.
+fn show_form(alloc: Global, text: &mut Page, spelled: &str) -> bool {
     match GtidSet::parse(alloc, spelled) {
         Ok(set) => {
-            set.write(text)?;
-            Ok(true)
+            text.push_set(&set);
+            return true;
         }
-        Err(fault) => {
-            push_fault(text, fault)?;
-            Ok(false)
-        }
+        Err(SetFault::BadSet { at }) => text.push_named("BadSet ", at as u64),
+        Err(SetFault::OutOfMemory) => text.push_str("OutOfMemory"),
     }
+    false
 }
 
 /// What a written form names, where that is written in another way.
-fn push_second(alloc: Global, once: &mut String) -> Result<(), AllocError> {
-    let mut twice = String::new(alloc);
-    push_form(alloc, &mut twice, once.as_str())?;
+fn show_second(alloc: Global, once: &mut Page) {
+    let mut twice = Page::new(alloc);
+    show_form(alloc, &mut twice, once.as_str());
+    once.carry(&twice);
     if once.as_str() != twice.as_str() {
-        once.push_str(" names ")?;
-        once.push_str(twice.as_str())?;
+        once.push_str(" names ");
+        once.push_str(twice.as_str());
     }
-    Ok(())
 }
 
-/// The written form of the set that a text names, or its fault, and behind it a second form.
-fn push_forms(alloc: Global, once: &mut String, spelled: &str) -> Result<(), AllocError> {
-    if push_form(alloc, once, spelled)? {
-        push_second(alloc, once)?;
+/// The line of the set that a text names, with the source in full. A written form may be empty.
+fn line_of(alloc: Global, spelled: &str) -> Result<String, Refused> {
+    let mut once = Page::new(alloc);
+    if show_form(alloc, &mut once, spelled) {
+        show_second(alloc, &mut once);
     }
-    Ok(())
-}
-
-/// Ends the line of a written form, which may be empty.
-fn end_line(text: &mut String) -> Result<(), AllocError> {
-    if text.is_empty() {
-        text.push_str("nothing")?;
+    if once.as_str().is_empty() {
+        once.push_str("nothing");
     }
-    text.push('\n')
-}
-
-/// The line of the set that a text names, with the source in full.
-fn line_of(alloc: Global, spelled: &str) -> Result<String, AllocError> {
-    let mut once = String::new(alloc);
-    push_forms(alloc, &mut once, spelled)?;
-    end_line(&mut once)?;
-    Ok(once)
+    once.push('\n');
+    once.into_text()
 }
 
 /// The line of the set that a text names, with `U` for the source in both.
-fn told_set(alloc: Global, text: &str) -> Result<String, AllocError> {
+fn told_set(alloc: Global, text: &str) -> Result<String, Refused> {
     let line = line_of(alloc, &with_source(alloc, text)?)?;
-    shortened(alloc, line.as_str())
+    Ok(shortened(alloc, line.as_str())?)
 }
 
 /// `set PART..`: the written form of the set that a text names, or its fault. Behind a written form stands what it names, where that is
 /// written in another way.
 pub fn set_text(alloc: Global, pieces: &Pieces, words: &[String]) -> Result<String, Refused> {
-    Ok(told_set(alloc, &pieces.text_of(alloc, words)?)?)
+    told_set(alloc, &pieces.text_of(alloc, words)?)
 }
 
 /// An answer as text.

@@ -1,7 +1,7 @@
 //! Feeds: their filter and start by options of the command line, and their opening.
 use crate::filters::set_list;
 use crate::looks::Looking;
-use crate::steps::{Told, tell_opened};
+use crate::steps::{Told, tell_opened, window_of};
 use crate::watched::Seen;
 use crate::ways::{Reading, Way};
 use binlog_feed::{Feed, OpenFeedFault, Start};
@@ -66,22 +66,25 @@ pub struct Parts<L> {
     window: Vec<u8>,
 }
 
-/// The source, and the filter and the start that options give.
-fn parts_with<L: Logs + Drop>(
-    alloc: Global,
-    logs: L,
-    options: &[String],
-    window: Vec<u8>,
-) -> Result<Parts<L>, Refused> {
+/// The filter and the start that options give.
+fn chosen(alloc: Global, options: &[String]) -> Result<(Filter, Start), Refused> {
     let start = start_of(alloc, options)?;
     let mut filter = Filter::new();
     set_options(alloc, &mut filter, options)?;
-    Ok(Parts {
-        logs,
-        filter,
-        start,
-        window,
-    })
+    Ok((filter, start))
+}
+
+/// The filter and the start that options give, and a window.
+fn settings_of(
+    alloc: Global,
+    options: &[String],
+    window: usize,
+) -> Result<(Filter, Start, Vec<u8>), Refused> {
+    let window = window_of(alloc, window)?;
+    match chosen(alloc, options) {
+        Ok((filter, start)) => Ok((filter, start, window)),
+        Err(why) => Err(why),
+    }
 }
 
 impl<L: Logs + Drop> Parts<L> {
@@ -92,7 +95,15 @@ impl<L: Logs + Drop> Parts<L> {
         options: &[String],
         window: usize,
     ) -> Result<Parts<L>, Refused> {
-        parts_with(alloc, logs, options, vec![in alloc; 0u8; window]?)
+        match settings_of(alloc, options, window) {
+            Ok((filter, start, window)) => Ok(Parts {
+                logs,
+                filter,
+                start,
+                window,
+            }),
+            Err(why) => Err(why),
+        }
     }
 
     /// Opens a feed, or gives all back.
@@ -121,13 +132,13 @@ impl<L: Logs + Drop> Parts<L> {
 /// Exchanges the window for one of a length, if there is memory for it.
 fn enlarge(alloc: Global, window: &mut Vec<u8>, length: u32, told: &mut Told) -> bool {
     told.note_window(length, window.len());
-    match vec![in alloc; 0u8; length as usize] {
+    match window_of(alloc, length as usize) {
         Ok(larger) => {
             *window = larger;
             true
         }
-        Err(_) => {
-            told.text.refuse(Refused::OutOfMemory);
+        Err(why) => {
+            told.text.refuse(why);
             false
         }
     }

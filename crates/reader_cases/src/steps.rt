@@ -3,7 +3,7 @@ use crate::page::Page;
 use crate::watched::{Place, Seen};
 use crate::ways::Way;
 use binlog_feed::OpenFeedFault;
-use case_language::Refused;
+use case_language::{Refused, Verdict};
 use std::alloc::Global;
 use std::cell::Cell;
 
@@ -61,17 +61,20 @@ impl Told {
 
     /// A line for what was given, with the reach of the source behind it.
     pub fn note(&mut self, line: &str, reach: Place) -> Result<(), Refused> {
-        let (file, offset) = reach;
-        write!(self.text, "{line}; reach {file}:{offset}\n");
-        Ok(self.given.push((self.text.as_str().len(), reach))?)
+        self.text.push_str(line);
+        self.text.push_place("; reach ", reach);
+        self.text.push('\n');
+        match self.given.push((self.text.as_str().len(), reach)) {
+            Ok(()) => Ok(()),
+            Err(_) => Err(Refused::OutOfMemory),
+        }
     }
 
     /// Why files were not opened, and, where it `has_reach`, the reach of the source behind it.
     pub fn note_opening(&mut self, fault: OpenFeedFault, has_reach: bool, seen: &Cell<Seen>) {
-        write!(self.text, "{fault:?}");
+        self.text.push_debug(&fault);
         if has_reach {
-            let (file, offset) = seen.get().reach;
-            write!(self.text, "; reach {file}:{offset}");
+            self.text.push_place("; reach ", seen.get().reach);
         }
         self.text.push('\n');
     }
@@ -103,7 +106,8 @@ impl Told {
             self.text.push_str("a read of another file failed\n");
         }
         if self.shows_refusals {
-            write!(self.text, "read failed in file {file}\n");
+            self.text.push_named("read failed in file ", file as u64);
+            self.text.push('\n');
         }
     }
 
@@ -120,8 +124,26 @@ impl Told {
             self.text.push_str("a window that was large enough\n");
         }
         if self.shows_refusals {
-            write!(self.text, "needs {needed} bytes, had {had}\n");
+            self.text.push_named("needs ", needed as u64);
+            self.text.push_named(" bytes, had ", had as u64);
+            self.text.push('\n');
         }
+    }
+}
+
+/// What was told differs from what has to come.
+pub fn differing(told: Told) -> Result<Verdict, Refused> {
+    match told.text.into_text() {
+        Ok(came) => Ok(Verdict::Differs { came }),
+        Err(why) => Err(why),
+    }
+}
+
+/// A window of a length.
+pub fn window_of(alloc: Global, length: usize) -> Result<Vec<u8>, Refused> {
+    match vec![in alloc; 0u8; length] {
+        Ok(window) => Ok(window),
+        Err(_) => Err(Refused::OutOfMemory),
     }
 }
 
@@ -204,7 +226,9 @@ fn ask_again<S: Steps>(alloc: Global, steps: &mut S, line: &str, answer: Answer,
     let next = steps.ask(&mut again);
     told.text.carry(&again);
     if next != answer || again.as_str() != line {
-        write!(told.text, "then another answer: {}\n", again.as_str());
+        told.text.push_str("then another answer: ");
+        told.text.push_str(again.as_str());
+        told.text.push('\n');
     }
 }
 
@@ -231,7 +255,11 @@ fn enlarge<S: Steps>(
     told: &mut Told,
 ) -> Result<(), Refused> {
     ask_twice(alloc, steps, "", Answer::Needs(needed), told);
-    let had = steps.exchange(vec![in alloc; 0u8; needed as usize]?);
-    told.note_window(needed, had.len());
-    Ok(())
+    match window_of(alloc, needed as usize) {
+        Ok(window) => {
+            told.note_window(needed, steps.exchange(window).len());
+            Ok(())
+        }
+        Err(why) => Err(why),
+    }
 }

@@ -1,14 +1,14 @@
 //! Sweeps over frames, units and the feed: reads that fail, are short or turn to other bytes, and files that are cut or changed.
+use crate::page::Page;
 use crate::reading::tell;
-use crate::steps::Told;
+use crate::steps::{Told, differing};
 use crate::watched::{Place, Turning};
 use crate::ways::{Layer, Reading};
 use case_language::{Case, Named, Reads, Refused, Verdict, copies_of};
 use std::alloc::Global;
-use std::fmt::Write;
 
-/// Reads of at most so many bytes are tried.
-const SHORT_READS: usize = 130;
+/// Reads of fewer bytes than so many are tried.
+const SHORT_READS: u64 = 131;
 
 /// A bound on the reads of a run.
 const MANY_READS: u64 = 100_000;
@@ -21,15 +21,26 @@ pub fn sweep(
     reading: Reading<'_>,
 ) -> Result<Verdict, Refused> {
     let whole = tell(alloc, &case.files, reading)?;
-    if whole.text.as_str() != case.wanted.as_str() {
-        let came = whole.text.into_text()?;
-        return Ok(Verdict::Differs { came });
+    if case.wants(whole.text.as_str()) {
+        sweep_from(alloc, case, way, reading, &whole)
+    } else {
+        differing(whole)
     }
+}
+
+/// Sweeps over what nothing disturbs, which is told.
+fn sweep_from(
+    alloc: Global,
+    case: &Case,
+    way: &str,
+    reading: Reading<'_>,
+    whole: &Told,
+) -> Result<Verdict, Refused> {
     match way {
-        "each-read" => each_read(alloc, case, reading),
-        "each-short" => each_short(alloc, case, reading),
-        "each-cut" => each_cut(alloc, case, reading, &whole),
-        "each-turn" => each_turn(alloc, case, reading, &whole),
+        "each-read" => each_read(alloc, case, reading, false),
+        "each-short" => each_read(alloc, case, reading, true),
+        "each-cut" => each_cut(alloc, case, reading, whole),
+        "each-turn" => each_turn(alloc, case, reading, whole),
         _ => Err(Refused::UnknownWord),
     }
 }
@@ -41,39 +52,45 @@ fn differs(alloc: Global, which: &str, at: u64, came: &Told) -> Result<Verdict, 
     Ok(Verdict::Differs { came })
 }
 
-/// Lets each read fail in turn, until none is left that could. It is tried again, and nothing else changes.
-fn each_read(alloc: Global, case: &Case, reading: Reading<'_>) -> Result<Verdict, Refused> {
-    for failing in 1..MANY_READS {
-        let reads = Reads {
-            failing,
-            ..reading.reads
-        };
+/// Lets each read fail in turn, until none is left that could: it is tried again. Or lets each read give few bytes at most. Neither
+/// changes anything.
+fn each_read(
+    alloc: Global,
+    case: &Case,
+    reading: Reading<'_>,
+    is_short: bool,
+) -> Result<Verdict, Refused> {
+    let end = if is_short { SHORT_READS } else { MANY_READS };
+    for number in 1..end {
+        let reads = disturbed(reading.reads, is_short, number);
         let told = tell(alloc, &case.files, Reading { reads, ..reading })?;
-        if told.text.as_str() != case.wanted.as_str() {
-            return differs(alloc, "read", failing, &told);
+        if !case.wants(told.text.as_str()) {
+            return differs(alloc, read_name(is_short), number, &told);
         }
-        if told.failed_reads == 0 {
-            return Ok(Verdict::Well { runs: failing - 1 });
+        if !is_short && told.failed_reads == 0 {
+            return Ok(Verdict::Well { runs: number - 1 });
         }
     }
-    Err(Refused::BadPart)
+    if is_short {
+        Ok(Verdict::Well { runs: end - 1 })
+    } else {
+        Err(Refused::BadPart)
+    }
 }
 
-/// Lets each read give few bytes at most, which changes nothing.
-fn each_short(alloc: Global, case: &Case, reading: Reading<'_>) -> Result<Verdict, Refused> {
-    let mut runs = 0u64;
-    for most in 1..=SHORT_READS {
-        let reads = Reads {
-            most,
-            ..reading.reads
-        };
-        let told = tell(alloc, &case.files, Reading { reads, ..reading })?;
-        if told.text.as_str() != case.wanted.as_str() {
-            return differs(alloc, "reads of", most as u64, &told);
-        }
-        runs = runs.saturating_add(1);
+/// Reads of so many bytes at most, or of which the one with this number fails.
+fn disturbed(reads: Reads, is_short: bool, number: u64) -> Reads {
+    if is_short {
+        let most = number as usize;
+        Reads { most, ..reads }
+    } else {
+        let failing = number;
+        Reads { failing, ..reads }
     }
-    Ok(Verdict::Well { runs })
+}
+
+fn read_name(is_short: bool) -> &'static str {
+    if is_short { "reads of" } else { "read" }
 }
 
 /// The files of a case, the last of them cut to so many bytes.
@@ -107,27 +124,31 @@ fn wanted_of_cut(
     let Some(given) = whole.text.as_str().get(..length) else {
         return Err(Refused::NoText);
     };
-    let mut text = String::from_str(alloc, given)?;
+    let mut text = Page::new(alloc);
+    text.push_str(given);
     match layer {
-        Layer::Frames(_) => show_tail(&mut text, place, reached)?,
-        _ => text.push_str("end\n")?,
+        Layer::Frames(_) => show_tail(&mut text, place, reached),
+        _ => text.push_str("end\n"),
     }
-    Ok(text)
+    text.into_text()
 }
 
 /// How the frames of a beginning of a file end. The first event stands behind four bytes.
-fn show_tail(text: &mut String, cut: Place, reached: Place) -> Result<(), Refused> {
+fn show_tail(text: &mut Page, cut: Place, reached: Place) {
     let (file, length) = cut;
     let place = match length {
         0..=3 => 0,
         _ => reached.1.max(4),
     };
     if place == length && place != 0 {
-        write!(text, "{file} end; place {place}\n")?;
+        text.push_number(file as u64);
+        text.push_str(" end");
     } else {
-        write!(text, "{file}:{place} cut tail; place {place}\n")?;
+        text.push_place("", (file, place));
+        text.push_str(" cut tail");
     }
-    Ok(())
+    text.push_named("; place ", place);
+    text.push('\n');
 }
 
 /// What is told where the last file is cut to a length.

@@ -1,22 +1,25 @@
 //! Tokens as texts.
-use binlog_select::{Token, TokenFault, TokenRef};
+use crate::page::Page;
+use binlog_select::{Token, TokenRef};
 use case_language::{Pieces, Refused};
-use std::alloc::{AllocError, Global};
-use std::fmt::Write;
+use std::alloc::Global;
 
 /// The parts of a token, and behind them its text.
-fn push_parts(text: &mut String, file: &str, token: TokenRef<'_>) -> Result<(), AllocError> {
-    let (position, count) = (token.position, token.count);
-    write!(text, "position {position}, count {count}, file ")?;
-    text.push_str(file)?;
-    text.push_str(", text ")?;
-    token.write(text)
+fn show_parts(text: &mut Page, file: &str, token: TokenRef<'_>) {
+    text.push_named("position ", token.position);
+    text.push_named(", count ", token.count);
+    text.push_str(", file ");
+    text.push_str(file);
+    text.push_str(", text ");
+    text.push_token(token);
 }
 
 /// What a token says, by its file and a copy of it.
-fn push_token(alloc: Global, text: &mut String, token: Token) -> Result<(), AllocError> {
-    let copy = token.as_ref().to_token(alloc)?;
-    push_parts(text, token.file.into_string().as_str(), copy.as_ref())
+fn show_token(alloc: Global, text: &mut Page, token: Token) {
+    match token.as_ref().to_token(alloc) {
+        Ok(copy) => show_parts(text, token.file.into_string().as_str(), copy.as_ref()),
+        Err(_) => text.refuse(Refused::OutOfMemory),
+    }
 }
 
 /// `token PART..`: what the token of a text says, or its fault.
@@ -26,12 +29,11 @@ pub fn token_text(alloc: Global, pieces: &Pieces, words: &[String]) -> Result<St
 
 /// What a token says, or its fault.
 fn told_token(alloc: Global, spelled: &str) -> Result<String, Refused> {
-    let mut text = String::new(alloc);
+    let mut text = Page::new(alloc);
     match Token::parse(alloc, spelled) {
-        Ok(token) => push_token(alloc, &mut text, token)?,
-        Err(TokenFault::BadToken) => text.push_str("BadToken")?,
-        Err(TokenFault::OutOfMemory) => text.push_str("OutOfMemory")?,
+        Ok(token) => show_token(alloc, &mut text, token),
+        Err(fault) => text.push_debug(&fault),
     }
-    text.push('\n')?;
-    Ok(text)
+    text.push('\n');
+    text.into_text()
 }

@@ -1,5 +1,5 @@
 //! The verbs of readers.
-use crate::bodies::{body_text, header_text, kinds_text, lengths_text};
+use crate::bodies::{body_text, header_text, kinds_text};
 use crate::filters::{names_text, passes_text};
 use crate::lookups::lookups_text;
 use crate::opening::judge_open;
@@ -45,8 +45,7 @@ fn text_of(
 ) -> Result<String, Refused> {
     match verb {
         "header" => header_text(alloc, pieces, words),
-        "body" => body_text(alloc, pieces, words),
-        "lengths" => lengths_text(alloc, pieces, words),
+        "body" | "lengths" => body_text(alloc, pieces, verb, words),
         "kinds" => kinds_text(alloc, words),
         "names" => names_of_files(alloc, case),
         "reads" => reads_text(alloc, case, words),
