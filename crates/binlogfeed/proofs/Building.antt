@@ -1,9 +1,11 @@
 -- A command with one argument more, or one subcommand, and what it was given.
 use Rattle.std.proofs.Common.{◌≡◌, ℕ, suc, ◌+◌, ◌<◌, ◌≤◌, arith, sym, drop, drop-cons, get_or, length, false, ◌||◌, ap, ap₂, ◌∙◌, List, [], Some, None, Result, Ok, Err, subst, option_map, unwrap_or}
-use Rattle.clap.specs.Words.{App, Rule, Text, AddsArg, AddsSubcommand, app_of, rule_of, with_rule, with_subcommand, raw_values, matched_of, all_of, rows_of}
+use Rattle.clap.specs.Words.{App, Rule, Text, AddsArg, AddsSubcommand, app_of, new_rule, rule_of, with_rule, with_subcommand, raw_values, matched_of, all_of, rows_of}
 use Rattle.std.proofs.lemmas.List.{drop_all}
 use Rattle.std.specs.Prelude.{IfOk}
 use Rattle.clap.proofs.WalkLemmas.{raw_values-rows}
+use Rattle.clap.specs.declared.builder.action.ArgAction.TheVariants.{Set}
+use Rattle.clap.specs.declared.builder.texts.Texts.TheVariants.{One}
 use Rattle.clap.specs.declared.parser.matches.Found.{Found}
 use Rattle.clap.specs.declared.builder.arg.Arg.{Arg}
 use Rattle.clap.specs.declared.builder.command.Command.{Command}
@@ -21,6 +23,18 @@ adds_local old argument new h local old_local = h.globals ∙ ap₂ (λ p q. p |
 pub adds_subcommand : (old sub new : Command) (app sub_app : App) → AddsSubcommand old sub new → (out-Command sub).has_globals ≡ false → app_of old ≡ app → app_of sub ≡ sub_app
     → app_of new ≡ with_subcommand app sub_app.top
 adds_subcommand old sub new app sub_app h local app_is sub_is = h.shape local ∙ ap₂ with_subcommand app_is (ap (λ a. a.top) sub_is)
+
+-- an option is built step by step
+pub option_built : (plain long valued helped needed built : Arg) (words : OptionWords) → rule_of plain ≡ new_rule words.name.now
+    → long ≡ record plain { long = Some words.name } → valued ≡ record long { val_names = One words.value } → helped ≡ record valued { help = Some words.help }
+    → needed ≡ record helped { required = words.is_required } → built ≡ record needed { action = Some Set } → rule_of built ≡ rule_of_words words
+option_built plain long valued helped needed built words plain_is long_is valued_is helped_is needed_is built_is =
+    ap rule_of (built_is
+    ∙ ap (λ (a : Arg). record a { action = Some Set }) (needed_is
+    ∙ ap (λ (a : Arg). record a { required = words.is_required }) (helped_is
+    ∙ ap (λ (a : Arg). record a { help = Some words.help }) (valued_is
+    ∙ ap (λ (a : Arg). record a { val_names = One words.value }) long_is))))
+    ∙ ap (λ (rule : Rule). record rule { long = Some words.name.now; action = Some Set; value_names = 1; required = words.is_required }) plain_is
 
 -- one of the options, behind those that a command has
 pub option_added : (old new : Command) (argument : Arg) (app : App) (options : List OptionWords) (at : ℕ) (none : OptionWords) → at < length options

@@ -1,9 +1,12 @@
 -- Steps of a text that goes out by parts.
-use Rattle.std.proofs.Common.{ℕ, List, [], ◌++◌, Option, Some, None, refl, sym, ap, ◌∙◌, append_assoc, append-nil, take, drop, take-append-drop, length, ◌-◌}
+use Rattle.std.proofs.Common.{◌≡◌, ℕ, List, [], ◌++◌, Option, Some, None, refl, sym, ap, ◌∙◌, append_assoc, append-nil, take, drop, take-append-drop, length, ◌-◌, Result, Ok, Err, subst}
+use Rattle.std.specs.Prelude.{IsErrAnd}
 use Rattle.std.proofs.lemmas.List.{take_rest}
 use Rattle.std.specs.Io.KnownBytes.{Appends, Keeps}
 use Rattle.std.proofs.KnownBytes.{Appends-trans}
-use Rattle.binlogfeed.specs.Sending.{AppendsBeginning, IsSending, IsSendingBeginning}
+use Rattle.binlogfeed.specs.Sending.{AppendsBeginning, IsSending, IsSendingBeginning, Adds}
+use Rattle.binlogfeed.specs.declared.writing.AddFault.{AddFault}
+use Rattle.binlogfeed.specs.declared.writing.AddFault.TheVariants.{Write}
 
 pub appends_none : (old : Option (List ℕ)) → Appends old old []
 appends_none None = tt
@@ -67,3 +70,9 @@ sending_beginning old new waiting text more h = record {
   parts = ap (λ t. t ++ more) h.parts ∙ append_assoc h.sent waiting more;
   received = h.received;
 }
+
+-- a line isn't added, since a write failed
+pub add_failed : {T : Type 0} (old new : Option (List ℕ)) (before later line : List ℕ) (result : Result T AddFault) → AppendsBeginning old new (before ++ line)
+    → IsErrAnd result (λ why. why ≡ Write) → Adds old new before later line result
+add_failed {T} old new before later line (Ok done) h k = absurd k
+add_failed {T} old new before later line (Err why) h k = subst (λ (fault : AddFault). Adds {T = T} old new before later line (Err fault)) (sym k) h

@@ -1,5 +1,5 @@
 -- The key that `--key` names, and how its text is refused.
-use Rattle.std.specs.Prelude.{◌≡◌, ℕ, List, Option, Some, None, option_and_then, is_some, unwrap_or, Bool, true, false, not, ◌&&◌, ◌||◌, ◌==◌, codes}
+use Rattle.std.specs.Prelude.{◌≡◌, ℕ, List, Some, option_and_then, is_some, unwrap_or, Bool, true, false, not, ◌&&◌, ◌||◌, ◌==◌, codes}
 use Rattle.serde_json.specs.Data.{Data, null, boolean, number, string, array, object, Items, no_items, item, Members}
 use Rattle.serde_json.specs.Events.{members_len}
 use Rattle.serde_json.specs.Find.{as_str, get, is_float}

@@ -137,8 +137,8 @@ pub fn fault_line<L: Logs>(fault: &RunFault, logs: &L, line: &mut String) -> Res
             let name = file_name(logs, *file);
             write!(line, "binlogfeed: read fault: {name}")
         }
-        RunFault::Write => write!(line, "binlogfeed: write fault"),
-        RunFault::OutOfMemory => write!(line, "binlogfeed: out of memory"),
+        RunFault::Write => line.push_str("binlogfeed: write fault"),
+        RunFault::OutOfMemory => line.push_str("binlogfeed: out of memory"),
     }
 }
 

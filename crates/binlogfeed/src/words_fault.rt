@@ -64,11 +64,11 @@ pub fn words_line(fault: &WordsFault, line: &mut String) -> Result<(), AllocErro
 {
     match fault {
         WordsFault::Help(_) => Ok(()),
-        WordsFault::CommandLine => write!(line, "binlogfeed: command line refused"),
+        WordsFault::CommandLine => line.push_str("binlogfeed: command line refused"),
         WordsFault::EventName(word) => write!(line, "binlogfeed: bad --only-events: {word}"),
         WordsFault::Set(at) => write!(line, "binlogfeed: bad --auto-position: element {at}"),
-        WordsFault::Token => write!(line, "binlogfeed: token refused: BadToken"),
-        WordsFault::Key => write!(line, "binlogfeed: bad --key"),
-        WordsFault::OutOfMemory => write!(line, "binlogfeed: out of memory"),
+        WordsFault::Token => line.push_str("binlogfeed: token refused: BadToken"),
+        WordsFault::Key => line.push_str("binlogfeed: bad --key"),
+        WordsFault::OutOfMemory => line.push_str("binlogfeed: out of memory"),
     }
 }

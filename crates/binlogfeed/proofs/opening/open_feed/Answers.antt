@@ -1,6 +1,6 @@
 use Rattle.std.proofs.Common.{ℕ, List, length, refl, subst, ◌∙◌, arith}
 use Rattle.binlogfeed.specs.Faults.{IsNamed, fault_of_opening}
-use Rattle.binlogfeed.proofs.Beginning.{start_named, start_failed}
+use Rattle.binlogfeed.proofs.Beginning.{grows, still_failed, still_named, still_refused}
 use Rattle.binlogfeed.proofs.Keeping.{source_kept_further, no_fewer_still, reads_failed_since}
 use Rattle.binlogfeed.proofs.opening.open_feed.Goals as goal
 
@@ -13,12 +13,19 @@ opening-init g c = record {
 
 pub opening-preserved : goal.opening-preserved
 opening-preserved g c =
-    let back = c.in-Err-WindowTooSmall-default-default-default-default.ensures in
+    let back = c.in-Err.ensures in
     record {
       source = source_kept_further _ _ _ _ _ _ _ _ c.opening.invariant.source back.source_back;
       filter = back.filter_back ∙ c.opening.invariant.filter;
       start = back.start_back ∙ c.opening.invariant.start;
     }
+
+pub opening-smaller : goal.opening-smaller
+opening-smaller g c =
+    let window = length c.opening.window.items in
+    let larger = length c.in-Ok-larger_window.larger.items in
+    let rises = grows (g.L.Logs.names c.opening.logs) window (g.L.Logs.failures c.opening.logs) (g.L.Logs.failures c.in-Err.logs_back) c.in-Err.fault larger c.in-Err.ensures.reason c.in-Ok-larger_window.ensures.larger in
+    omega (arith, rises, c.in-Ok-larger_window.ensures.fits)
 
 pub returns-in-Ok : goal.returns-in-Ok
 returns-in-Ok g c =
@@ -39,29 +46,8 @@ returns-in-Ok g c =
       failed = tt;
     }
 
-pub returns-in_default : goal.returns-in_default
-returns-in_default g c =
-    let kept = c.opening.invariant.source in
-    let arm = c.in-Err-WindowTooSmall-default-default-default-default in
-    record {
-      fits = tt;
-      begins = tt;
-      differ = tt;
-      names = tt;
-      contents = tt;
-      lengths = tt;
-      was_honest = tt;
-      no_fewer = tt;
-      refused = λ h.
-          let small = rw arm.field-0-0-is at (arm.ensures.refused h) in
-          (rw kept.same_names at small.0, tt);
-      source_back = source_kept_further _ _ _ _ _ _ _ _ kept arm.ensures.source_back;
-      named = tt;
-      failed = tt;
-    }
-
-pub returns-in-Err : goal.returns-in-Err
-returns-in-Err g c =
+pub returns-in-Err-larger_window : goal.returns-in-Err-larger_window
+returns-in-Err-larger_window g c =
     let kept = c.opening.invariant.source in
     let back = c.in-Err.ensures in
     let names = g.L.Logs.names c.opening.logs in
@@ -69,6 +55,8 @@ returns-in-Err g c =
     let before = g.L.Logs.failures c.opening.logs in
     let after = g.L.Logs.failures c.in-Err.logs_back in
     let fault = c.in-Err.fault in
+    let why = c.in-Err-larger_window.fault in
+    let ends = c.in-Err-larger_window.ensures.refused in
     record {
       fits = tt;
       begins = tt;
@@ -78,8 +66,8 @@ returns-in-Err g c =
       lengths = tt;
       was_honest = tt;
       no_fewer = tt;
-      refused = λ h. rw (kept.same_names, kept.same_contents, c.opening.invariant.start) at (back.refused h);
+      refused = λ h. rw (kept.same_names, kept.same_contents, c.opening.invariant.start) at (still_refused names (g.L.Logs.contents c.opening.logs) c.opening.start fault why (back.refused h) ends);
       source_back = source_kept_further _ _ _ _ _ _ _ _ kept back.source_back;
-      named = subst (λ (list : List (List ℕ)). IsNamed list (fault_of_opening fault)) kept.same_names (start_named names window before after fault back.reason);
-      failed = reads_failed_since (g.L.Logs.failures c.args.logs) before after (fault_of_opening fault) kept.no_fewer (start_failed names window before after fault back.reason);
+      named = subst (λ (list : List (List ℕ)). IsNamed list (fault_of_opening why)) kept.same_names (still_named names window before after fault why back.reason ends);
+      failed = reads_failed_since (g.L.Logs.failures c.args.logs) before after (fault_of_opening why) kept.no_fewer (still_failed names window before after fault why back.reason ends);
     }
