@@ -11,14 +11,8 @@ pub(crate) fn file_names<L: Logs>(alloc: Global, logs: &L) -> Result<Vec<String>
 {
     let mut names = Vec::new(alloc);
     'files: for file in 0..logs.count() {
-        let name = match String::from_str(alloc, logs.name(file)) {
-            Ok(name) => name,
-            Err(error) => return Err(error),
-        };
-        match names.push(name) {
-            Ok(()) => {}
-            Err(_) => return Err(AllocError),
-        }
+        let name = String::from_str(alloc, logs.name(file))?;
+        names.push(name)?;
     }
     Ok(names)
 }

@@ -14,29 +14,18 @@ use std::alloc::{AllocError, Global};
 pub(crate) fn filter_given(alloc: Global, matches: &ArgMatches<'_>) -> Result<Filter, WordsFault>
     ensures { AnswersOptions (rows_of (found_of matches.now)) result }
 {
-    let only_events = match kinds_given(alloc, text_given(matches, "only-events")) {
-        Ok(kinds) => kinds,
-        Err(fault) => return Err(fault),
-    };
-    let auto_position = match set_given(alloc, text_given(matches, "auto-position")) {
-        Ok(set) => set,
-        Err(fault) => return Err(fault),
-    };
-    let tables = match lists_given(alloc, matches, "only-tables", "ignored-tables") {
-        Ok(lists) => lists,
-        Err(_) => return Err(WordsFault::OutOfMemory),
-    };
-    match lists_given(alloc, matches, "only-schemas", "ignored-schemas") {
-        Ok(schemas) => Ok(Filter {
-            only_events,
-            only_tables: tables.only,
-            ignored_tables: tables.ignored,
-            only_schemas: schemas.only,
-            ignored_schemas: schemas.ignored,
-            auto_position,
-        }),
-        Err(_) => Err(WordsFault::OutOfMemory),
-    }
+    let only_events = kinds_given(alloc, text_given(matches, "only-events"))?;
+    let auto_position = set_given(alloc, text_given(matches, "auto-position"))?;
+    let tables = lists_given(alloc, matches, "only-tables", "ignored-tables")?;
+    let schemas = lists_given(alloc, matches, "only-schemas", "ignored-schemas")?;
+    Ok(Filter {
+        only_events,
+        only_tables: tables.only,
+        ignored_tables: tables.ignored,
+        only_schemas: schemas.only,
+        ignored_schemas: schemas.ignored,
+        auto_position,
+    })
 }
 
 /// Names that alone are let through, and names that are not.
@@ -56,14 +45,9 @@ fn lists_given(
     ensures only { IfOk result (λ lists. lists.only ≡ option_map names_in (first_of only.now (rows_of (found_of matches.now)))) }
     ensures ignored { IfOk result (λ lists. lists.ignored ≡ option_map names_in (first_of ignored.now (rows_of (found_of matches.now)))) }
 {
-    let only = match names_given(alloc, text_given(matches, only)) {
-        Ok(names) => names,
-        Err(error) => return Err(error),
-    };
-    match names_given(alloc, text_given(matches, ignored)) {
-        Ok(ignored) => Ok(Lists { only, ignored }),
-        Err(error) => Err(error),
-    }
+    let only = names_given(alloc, text_given(matches, only))?;
+    let ignored = names_given(alloc, text_given(matches, ignored))?;
+    Ok(Lists { only, ignored })
 }
 
 /// The value of an option.
@@ -88,18 +72,12 @@ fn kinds_of(alloc: Global, list: &str) -> Result<Kinds, WordsFault>
     ensures ok { IfOk result (NamesKinds list.now) }
     ensures err { IfErr result (IsEventFault (Some list.now)) }
 {
-    let words = match words_of(alloc, list) {
-        Ok(words) => words,
-        Err(_) => return Err(WordsFault::OutOfMemory),
-    };
+    let words = words_of(alloc, list)?;
     let mut kinds = Vec::new(alloc);
     'words: for word in &words {
-        let Some(kind) = kind_of(word) else {
-            return Err(event_fault(alloc, word));
-        };
-        match kinds.push(kind) {
-            Ok(()) => {}
-            Err(_) => return Err(WordsFault::OutOfMemory),
+        match kind_of(word) {
+            Some(kind) => kinds.push(kind)?,
+            None => return Err(event_fault(alloc, word)),
         }
     }
     Ok(Kinds::from(kinds))
@@ -140,20 +118,11 @@ fn names_given(alloc: Global, list: Option<&str>) -> Result<Option<Names>, Alloc
 fn names_of(alloc: Global, list: &str) -> Result<Names, AllocError>
     ensures { IfOk result (λ names. names ≡ names_in list.now) }
 {
-    let words = match words_of(alloc, list) {
-        Ok(words) => words,
-        Err(error) => return Err(error),
-    };
+    let words = words_of(alloc, list)?;
     let mut names = Vec::new(alloc);
     'words: for word in &words {
-        let name = match String::from_str(alloc, word) {
-            Ok(name) => name,
-            Err(error) => return Err(error),
-        };
-        match names.push(name) {
-            Ok(()) => {}
-            Err(_) => return Err(AllocError),
-        }
+        let name = String::from_str(alloc, word)?;
+        names.push(name)?;
     }
     Ok(Names::from(names))
 }

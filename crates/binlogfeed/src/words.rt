@@ -85,27 +85,20 @@ fn order_of<'a>(alloc: Global, matches: &ArgMatches<'a>) -> Result<Order<'a>, Wo
 fn transactions<'a>(alloc: Global, matches: &ArgMatches<'a>) -> Result<Order<'a>, WordsFault>
     ensures { AnswersFound (Some (codes "transactions", rows_of (found_of matches.now))) result }
 {
-    match files(alloc, matches) {
-        Ok(files) => Ok(Order::Transactions { files }),
-        Err(_) => Err(WordsFault::OutOfMemory),
-    }
+    let files = files(alloc, matches)?;
+    Ok(Order::Transactions { files })
 }
 
 fn read<'a>(alloc: Global, matches: &ArgMatches<'a>) -> Result<Order<'a>, WordsFault>
     ensures { AnswersFound (Some (codes "read", rows_of (found_of matches.now))) result }
 {
-    let filter = match filter_given(alloc, matches) {
-        Ok(filter) => filter,
-        Err(fault) => return Err(fault),
-    };
-    match files_and_start(alloc, matches) {
-        Ok((files, start)) => Ok(Order::Read {
-            filter,
-            start,
-            files,
-        }),
-        Err(fault) => Err(fault),
-    }
+    let filter = filter_given(alloc, matches)?;
+    let (files, start) = files_and_start(alloc, matches)?;
+    Ok(Order::Read {
+        filter,
+        start,
+        files,
+    })
 }
 
 /// The files of a read, and the start that `--from` names.
@@ -117,32 +110,22 @@ fn files_and_start<'a>(
     ensures start { IfOk result (λ given. IsStart (token_text (rows_of (found_of matches.now))) given.1) }
     ensures err { IfErr result (IsTokenFault (token_text (rows_of (found_of matches.now)))) }
 {
-    let files = match files(alloc, matches) {
-        Ok(files) => files,
-        Err(_) => return Err(WordsFault::OutOfMemory),
-    };
-    match start_given(alloc, text_given(matches, "from")) {
-        Ok(start) => Ok((files, start)),
-        Err(fault) => Err(fault),
-    }
+    let files = files(alloc, matches)?;
+    let start = start_given(alloc, text_given(matches, "from"))?;
+    Ok((files, start))
 }
 
 fn history<'a>(alloc: Global, matches: &ArgMatches<'a>) -> Result<Order<'a>, WordsFault>
     ensures { AnswersFound (Some (codes "history", rows_of (found_of matches.now))) result }
 {
-    let key = match key_of(alloc, value_of(matches, "key")) {
-        Ok(key) => key,
-        Err(fault) => return Err(fault),
-    };
-    match files(alloc, matches) {
-        Ok(files) => Ok(Order::History {
-            schema: value_of(matches, "schema"),
-            table: value_of(matches, "table"),
-            key,
-            files,
-        }),
-        Err(_) => Err(WordsFault::OutOfMemory),
-    }
+    let key = key_of(alloc, value_of(matches, "key"))?;
+    let files = files(alloc, matches)?;
+    Ok(Order::History {
+        schema: value_of(matches, "schema"),
+        table: value_of(matches, "table"),
+        key,
+        files,
+    })
 }
 
 /// The value of an option that must be given.

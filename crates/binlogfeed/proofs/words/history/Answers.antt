@@ -1,10 +1,16 @@
-use Rattle.std.proofs.Common.{subst}
+use Rattle.std.proofs.Common.{Some, codes, subst}
 use Rattle.clap.specs.Words.{Text, found_of, rows_of}
 use Rattle.binlogfeed.specs.KeyWords.{IsKeyFault}
-use Rattle.binlogfeed.proofs.Found.{key_refused}
+use Rattle.binlogfeed.specs.declared.words_fault.WordsFault.TheVariants.{OutOfMemory}
+use Rattle.binlogfeed.proofs.Found.{failed, key_refused}
 use Rattle.binlogfeed.proofs.words.history.Goals as goal
 
-pub returns-in-Err : goal.returns-in-Err
-returns-in-Err c =
-    let fault = c.in-Err.fault in
-    key_refused (rows_of (found_of c.args.matches.now)) fault (subst (λ (text : Text). IsKeyFault text fault) c.value_of.ensures c.in-Err.ensures.err)
+pub returns-in_err-key : goal.returns-in_err-key
+returns-in_err-key c =
+    let rows = rows_of (found_of c.args.matches.now) in
+    let fault = c.in_err-key.field-0.0 in
+    failed (Some (codes "history", rows)) fault c.from_residual.result (key_refused rows fault (subst (λ (text : Text). IsKeyFault text fault) c.value_of.ensures c.in_err-key.ensures.err)) c.from_residual.ensures.1
+
+pub returns-in_err-files : goal.returns-in_err-files
+returns-in_err-files c =
+    failed (Some (codes "history", rows_of (found_of c.args.matches.now))) OutOfMemory c.from_residual-in_err-files.result tt c.from_residual-in_err-files.ensures.1

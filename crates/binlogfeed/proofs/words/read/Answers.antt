@@ -1,16 +1,21 @@
-use Rattle.std.proofs.Common.{refl}
+use Rattle.std.proofs.Common.{refl, Some, codes}
 use Rattle.clap.specs.Words.{found_of, rows_of}
-use Rattle.binlogfeed.proofs.Found.{options_refused, token_refused}
+use Rattle.binlogfeed.proofs.Found.{failed, options_refused, token_refused}
 use Rattle.binlogfeed.proofs.words.read.Goals as goal
 
-pub returns-in-Err : goal.returns-in-Err
-returns-in-Err c = options_refused (rows_of (found_of c.args.matches.now)) c.in-Err.fault c.in-Err.ensures
+pub returns-in_err-filter : goal.returns-in_err-filter
+returns-in_err-filter c =
+    let rows = rows_of (found_of c.args.matches.now) in
+    failed (Some (codes "read", rows)) c.in_err-filter.field-0.0 c.from_residual.result (options_refused rows c.in_err-filter.field-0.0 c.in_err-filter.ensures) c.from_residual.ensures.1
 
-pub returns-in-Err-files_and_start : goal.returns-in-Err-files_and_start
-returns-in-Err-files_and_start c =
-    token_refused (rows_of (found_of c.args.matches.now)) c.in-Ok.filter c.in-Err-files_and_start.fault c.in-Ok.ensures c.in-Err-files_and_start.ensures.err
+pub returns-in_err-files : goal.returns-in_err-files
+returns-in_err-files c =
+    let rows = rows_of (found_of c.args.matches.now) in
+    let fault = c.in_err-files.field-0.0 in
+    failed (Some (codes "read", rows)) fault c.from_residual-in_err-files.result
+    (token_refused rows c.in_ok-filter.filter fault c.in_ok-filter.ensures c.in_err-files.ensures.err) c.from_residual-in_err-files.ensures.1
 
-pub returns-in-Ok-files_and_start : goal.returns-in-Ok-files_and_start
-returns-in-Ok-files_and_start c =
-    let given = c.in-Ok-files_and_start.ensures in
-    (rows_of (found_of c.args.matches.now), refl, c.in-Ok.ensures, given.start, given.files)
+pub returns : goal.returns
+returns c =
+    let given = c.in_ok-files.ensures in
+    (rows_of (found_of c.args.matches.now), refl, c.in_ok-filter.ensures, given.start, given.files)
