@@ -1,8 +1,10 @@
 -- Numbers of two digits.
-use Rattle.std.proofs.Common.{◌≡◌, ℕ, zero, suc, ◌+◌, ◌<◌, ◌≤◌, ◌/◌, ◌%◌, List, [], ◌∷◌, Bool, true, false, ◌&&◌, nat_lt, ltb-true, ltb-false, refl, subst, arith}
+use Rattle.std.proofs.Common.{◌≡◌, ℕ, zero, suc, ◌+◌, ◌<◌, ◌≤◌, ◌/◌, ◌%◌, List, [], ◌∷◌, Bool, true, false, ◌&&◌, nat_lt, get_or, ltb-true, ltb-false, refl, subst, arith}
 use Rattle.std.specs.Str.{bytes_eq}
 use Rattle.std.specs.Fmt.{digits}
 use Rattle.std.proofs.lemmas.Slice.Eq.{bytes_eq-Decides}
+use Rattle.std.specs.Str.{IsUtf8}
+use Rattle.std.proofs.lemmas.Str.{IsUtf8-from_ascii}
 use Rattle.binlog_json.specs.Texts.{padded}
 
 abbrev pair : ℕ → List ℕ
@@ -39,3 +41,22 @@ all_pairs = refl
 -- a number below 100 has its two digits
 pub pair_is : (n : ℕ) → n < 100 → padded 2 n ≡ (48 + n / 10) ∷ (48 + n % 10) ∷ []
 pair_is n below = each_below 100 n all_pairs below
+
+two_ascii : (one other : ℕ) → one < 128 → other < 128 → (k : ℕ) → get_or (one ∷ other ∷ []) k 0 < 128
+two_ascii one other o p zero = o
+two_ascii one other o p (suc zero) = p
+two_ascii one other o p (suc (suc k)) = omega arith
+
+-- two digits are text
+pub pair_utf8 : (n : ℕ) → n < 100 → IsUtf8 ((48 + n / 10) ∷ (48 + n % 10) ∷ [])
+pair_utf8 n below = IsUtf8-from_ascii _ (two_ascii (48 + n / 10) (48 + n % 10) (omega arith) (omega arith))
+
+part_ascii : (mark one other : ℕ) → mark < 128 → one < 128 → other < 128 → (k : ℕ) → get_or (mark ∷ one ∷ other ∷ []) k 0 < 128
+part_ascii mark one other m o p zero = m
+part_ascii mark one other m o p (suc zero) = o
+part_ascii mark one other m o p (suc (suc zero)) = p
+part_ascii mark one other m o p (suc (suc (suc k))) = omega arith
+
+-- a mark and two digits are text
+pub part_utf8 : (mark n : ℕ) → mark < 128 → n < 100 → IsUtf8 (mark ∷ (48 + n / 10) ∷ (48 + n % 10) ∷ [])
+part_utf8 mark n m below = IsUtf8-from_ascii _ (part_ascii mark (48 + n / 10) (48 + n % 10) m (omega arith) (omega arith))

@@ -1,5 +1,5 @@
 //! Numbers and their digits, at the end of a text.
-ghost use Rattle.std.specs.Prelude.{◌≡◌, ◌<◌, ◌≤◌, ◌++◌, ◌/◌, ◌%◌, ◌^◌, ◌*◌, take, replicate, OnOk, All, decimal, string_bytes};
+ghost use Rattle.std.specs.Prelude.{◌≡◌, ◌<◌, ◌≤◌, ◌∷◌, ◌++◌, ◌/◌, ◌%◌, ◌^◌, ◌*◌, take, replicate, OnOk, All, decimal, string_bytes};
 ghost use Rattle.binlog_table.specs.Decimal.{digits_of};
 ghost use Rattle.binlog_json.specs.Texts.{padded, digits_text, whole_text, point_text, fraction_text};
 
@@ -30,9 +30,22 @@ pub(crate) fn push_pair(text: &mut String, number: u16) -> Result<(), AllocError
     if number >= 100 {
         return push_padded(text, u32::from(number), 2);
     }
-    let pair = number as u8;
-    text.push((b'0' + pair / 10) as char)?;
-    text.push((b'0' + pair % 10) as char)
+    let low = number as u8;
+    let pair = [b'0' + low / 10, b'0' + low % 10];
+    text.push_str(unsafe { str::from_utf8_unchecked(&pair) })
+}
+
+/// A mark, and a number in two digits behind it, or in more where it has more.
+pub(crate) fn push_part(text: &mut String, mark: u8, number: u8) -> Result<(), AllocError>
+    requires { mark < 128 }
+    ensures { OnOk result (string_bytes text.new ≡ string_bytes text.old ++ mark ∷ padded 2 number) }
+{
+    if number >= 100 {
+        text.push(mark as char)?;
+        return push_padded(text, u32::from(number), 2);
+    }
+    let part = [mark, b'0' + number / 10, b'0' + number % 10];
+    text.push_str(unsafe { str::from_utf8_unchecked(&part) })
 }
 
 fn push_zeros(text: &mut String, count: usize) -> Result<(), AllocError>

@@ -4,9 +4,11 @@ ghost use Rattle.std.specs.List.{list_all};
 ghost use Rattle.binlog_table.specs.DecimalShown.{decimal_view};
 ghost use Rattle.binlog_table.specs.Value.{view as cell_view};
 ghost use Rattle.binlog_json.specs.Values.{shown_text};
-ghost use Rattle.binlog_json.specs.Texts.{padded, sign_text, whole_text, point_text, decimal_text, fraction_text, day_text, clock_text, date_text, date_time_text, time_text, timestamp_text};
+ghost use Rattle.binlog_json.specs.Texts.{sign_text, whole_text, point_text, decimal_text, fraction_text, day_text, clock_text, date_text, date_time_text, time_text, timestamp_text};
 
-use crate::digits::{push_fraction, push_number, push_padded, push_pair, push_point, push_whole};
+use crate::digits::{
+    push_fraction, push_number, push_padded, push_pair, push_part, push_point, push_whole,
+};
 use binlog_table::{Cell, Date, DateTime, DecimalView, Time, Timestamp};
 use std::alloc::AllocError;
 
@@ -52,8 +54,8 @@ fn push_day(text: &mut String, year: u32, month: u8, day: u8) -> Result<(), Allo
         ≡ string_bytes text.old ++ day_text year month day) }
 {
     push_padded(text, year, 4)?;
-    push_part(text, "-", month)?;
-    push_part(text, "-", day)
+    push_part(text, b'-', month)?;
+    push_part(text, b'-', day)
 }
 
 fn push_clock(text: &mut String, hour: u16, minute: u8, second: u8) -> Result<(), AllocError>
@@ -61,16 +63,8 @@ fn push_clock(text: &mut String, hour: u16, minute: u8, second: u8) -> Result<()
         ≡ string_bytes text.old ++ clock_text hour minute second) }
 {
     push_pair(text, hour)?;
-    push_part(text, ":", minute)?;
-    push_part(text, ":", second)
-}
-
-/// A mark, and a number in two digits behind it.
-fn push_part(text: &mut String, mark: &str, number: u8) -> Result<(), AllocError>
-    ensures { OnOk result (string_bytes text.new ≡ string_bytes text.old ++ (mark.now ++ padded 2 number)) }
-{
-    text.push_str(mark)?;
-    push_pair(text, u16::from(number))
+    push_part(text, b':', minute)?;
+    push_part(text, b':', second)
 }
 
 pub(crate) fn push_date(text: &mut String, date: Date) -> Result<(), AllocError>

@@ -1,0 +1,12 @@
+use Rattle.std.proofs.Common.{arith}
+use Rattle.std.proofs.lemmas.Grind.{common_steps}
+use Rattle.binlog_json.proofs.Pairs.{pair_is, part_utf8}
+use Rattle.binlog_json.proofs.digits.push_part.Goals as goal
+
+pub from_utf8_unchecked-requires : goal.from_utf8_unchecked-requires
+from_utf8_unchecked-requires c = part_utf8 c.args.mark c.args.number c.requires (omega arith)
+
+pub returns : goal.returns
+returns c =
+    let two = pair_is c.args.number (omega arith) in
+    grind (arith, common_steps)
