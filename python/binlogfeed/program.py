@@ -4,6 +4,7 @@ from __future__ import annotations
 import os
 import subprocess
 import tempfile
+import threading
 from collections.abc import Iterator, Sequence
 
 from binlogfeed.faults import ProgramFailed, ProgramMissing, told
@@ -17,6 +18,7 @@ class Run:
     def __init__(self, command: Sequence[str | os.PathLike[str]]) -> None:
         """Starts the program."""
         self._ended = False
+        self._ending = threading.RLock()
         # A file takes what the program says on standard error, so that it never waits for a reader.
         self._said = tempfile.TemporaryFile()
         try:
@@ -58,11 +60,12 @@ class Run:
             raise ProgramFailed("binlogfeed: the program's last line is cut")
 
     def end(self) -> None:
-        """Ends the program, if it still runs, and waits for it."""
+        """Ends the program, if it still runs, and waits for it. Several threads may call it at once."""
         self._ended = True
-        if self._process.poll() is None:
-            self._process.kill()
-        self._process.wait()
-        if self._process.stdout is not None:
-            self._process.stdout.close()
-        self._said.close()
+        with self._ending:
+            if self._process.poll() is None:
+                self._process.kill()
+            self._process.wait()
+            if self._process.stdout is not None:
+                self._process.stdout.close()
+            self._said.close()

@@ -74,6 +74,8 @@ class BinLogStreamReader:
         if self._lines is None:
             self._run = Run(self._command)
             self._lines = self._run.lines()
+            if self._closed:  # by another thread, which saw no run yet
+                self._run.end()
         try:
             return self._event(next(self._lines))
         except StopIteration:

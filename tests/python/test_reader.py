@@ -260,6 +260,37 @@ class Ends(FolderTest):
         self.assertLess(time.monotonic() - started, 30)
         self.assertTrue(self.process_is_gone())
 
+    def close_by_several_threads(self, begun):
+        """Closes readers from three threads at once, where another has begun to read, or begins meanwhile."""
+        faults = []
+
+        def act(action, start=None):
+            if start:
+                start.wait()
+            try:
+                action()
+            except ValueError as fault:
+                faults.append(fault)
+
+        program = self.stub("exec sleep 60")
+        for _ in range(100):
+            events = BinLogStreamReader("f", program=program)
+            start = threading.Barrier(3 if begun else 4)
+            threads = [threading.Thread(target=act, args=(events.fetchone, None if begun else start), daemon=True)]
+            threads += [threading.Thread(target=act, args=(events.close, start), daemon=True) for _ in range(3)]
+            for thread in threads:
+                thread.start()
+            for thread in threads:
+                thread.join(30)
+            self.assertFalse(any(thread.is_alive() for thread in threads))
+        self.assertEqual(faults, [])
+
+    def test_close_by_several_threads_while_another_waits(self):
+        self.close_by_several_threads(begun=True)
+
+    def test_close_by_several_threads_while_another_begins(self):
+        self.close_by_several_threads(begun=False)
+
     def test_closed_inside_a_transaction(self):
         events = BinLogStreamReader("f", program=self.endless())
         closer = threading.Timer(0.1, events.close)
