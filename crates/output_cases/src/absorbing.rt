@@ -4,9 +4,8 @@ use binlog_feed::{AtFault, Change, Feed, FeedFault};
 use binlog_frame::MemoryLogs;
 use binlog_json::{HistoryFault, KeyIndex};
 use binlog_select::Token;
-use case_language::Refused;
+use case_language::{Page, Refused};
 use std::alloc::{AllocError, Global};
-use std::fmt::Write;
 
 /// What a feed answers.
 enum Step {
@@ -18,12 +17,12 @@ enum Step {
     Ended(Option<FeedFault>),
 }
 
-/// Puts a change in an index.
-fn absorb(index: &mut KeyIndex, change: &Change<'_>) -> Result<(), AllocError> {
+/// Puts a change in an index, and gives its place.
+fn absorb(alloc: Global, index: &mut KeyIndex, change: &Change<'_>) -> Result<Token, AllocError> {
     if index.absorb(change).is_err() {
         index.absorb(change)?;
     }
-    Ok(())
+    change.token().to_token(alloc)
 }
 
 /// Puts the next change of a feed in an index.
@@ -33,10 +32,7 @@ fn absorb_next(
     index: &mut KeyIndex,
 ) -> Result<Step, AllocError> {
     match feed.next() {
-        Ok(Some(change)) => {
-            absorb(index, &change)?;
-            Ok(Step::Gave(change.token().to_token(alloc)?))
-        }
+        Ok(Some(change)) => Ok(Step::Gave(absorb(alloc, index, &change)?)),
         Ok(None) => Ok(Step::Ended(None)),
         Err(FeedFault::OutOfMemory) => Ok(Step::NoMemory),
         Err(fault) => Ok(Step::Ended(Some(fault))),
@@ -44,50 +40,50 @@ fn absorb_next(
 }
 
 /// Looks for the change at a place, and says so where there is none. Tells whether memory was found.
-fn looks(text: &mut String, feed: &mut Feed<MemoryLogs>, place: &Token) -> Result<bool, Refused> {
+fn looks(text: &mut Page, feed: &mut Feed<MemoryLogs>, place: &Token) -> bool {
     match feed.change_at(place) {
-        Ok(_) => Ok(true),
-        Err(AtFault::Feed(FeedFault::OutOfMemory)) => Ok(false),
+        Ok(_) => true,
+        Err(AtFault::Feed(FeedFault::OutOfMemory)) => false,
         Err(fault) => {
-            write!(text, "not looked up: {fault:?}\n")?;
-            Ok(true)
+            text.push_str("not looked up: ");
+            text.push_debug(&fault);
+            text.push('\n');
+            true
         }
     }
 }
 
 /// Looks for the change at a place.
-fn look(text: &mut String, feed: &mut Feed<MemoryLogs>, place: &Token) -> Result<(), Refused> {
-    if looks(text, feed, place)? || looks(text, feed, place)? {
-        return Ok(());
+fn look(text: &mut Page, feed: &mut Feed<MemoryLogs>, place: &Token) {
+    if !looks(text, feed, place) && !looks(text, feed, place) {
+        text.refuse(Refused::OutOfMemory);
     }
-    Err(Refused::OutOfMemory)
 }
 
 /// Puts all changes of a feed in an index, and looks each of them up. Returns the fault that ended the feed.
 fn absorb_all(
     alloc: Global,
-    text: &mut String,
+    text: &mut Page,
     feed: &mut Feed<MemoryLogs>,
     index: &mut KeyIndex,
-) -> Result<Option<FeedFault>, Refused> {
+) -> Option<FeedFault> {
     for _ in 0..u32::MAX {
-        match absorb_next(alloc, feed, index)? {
-            Step::Gave(place) => look(text, feed, &place)?,
-            Step::NoMemory => {}
-            Step::Ended(fault) => return Ok(fault),
+        match absorb_next(alloc, feed, index) {
+            Ok(Step::Gave(place)) => look(text, feed, &place),
+            Ok(Step::NoMemory) => {}
+            Ok(Step::Ended(fault)) => return fault,
+            Err(_) => {
+                text.refuse(Refused::OutOfMemory);
+                return None;
+            }
         }
     }
-    Ok(None)
+    None
 }
 
 /// The places that an index has which took the changes one by one.
-pub fn push_absorbed(
-    alloc: Global,
-    text: &mut String,
-    feed: &mut Feed<MemoryLogs>,
-    key: Key<'_>,
-) -> Result<(), Refused> {
+pub fn push_absorbed(alloc: Global, text: &mut Page, feed: &mut Feed<MemoryLogs>, key: Key<'_>) {
     let mut index = KeyIndex::new(alloc);
-    let fault = absorb_all(alloc, text, feed, &mut index)?;
-    push_places(text, &index, key, fault.map(HistoryFault::Feed))
+    let fault = absorb_all(alloc, text, feed, &mut index);
+    push_places(text, &index, key, fault.map(HistoryFault::Feed));
 }

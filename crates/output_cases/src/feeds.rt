@@ -5,7 +5,7 @@ use crate::json_lines::push_all_lines;
 use binlog_feed::{Feed, Start};
 use binlog_frame::MemoryLogs;
 use binlog_select::Filter;
-use case_language::{Named, Reads, Refused, source};
+use case_language::{Case, Named, Page, Reads, Refused, copies_of, source};
 use std::alloc::Global;
 
 /// What is asked of a feed.
@@ -41,30 +41,48 @@ fn feed_of(
 }
 
 /// What a feed answers, and how many of its reads failed and were tried again.
-fn ask(
-    alloc: Global,
-    text: &mut String,
-    feed: &mut Feed<MemoryLogs>,
-    question: Question<'_>,
-) -> Result<u64, Refused> {
+fn ask(alloc: Global, text: &mut Page, feed: &mut Feed<MemoryLogs>, question: Question<'_>) -> u64 {
     match question {
         Question::Lines => return push_all_lines(alloc, text, feed),
-        Question::Visit(key) => push_visited(alloc, text, feed, key)?,
-        Question::Index(key) => push_indexed(alloc, text, feed, key)?,
-        Question::Absorb(key) => push_absorbed(alloc, text, feed, key)?,
+        Question::Visit(key) => push_visited(alloc, text, feed, key),
+        Question::Index(key) => push_indexed(alloc, text, feed, key),
+        Question::Absorb(key) => push_absorbed(alloc, text, feed, key),
     }
-    Ok(0)
+    0
 }
 
 /// What a feed of files answers, with a window of so many bytes. It has its owner here alone.
 pub fn push_answer(
     alloc: Global,
-    text: &mut String,
+    text: &mut Page,
     files: Vec<Named>,
     reads: Reads,
     window: usize,
     question: Question<'_>,
-) -> Result<u64, Refused> {
-    let mut feed = feed_of(alloc, files, reads, window)?;
-    ask(alloc, text, &mut feed, question)
+) -> u64 {
+    match feed_of(alloc, files, reads, window) {
+        Ok(mut feed) => ask(alloc, text, &mut feed, question),
+        Err(why) => {
+            text.refuse(why);
+            0
+        }
+    }
+}
+
+/// What a feed of a case's files answers.
+pub fn push_answer_of_case(
+    alloc: Global,
+    text: &mut Page,
+    case: &Case,
+    reads: Reads,
+    window: usize,
+    question: Question<'_>,
+) -> u64 {
+    match copies_of(alloc, &case.files) {
+        Ok(files) => push_answer(alloc, text, files, reads, window, question),
+        Err(why) => {
+            text.refuse(why);
+            0
+        }
+    }
 }

@@ -1,6 +1,6 @@
 //! A table map and a rows event, put into a log, and the images of their changes as JSON.
 use crate::feeds::{Question, push_answer};
-use case_language::{Pieces, Reads, Refused, push_all, push_event};
+use case_language::{Named, Page, Pieces, Reads, Refused, push_event};
 use std::alloc::{AllocError, Global};
 
 /// Bytes, one behind the other.
@@ -26,16 +26,23 @@ fn log_of(alloc: Global, pieces: &Pieces, events: &[u8]) -> Result<Vec<u8>, Refu
     Ok(joined(alloc, &[front, begin, events, xid])?)
 }
 
-/// The lines of the log, whole.
-fn push_log_lines(alloc: Global, text: &mut String, log: Vec<u8>) -> Result<(), Refused> {
+/// A log by its name, as the one file.
+fn only_file(alloc: Global, log: Vec<u8>) -> Result<Vec<Named>, Refused> {
     let name = String::from_str(alloc, "log")?;
-    let reads = Reads {
-        failing: 0,
-        most: 0,
-    };
-    let files = vec![in alloc; (name, log)]?;
-    push_answer(alloc, text, files, reads, 4096, Question::Lines)?;
-    Ok(())
+    Ok(vec![in alloc; (name, log)]?)
+}
+
+/// A log with a table map and a rows event, as the one file.
+fn files_of(
+    alloc: Global,
+    pieces: &Pieces,
+    map: &[u8],
+    kind: u8,
+    rows: &[u8],
+) -> Result<Vec<Named>, Refused> {
+    let mut events = Vec::new(alloc);
+    push_events(&mut events, map, kind, rows)?;
+    only_file(alloc, log_of(alloc, pieces, &events)?)
 }
 
 /// The members `after` and `before` of a line.
@@ -47,40 +54,49 @@ fn images_in(line: &str) -> Option<(&str, &str)> {
 }
 
 /// The images of a line, the one before in front of an arrow, and a line feed. A line without images stands whole.
-fn push_line_images(text: &mut String, line: &str) -> Result<(), AllocError> {
+fn push_line_images(text: &mut Page, line: &str) {
     match images_in(line) {
-        Some((after, before)) => push_all(text, &[before, " -> ", after, "\n"]),
-        None => push_all(text, &[line, "\n"]),
+        Some((after, before)) => {
+            text.push_str(before);
+            text.push_str(" -> ");
+            text.push_str(after);
+        }
+        None => text.push_str(line),
     }
+    text.push('\n');
 }
 
-/// The lines that a table map and a rows event give.
-fn push_event_lines(
-    alloc: Global,
-    text: &mut String,
-    pieces: &Pieces,
-    map: &[u8],
-    kind: u8,
-    rows: &[u8],
-) -> Result<(), Refused> {
-    let mut events = Vec::new(alloc);
-    push_events(&mut events, map, kind, rows)?;
-    push_log_lines(alloc, text, log_of(alloc, pieces, &events)?)
+/// The lines of files, whole.
+fn lines_of(alloc: Global, files: Vec<Named>) -> Page {
+    let reads = Reads {
+        failing: 0,
+        most: 0,
+    };
+    let mut lines = Page::new(alloc);
+    push_answer(alloc, &mut lines, files, reads, 4096, Question::Lines);
+    lines
+}
+
+/// The images of each change in files.
+fn push_file_images(alloc: Global, text: &mut Page, files: Vec<Named>) {
+    let lines = lines_of(alloc, files);
+    text.carry(&lines);
+    for line in lines.as_str().lines() {
+        push_line_images(text, line);
+    }
 }
 
 /// The images of each change that a table map and a rows event give, as JSON: the one before, ` -> `, and the one after.
 pub fn push_images(
     alloc: Global,
-    text: &mut String,
+    text: &mut Page,
     pieces: &Pieces,
     map: &[u8],
     kind: u8,
     rows: &[u8],
-) -> Result<(), Refused> {
-    let mut lines = String::new(alloc);
-    push_event_lines(alloc, &mut lines, pieces, map, kind, rows)?;
-    for line in lines.as_str().lines() {
-        push_line_images(text, line)?;
+) {
+    match files_of(alloc, pieces, map, kind, rows) {
+        Ok(files) => push_file_images(alloc, text, files),
+        Err(why) => text.refuse(why),
     }
-    Ok(())
 }

@@ -3,24 +3,13 @@ ghost use Rattle.std.specs.Prelude.{◌<◌, length};
 
 use crate::cells::push_bytes;
 use binlog_table::{Column, Layout, MapFault, TableMap};
-use case_language::push_all;
-use std::alloc::{AllocError, Global};
-use std::fmt::Write;
+use case_language::Page;
+use std::alloc::Global;
 
 /// A line with the name of a map's fault.
-pub fn push_fault_line(text: &mut String, fault: MapFault) -> Result<(), AllocError> {
-    push_fault(text, fault)?;
-    text.push('\n')
-}
-
-/// The name of a map's fault.
-fn push_fault(text: &mut String, fault: MapFault) -> Result<(), AllocError> {
-    match fault {
-        MapFault::BadMap => text.push_str("BadMap"),
-        MapFault::TypeOutOfProfile(code) => write!(text, "TypeOutOfProfile({code})"),
-        MapFault::NoColumnNames => text.push_str("NoColumnNames"),
-        MapFault::OutOfMemory => text.push_str("OutOfMemory"),
-    }
+pub fn push_fault_line(text: &mut Page, fault: MapFault) {
+    text.push_debug(&fault);
+    text.push('\n');
 }
 
 /// How a layout is called.
@@ -43,9 +32,9 @@ fn name_of(layout: &Layout) -> &'static str {
 }
 
 /// The numbers that belong to a layout: bytes, digits of a fraction, or digits and those behind the point.
-fn push_sizes(text: &mut String, layout: &Layout) -> Result<(), AllocError> {
+fn push_sizes(text: &mut Page, layout: &Layout) {
     match layout {
-        Layout::Year | Layout::Date => Ok(()),
+        Layout::Year | Layout::Date => {}
         Layout::Integer(width)
         | Layout::Text(width)
         | Layout::Raw(width)
@@ -57,101 +46,95 @@ fn push_sizes(text: &mut String, layout: &Layout) -> Result<(), AllocError> {
             push_size(text, precision.digits)
         }
         Layout::Decimal(size) => {
-            push_size(text, size.precision)?;
-            push_size(text, size.scale)
+            push_size(text, size.precision);
+            push_size(text, size.scale);
         }
     }
 }
 
-fn push_size(text: &mut String, size: u8) -> Result<(), AllocError> {
-    write!(text, " {size}")
+fn push_size(text: &mut Page, size: u8) {
+    text.push_named(" ", size as u64);
 }
 
 /// The layout of a column, and whether its numbers are unsigned, also where the map says otherwise.
-fn push_column(text: &mut String, column: &Column, unsigned: bool) -> Result<(), AllocError> {
-    text.push_str(name_of(&column.layout))?;
-    push_sizes(text, &column.layout)?;
-    let sign = if column.unsigned { " unsigned" } else { "" };
-    let other = if column.unsigned == unsigned {
-        ""
-    } else {
-        " or not"
-    };
-    push_all(text, &[sign, other])
+fn push_column(text: &mut Page, column: &Column, unsigned: bool) {
+    text.push_str(name_of(&column.layout));
+    push_sizes(text, &column.layout);
+    if column.unsigned {
+        text.push_str(" unsigned");
+    }
+    if column.unsigned != unsigned {
+        text.push_str(" or not");
+    }
 }
 
 /// The name of a column's value, behind its number, where it has one.
-fn push_value_name(
-    text: &mut String,
-    map: &TableMap,
-    column: usize,
-    number: usize,
-) -> Result<(), AllocError>
+fn push_value_name(text: &mut Page, map: &TableMap, column: usize, number: usize)
     requires { column < length map.now.columns }
 {
     if let Some(name) = map.value_name(column, number) {
-        write!(text, " {number} ")?;
-        push_bytes(text, name)?;
+        text.push_named(" ", number as u64);
+        text.push(' ');
+        push_bytes(text, name);
     }
-    Ok(())
 }
 
 /// The names of a column's values, where the map has them. None stands in front of the first or behind the last.
-fn push_value_names(text: &mut String, map: &TableMap, column: usize) -> Result<(), AllocError>
+fn push_value_names(text: &mut Page, map: &TableMap, column: usize)
     requires { column < length map.now.columns }
 {
-    let Some(count) = map.value_name_count(column) else {
-        return Ok(());
-    };
-    write!(text, " of {count}:")?;
-    for number in 0..=count.saturating_add(1) {
-        push_value_name(text, map, column, number)?;
+    if let Some(count) = map.value_name_count(column) {
+        text.push_named(" of ", count as u64);
+        text.push(':');
+        for number in 0..=count.saturating_add(1) {
+            push_value_name(text, map, column, number);
+        }
     }
-    Ok(())
 }
 
 /// A column's line: its name, layout and sign, and the names of its values.
-fn push_column_line(text: &mut String, map: &TableMap, number: usize) -> Result<(), AllocError>
+fn push_column_line(text: &mut Page, map: &TableMap, number: usize)
     requires { number < length map.now.columns }
 {
-    push_all(text, &[map.column_name(number), ": "])?;
+    text.push_str(map.column_name(number));
+    text.push_str(": ");
     if let Some(column) = map.columns().get(number) {
-        push_column(text, column, map.unsigned(number))?;
+        push_column(text, column, map.unsigned(number));
     }
-    push_value_names(text, map, number)?;
-    text.push('\n')
+    push_value_names(text, map, number);
+    text.push('\n');
 }
 
 /// Columns by their numbers.
-pub fn push_numbers(text: &mut String, word: &str, numbers: &[usize]) -> Result<(), AllocError> {
-    text.push_str(word)?;
+pub fn push_numbers(text: &mut Page, word: &str, numbers: &[usize]) {
+    text.push_str(word);
     for number in numbers {
-        write!(text, " {number}")?;
+        text.push_named(" ", *number as u64);
     }
-    Ok(())
 }
 
 /// A map's table, its key and the order of its names.
-fn push_table(text: &mut String, map: &TableMap) -> Result<(), AllocError> {
-    let id = map.table_id();
-    write!(text, "{id} ")?;
-    push_all(text, &[map.schema(), ".", map.table()])?;
-    push_numbers(text, ", key", map.key())?;
-    push_numbers(text, ", order", map.name_order())
+fn push_table(text: &mut Page, map: &TableMap) {
+    text.push_number(map.table_id());
+    text.push(' ');
+    text.push_str(map.schema());
+    text.push('.');
+    text.push_str(map.table());
+    push_numbers(text, ", key", map.key());
+    push_numbers(text, ", order", map.name_order());
 }
 
 /// The whole of a map: its table, its key and the order of its names, and a line for each column.
-fn push_map(text: &mut String, map: &TableMap) -> Result<(), AllocError> {
-    push_table(text, map)?;
-    text.push('\n')?;
+fn push_map(text: &mut Page, map: &TableMap) {
+    push_table(text, map);
+    text.push('\n');
     for number in 0..map.column_count() {
-        push_column_line(text, map, number)?;
+        push_column_line(text, map, number);
     }
-    Ok(())
 }
 
 /// What a body gives as a table map: its map, or its fault.
-pub fn push_map_of(alloc: Global, text: &mut String, body: &[u8]) -> Result<(), AllocError> {
+pub fn push_map_of(alloc: Global, text: &mut Page, body: &[u8]) {
     match TableMap::read(alloc, body) {
         Ok(map) => push_map(text, &map),
         Err(fault) => push_fault_line(text, fault),
@@ -159,23 +142,24 @@ pub fn push_map_of(alloc: Global, text: &mut String, body: &[u8]) -> Result<(), 
 }
 
 /// What a beginning of a body gives that isn't `BadMap`: the beginning's length, and the first line.
-fn push_map_cut(text: &mut String, len: usize, whole: &str) -> Result<(), AllocError> {
-    let first = whole.lines().next().unwrap_or("");
-    if first == "BadMap" {
-        return Ok(());
+fn push_map_cut(text: &mut Page, len: usize, whole: &Page) {
+    text.carry(whole);
+    let first = whole.as_str().lines().next().unwrap_or("");
+    if first != "BadMap" {
+        text.push_number(len as u64);
+        text.push_str(": ");
+        text.push_str(first);
+        text.push('\n');
     }
-    write!(text, "{len}: ")?;
-    push_all(text, &[first, "\n"])
 }
 
 /// What each beginning of a body gives that isn't `BadMap`.
-pub fn push_map_cuts(alloc: Global, text: &mut String, body: &[u8]) -> Result<(), AllocError> {
+pub fn push_map_cuts(alloc: Global, text: &mut Page, body: &[u8]) {
     for len in 0..body.len() {
-        let mut whole = String::new(alloc);
-        push_map_of(alloc, &mut whole, &body[..len])?;
-        push_map_cut(text, len, whole.as_str())?;
+        let mut whole = Page::new(alloc);
+        push_map_of(alloc, &mut whole, &body[..len]);
+        push_map_cut(text, len, &whole);
     }
-    Ok(())
 }
 
 /// The name of a map's last column.
@@ -190,16 +174,21 @@ fn last_name(map: &TableMap) -> &str {
 
 /// How many columns a map has, in all, in the order of their names and in the key, whether the key has that order, and the last one's
 /// name.
-fn push_size_line(text: &mut String, map: &TableMap) -> Result<(), AllocError> {
+fn push_size_line(text: &mut Page, map: &TableMap) {
     let (order, key) = (map.name_order(), map.key());
-    let (count, ordered, keyed) = (map.column_count(), order.len(), key.len());
-    write!(text, "columns {count}, in order {ordered}, in key {keyed}")?;
-    let same = if key == order { " in that order" } else { "" };
-    push_all(text, &[same, ", the last ", last_name(map), "\n"])
+    text.push_named("columns ", map.column_count() as u64);
+    text.push_named(", in order ", order.len() as u64);
+    text.push_named(", in key ", key.len() as u64);
+    if key == order {
+        text.push_str(" in that order");
+    }
+    text.push_str(", the last ");
+    text.push_str(last_name(map));
+    text.push('\n');
 }
 
 /// The size of the map that a body gives; or its fault.
-pub fn push_map_size(alloc: Global, text: &mut String, body: &[u8]) -> Result<(), AllocError> {
+pub fn push_map_size(alloc: Global, text: &mut Page, body: &[u8]) {
     match TableMap::read(alloc, body) {
         Ok(map) => push_size_line(text, &map),
         Err(fault) => push_fault_line(text, fault),

@@ -3,9 +3,8 @@ use crate::outcome::{How, Job, Key, run_files};
 use crate::shown_orders::order_text;
 use binlogfeed::words::{Order, read_words};
 use binlogfeed::words_fault::{WordsFault, words_line, words_status};
-use case_language::{Case, Named, Refused, Verdict, push_all};
-use std::alloc::{AllocError, Global};
-use std::fmt::Write;
+use case_language::{Case, Named, Page, Refused, Verdict};
+use std::alloc::Global;
 
 /// The words as the system gives them: the program's name stands in front.
 fn borrowed<'a>(alloc: Global, words: &'a [String]) -> Result<Vec<&'a str>, Refused> {
@@ -128,40 +127,38 @@ pub fn show_words(alloc: Global, case: &Case, words: &[String]) -> Result<Verdic
     Ok(Verdict::of(case, came))
 }
 
-/// The text of help, where that is asked for.
-fn help_of(alloc: Global, fault: &WordsFault) -> Result<Option<String>, AllocError> {
-    match fault {
-        WordsFault::Help(error) => Ok(Some(error.to_string(alloc)?)),
-        _ => Ok(None),
-    }
-}
-
 /// The first line of help, behind its status.
-fn push_help(text: &mut String, status: u8, help: &str) -> Result<(), AllocError> {
-    let first = help.lines().next().unwrap_or("");
-    write!(text, "help {status}, ")?;
-    push_all(text, &[first, "\n"])
+fn push_help(text: &mut Page, status: u8, help: &str) {
+    text.push_named("help ", status as u64);
+    text.push_str(", ");
+    text.push_str(help.lines().next().unwrap_or(""));
+    text.push('\n');
 }
 
 /// The line of a refusal, behind its status.
-fn push_refusal(text: &mut String, status: u8, fault: &WordsFault) -> Result<(), AllocError> {
-    write!(text, "refused {status}, ")?;
-    words_line(fault, text)?;
-    text.push('\n')
+fn push_refusal(text: &mut Page, status: u8, fault: &WordsFault) {
+    text.push_named("refused ", status as u64);
+    text.push_str(", ");
+    let written = words_line(fault, text.string());
+    text.take(written);
+    text.push('\n');
 }
 
 /// A refusal by its status and its line. Help has the first line of its text.
-fn push_fault(alloc: Global, text: &mut String, fault: &WordsFault) -> Result<(), AllocError> {
+fn push_fault(alloc: Global, text: &mut Page, fault: &WordsFault) {
     let status = words_status(fault);
-    match help_of(alloc, fault)? {
-        Some(help) => push_help(text, status, help.as_str()),
-        None => push_refusal(text, status, fault),
+    match fault {
+        WordsFault::Help(error) => match error.to_string(alloc) {
+            Ok(help) => push_help(text, status, help.as_str()),
+            Err(_) => text.refuse(Refused::OutOfMemory),
+        },
+        _ => push_refusal(text, status, fault),
     }
 }
 
 /// What is said of a refusal.
 fn fault_text(alloc: Global, fault: &WordsFault) -> Result<String, Refused> {
-    let mut text = String::new(alloc);
-    push_fault(alloc, &mut text, fault)?;
-    Ok(text)
+    let mut text = Page::new(alloc);
+    push_fault(alloc, &mut text, fault);
+    text.into_text()
 }

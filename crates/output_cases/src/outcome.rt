@@ -11,9 +11,8 @@ use binlogfeed::fault::{RunFault, fault_line, status};
 use binlogfeed::history::run_history;
 use binlogfeed::run::run;
 use binlogfeed::transactions::run_transactions;
-use case_language::{Case, Named, Reads, Refused, Room, SMALL_WINDOW, push_all, source};
-use std::alloc::{AllocError, Global};
-use std::fmt::Write;
+use case_language::{Case, Named, Page, Reads, Refused, Room, SMALL_WINDOW, source};
+use std::alloc::Global;
 
 /// So many bytes of a long line's beginning are shown.
 const HEAD: usize = 40;
@@ -130,38 +129,37 @@ fn ended(
 ) -> Result<(u8, String), Refused>
     requires { IfErr answer (IsNamed (names_of logs.now)) }
 {
-    let mut end = String::new(alloc);
-    let status = push_end(&mut end, logs, answer)?;
-    Ok((status, end))
+    let mut end = Page::new(alloc);
+    let status = push_end(&mut end, logs, answer);
+    Ok((status, end.into_text()?))
 }
 
 /// The line of a run's end on standard error or the number of its lines, and its status.
-fn push_end(
-    end: &mut String,
-    logs: &MemoryLogs,
-    answer: Result<u64, RunFault>,
-) -> Result<u8, AllocError>
+fn push_end(end: &mut Page, logs: &MemoryLogs, answer: Result<u64, RunFault>) -> u8
     requires { IfErr answer (IsNamed (names_of logs.now)) }
 {
     match answer {
         Ok(count) => {
-            write!(end, "lines {count}")?;
-            Ok(0)
+            end.push_named("lines ", count);
+            0
         }
         Err(fault) => {
-            fault_line(&fault, logs, end)?;
-            Ok(status(&fault))
+            let written = fault_line(&fault, logs, end.string());
+            end.take(written);
+            status(&fault)
         }
     }
 }
 
 /// Appends a line, of which the middle is left out where it is long.
-fn push_shortened(text: &mut String, line: &str) -> Result<(), AllocError> {
+fn push_shortened(text: &mut Page, line: &str) {
     let head = line.get(..HEAD);
     let tail = line.get(line.len().saturating_sub(TAIL)..);
     match (head, tail) {
         (Some(head), Some(tail)) if line.len() > HEAD + TAIL => {
-            push_all(text, &[head, " .. ", tail])
+            text.push_str(head);
+            text.push_str(" .. ");
+            text.push_str(tail);
         }
         _ => text.push_str(line),
     }
@@ -176,39 +174,44 @@ impl Outcome {
     }
 
     /// Appends the line that tells the end.
-    fn push_end_line(&self, text: &mut String) -> Result<(), AllocError> {
-        let (status, flushes) = (self.status, self.flushes);
-        write!(text, "end {status}, flushes {flushes}")?;
-        push_all(text, &[", ", self.end.as_str(), "\n"])
+    fn push_end_line(&self, text: &mut Page) {
+        text.push_named("end ", self.status as u64);
+        text.push_named(", flushes ", self.flushes as u64);
+        text.push_str(", ");
+        text.push_str(self.end.as_str());
+        text.push('\n');
     }
 
     /// Appends the lines, and behind them a line that tells the end.
-    fn push_text(&self, text: &mut String) -> Result<(), Refused> {
-        text.push_str(self.lines()?)?;
-        Ok(self.push_end_line(text)?)
+    pub fn push_text(&self, text: &mut Page) {
+        match self.lines() {
+            Ok(lines) => text.push_str(lines),
+            Err(why) => text.refuse(why),
+        }
+        self.push_end_line(text);
     }
 
     /// The lines, and behind them a line that tells the end.
     pub fn text(&self, alloc: Global) -> Result<String, Refused> {
-        let mut text = String::new(alloc);
-        self.push_text(&mut text)?;
-        Ok(text)
+        let mut text = Page::new(alloc);
+        self.push_text(&mut text);
+        text.into_text()
     }
 
-    /// Appends how many bytes there are, the last line, and the line that tells the end.
-    fn push_measure(&self, text: &mut String) -> Result<(), Refused> {
-        let last = self.lines()?.lines().last().unwrap_or("");
-        let bytes = self.received.len();
-        write!(text, "bytes {bytes}\nlast ")?;
-        push_shortened(text, last)?;
-        text.push('\n')?;
-        Ok(self.push_end_line(text)?)
+    /// Appends how many bytes there are, and the last line.
+    fn push_measure(&self, text: &mut Page, lines: &str) {
+        text.push_named("bytes ", self.received.len() as u64);
+        text.push_str("\nlast ");
+        push_shortened(text, lines.lines().last().unwrap_or(""));
+        text.push('\n');
     }
 
     /// How many bytes there are, the last line, and the line that tells the end.
     pub fn measure(&self, alloc: Global) -> Result<String, Refused> {
-        let mut text = String::new(alloc);
-        self.push_measure(&mut text)?;
-        Ok(text)
+        let lines = self.lines()?;
+        let mut text = Page::new(alloc);
+        self.push_measure(&mut text, lines);
+        self.push_end_line(&mut text);
+        text.into_text()
     }
 }

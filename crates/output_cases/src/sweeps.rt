@@ -2,7 +2,7 @@
 use crate::outcome::{How, Outcome, run_files};
 use crate::runs::{Task, run_once};
 use binlogfeed::fault::RunFault;
-use case_language::{Case, Full, Reads, Refused, Room, Verdict, copies_of, number};
+use case_language::{Case, Full, Page, Reads, Refused, Room, Verdict, copies_of, number};
 use std::alloc::Global;
 
 /// Reads of at most so many bytes are tried.
@@ -47,9 +47,14 @@ fn sweep_beside(
 
 /// What came of a run of a sweep, and which run it was.
 pub fn differs(alloc: Global, which: &str, at: usize, came: &Outcome) -> Result<Verdict, Refused> {
-    let text = came.text(alloc)?;
-    let came = format!(in alloc; "{which} {at}:\n{text}")?;
-    Ok(Verdict::Differs { came })
+    let mut text = Page::new(alloc);
+    text.push_str(which);
+    text.push_named(" ", at as u64);
+    text.push_str(":\n");
+    came.push_text(&mut text);
+    Ok(Verdict::Differs {
+        came: text.into_text()?,
+    })
 }
 
 /// Whether a run was cut by its writer: so many bytes of the whole were received, and nothing was flushed.
@@ -175,17 +180,18 @@ fn wanted_of_cut(
     ends: &[String],
     length: usize,
 ) -> Result<String, Refused> {
-    let mut text = String::new(alloc);
+    let mut text = Page::new(alloc);
     let mut lines = 0u64;
     for (end, line) in ends.iter().zip(case.wanted.as_str().lines()) {
         if number(end.as_str())? <= length {
-            text.push_str(line)?;
-            text.push('\n')?;
+            text.push_str(line);
+            text.push('\n');
             lines = lines.saturating_add(1);
         }
     }
-    write!(&mut text, "end 0, flushes 1, lines {lines}\n")?;
-    Ok(text)
+    text.push_named("end 0, flushes 1, lines ", lines);
+    text.push('\n');
+    text.into_text()
 }
 
 /// `each-cut TASK END..`: cuts the last file to each length. END says for each line of the whole how long the file must be for it.

@@ -1,7 +1,7 @@
 //! A value of a type, in a table of one column: its cell and its JSON.
 use crate::images::{joined, push_images};
 use crate::rows::push_rows;
-use case_language::{Pieces, Refused, number, push_all};
+use case_language::{Page, Pieces, Refused, number};
 use std::alloc::{AllocError, Global};
 use std::slice;
 
@@ -75,79 +75,72 @@ fn map_of(
 }
 
 /// The cell of the first of two rows, and an equals sign.
-fn push_cell(alloc: Global, text: &mut String, map: &[u8], rows: &[u8]) -> Result<(), Refused> {
-    let mut whole = String::new(alloc);
-    push_rows(alloc, &mut whole, map, 30, rows)?;
+fn push_cell(alloc: Global, text: &mut Page, map: &[u8], rows: &[u8]) {
+    let mut whole = Page::new(alloc);
+    push_rows(alloc, &mut whole, map, 30, rows);
+    text.carry(&whole);
     let cell = between(whole.as_str(), "after c=", "\nafter c=Null\nend\n");
-    Ok(push_all(text, &[cell, " = "])?)
+    text.push_str(cell);
+    text.push_str(" = ");
 }
 
 /// The JSON of the value in the first of two rows, and a line feed.
-fn push_json(
-    alloc: Global,
-    text: &mut String,
-    pieces: &Pieces,
-    map: &[u8],
-    rows: &[u8],
-) -> Result<(), Refused> {
-    let mut whole = String::new(alloc);
-    push_images(alloc, &mut whole, pieces, map, 30, rows)?;
+fn push_json(alloc: Global, text: &mut Page, pieces: &Pieces, map: &[u8], rows: &[u8]) {
+    let mut whole = Page::new(alloc);
+    push_images(alloc, &mut whole, pieces, map, 30, rows);
+    text.carry(&whole);
     let json = between(
         whole.as_str(),
         "null -> {\"c\":",
         "}\nnull -> {\"c\":null}\nend\n",
     );
-    Ok(push_all(text, &[json, "\n"])?)
+    text.push_str(json);
+    text.push('\n');
 }
 
 /// The cell of a value and its JSON, in a row behind which another stands.
-fn push_whole(
-    alloc: Global,
-    text: &mut String,
-    pieces: &Pieces,
-    map: &[u8],
-    value: &[u8],
-) -> Result<(), Refused> {
-    let rows = rows_of(alloc, value, &[0xff])?;
-    push_cell(alloc, text, map, &rows)?;
-    push_json(alloc, text, pieces, map, &rows)
+fn push_whole(alloc: Global, text: &mut Page, pieces: &Pieces, map: &[u8], value: &[u8]) {
+    match rows_of(alloc, value, &[0xff]) {
+        Ok(rows) => {
+            push_cell(alloc, text, map, &rows);
+            push_json(alloc, text, pieces, map, &rows);
+        }
+        Err(_) => text.refuse(Refused::OutOfMemory),
+    }
+}
+
+/// What the row of a beginning of a value gives, where it has a reading.
+fn push_cut(alloc: Global, text: &mut Page, map: &[u8], rows: &[u8]) {
+    let mut cut = Page::new(alloc);
+    push_rows(alloc, &mut cut, map, 30, rows);
+    text.carry(&cut);
+    if cut.as_str().starts_with("after") {
+        text.push_str("and its beginning: ");
+        text.push_str(cut.as_str());
+    }
 }
 
 /// What a beginning of a value gives, where it has a reading.
-fn push_beginning(
-    alloc: Global,
-    text: &mut String,
-    map: &[u8],
-    beginning: &[u8],
-) -> Result<(), Refused> {
-    let mut cut = String::new(alloc);
-    push_rows(alloc, &mut cut, map, 30, &rows_of(alloc, beginning, &[])?)?;
-    if cut.as_str().starts_with("after") {
-        push_all(text, &["and its beginning: ", cut.as_str()])?;
+fn push_beginning(alloc: Global, text: &mut Page, map: &[u8], beginning: &[u8]) {
+    match rows_of(alloc, beginning, &[]) {
+        Ok(rows) => push_cut(alloc, text, map, &rows),
+        Err(_) => text.refuse(Refused::OutOfMemory),
     }
-    Ok(())
 }
 
 /// The cell of a value and its JSON, and what the value's beginnings give that have a reading: none has.
-fn push_judged(
-    alloc: Global,
-    text: &mut String,
-    pieces: &Pieces,
-    map: &[u8],
-    value: &[u8],
-) -> Result<(), Refused> {
-    push_whole(alloc, text, pieces, map, value)?;
+fn push_judged(alloc: Global, text: &mut Page, pieces: &Pieces, map: &[u8], value: &[u8]) {
+    push_whole(alloc, text, pieces, map, value);
     for len in 0..value.len() {
-        push_beginning(alloc, text, map, &value[..len])?;
+        push_beginning(alloc, text, map, &value[..len]);
     }
-    Ok(())
 }
 
 /// The cell of a value of a type with its metadata, and its JSON. Each of the value's beginnings must be refused, and is shown where it
 /// isn't.
 pub fn push_value(
     alloc: Global,
-    text: &mut String,
+    text: &mut Page,
     pieces: &Pieces,
     words: &[String],
 ) -> Result<(), Refused> {
@@ -156,5 +149,6 @@ pub fn push_value(
     };
     let map = map_of(alloc, pieces, code.as_str(), metadata, sign.as_str())?;
     let value = pieces.bytes_of(alloc, parts)?;
-    push_judged(alloc, text, pieces, &map, &value)
+    push_judged(alloc, text, pieces, &map, &value);
+    Ok(())
 }

@@ -9,7 +9,7 @@ use crate::rows::{push_rows, push_rows_cuts};
 use crate::runs::run_task;
 use crate::sweeps::sweep;
 use crate::values::push_value;
-use case_language::{Case, Pieces, Refused, Verbs, Verdict, number};
+use case_language::{Case, Page, Pieces, Refused, Verbs, Verdict, number};
 use std::alloc::Global;
 use std::rt::Files;
 use std::slice;
@@ -50,20 +50,34 @@ fn judge_text(
     verb: &str,
     words: &[String],
 ) -> Result<Verdict, Refused> {
-    let mut came = String::new(alloc);
+    let mut came = Page::new(alloc);
+    if let Err(why) = push_verb(alloc, &mut came, pieces, case, verb, words) {
+        came.refuse(why);
+    }
+    Ok(Verdict::of(case, came.into_text()?))
+}
+
+/// What a verb gives that gives one text.
+fn push_verb(
+    alloc: Global,
+    text: &mut Page,
+    pieces: &Pieces,
+    case: &Case,
+    verb: &str,
+    words: &[String],
+) -> Result<(), Refused> {
     match verb {
-        "history" => push_history(alloc, &mut came, case, words),
-        "value" => push_value(alloc, &mut came, pieces, words),
-        "map" | "map-cuts" | "map-size" => push_map_verb(alloc, &mut came, pieces, verb, words),
-        _ => push_event_verb(alloc, &mut came, pieces, verb, words),
-    }?;
-    Ok(Verdict::of(case, came))
+        "history" => push_history(alloc, text, case, words),
+        "value" => push_value(alloc, text, pieces, words),
+        "map" | "map-cuts" | "map-size" => push_map_verb(alloc, text, pieces, verb, words),
+        _ => push_event_verb(alloc, text, pieces, verb, words),
+    }
 }
 
 /// What a verb gives of a table map.
 fn push_map_verb(
     alloc: Global,
-    text: &mut String,
+    text: &mut Page,
     pieces: &Pieces,
     verb: &str,
     words: &[String],
@@ -73,14 +87,14 @@ fn push_map_verb(
         "map" => push_map_of(alloc, text, &body),
         "map-cuts" => push_map_cuts(alloc, text, &body),
         _ => push_map_size(alloc, text, &body),
-    }?;
+    }
     Ok(())
 }
 
 /// `rows KIND MAP PART..`, and likewise `rows-cuts` and `images`: the map's body is one part, the rows event's the others.
 fn push_event_verb(
     alloc: Global,
-    text: &mut String,
+    text: &mut Page,
     pieces: &Pieces,
     verb: &str,
     words: &[String],
@@ -97,6 +111,7 @@ fn push_event_verb(
         "rows" => push_rows(alloc, text, &map, kind, &rows),
         "rows-cuts" => push_rows_cuts(alloc, text, &map, kind, &rows),
         "images" => push_images(alloc, text, pieces, &map, kind, &rows),
-        _ => Err(Refused::UnknownWord),
+        _ => text.refuse(Refused::UnknownWord),
     }
+    Ok(())
 }
