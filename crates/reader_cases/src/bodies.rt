@@ -1,8 +1,7 @@
 //! Headers, and the bodies that are read without a table map.
-use crate::page::Page;
 use crate::units::show_numbered;
 use binlog_frame::{Class, Header, kind, read_gtid, read_query, read_rotate, read_xid};
-use case_language::{Pieces, Refused, only_word};
+use case_language::{Page, Pieces, Refused, only_word};
 use std::alloc::Global;
 use uuid::Uuid;
 

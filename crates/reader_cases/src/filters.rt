@@ -1,8 +1,7 @@
 //! Filters: which changes pass.
-use crate::page::Page;
 use crate::sets::{answer_of, gtid_of, set_of};
 use binlog_select::{ChangeKind, Filter, Kinds, Names};
-use case_language::Refused;
+use case_language::{Page, Refused};
 use std::alloc::Global;
 use uuid::Uuid;
 

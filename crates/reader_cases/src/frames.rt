@@ -3,10 +3,9 @@ ghost use Rattle.std.specs.Prelude.{◌<◌, length};
 ghost use Rattle.binlog_frame.specs.Frames.{file_of};
 
 use crate::bodies::{show_body, show_header};
-use crate::page::Page;
 use crate::steps::{Answer, Steps};
 use binlog_frame::{FrameFault, Frames, Header, Logs, Step};
-use case_language::Named;
+use case_language::{Named, Page};
 
 /// What a line tells of an event.
 #[derive(Clone, Copy)]

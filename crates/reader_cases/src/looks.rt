@@ -1,13 +1,12 @@
 //! A feed that is asked for the changes at places before each of its steps.
 use crate::feed::show_change;
-use crate::page::Page;
 use crate::steps::{Answer, Steps, Told};
 use crate::units::show_fault;
 use crate::watched::{Place, Seen};
 use binlog_feed::{AtFault, Feed};
 use binlog_frame::Logs;
 use binlog_select::{Token, TokenRef};
-use case_language::{Refused, number};
+use case_language::{Page, Refused, number};
 use std::alloc::Global;
 use std::cell::Cell;
 

@@ -1,12 +1,11 @@
 //! Changes that a feed looks up between its steps.
 use crate::feed::show_change;
-use crate::page::Page;
 use crate::reads::{first_window, source_of};
 use crate::starts::Parts;
 use binlog_feed::Feed;
 use binlog_frame::MemoryLogs;
 use binlog_select::Token;
-use case_language::{Case, Refused};
+use case_language::{Case, Page, Refused};
 use std::alloc::Global;
 
 /// The options in front, each with one value, and the orders behind them.

@@ -8,7 +8,6 @@ mod frames;
 mod looks;
 mod lookups;
 mod opening;
-mod page;
 mod parts;
 mod reading;
 mod reads;

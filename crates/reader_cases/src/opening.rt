@@ -1,13 +1,12 @@
 //! Files of the system: their names and lengths, and what the layers tell of them.
 use crate::looks::looks_of;
-use crate::page::Page;
 use crate::reading::{plain_of, tell_source};
 use crate::reads::show_names;
 use crate::steps::Told;
 use crate::watched::{Seen, Watched};
 use crate::ways::{Layer, Reading};
 use binlog_frame::{FileLogs, OpenFault};
-use case_language::{Case, Named, Refused, Verdict};
+use case_language::{Case, Named, Page, Refused, Verdict};
 use std::alloc::Global;
 use std::cell::Cell;
 use std::fs;

@@ -1,11 +1,10 @@
 //! What units and feeds hand back in the middle of their way.
 use crate::lookups::parts_of_case;
-use crate::page::Page;
 use crate::reads::{first_window, source_of};
 use crate::steps::{Answer, Steps, window_of};
 use binlog_feed::{Feed, Units};
 use binlog_frame::{Logs, MemoryLogs};
-use case_language::{Case, Refused, number};
+use case_language::{Case, Page, Refused, number};
 use std::alloc::Global;
 
 /// `parts units COUNT` and `parts feed COUNT`: the source and the window after so many calls, with the first of the case's windows.

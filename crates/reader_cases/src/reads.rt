@@ -1,8 +1,7 @@
 //! Files in memory: their names and lengths, and reads of them.
-use crate::page::Page;
 use crate::steps::window_of;
 use binlog_frame::{Logs, MemoryLogs};
-use case_language::{Case, Refused, copies_of, number, source};
+use case_language::{Case, Page, Refused, copies_of, number, source};
 use std::alloc::Global;
 
 /// The names and the lengths of a source's files.

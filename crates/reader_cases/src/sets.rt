@@ -1,7 +1,6 @@
 //! GTID sets as texts.
-use crate::page::Page;
 use binlog_select::{GtidSet, SetFault};
-use case_language::{Pieces, Refused};
+use case_language::{Page, Pieces, Refused};
 use std::alloc::{AllocError, Global};
 use uuid::Uuid;
 
@@ -53,7 +52,8 @@ fn shortened(alloc: Global, text: &str) -> Result<String, AllocError> {
 fn show_form(alloc: Global, text: &mut Page, spelled: &str) -> bool {
     match GtidSet::parse(alloc, spelled) {
         Ok(set) => {
-            text.push_set(&set);
+            let written = set.write(text.string());
+            text.take(written);
             return true;
         }
         Err(SetFault::BadSet { at }) => text.push_named("BadSet ", at as u64),

@@ -1,9 +1,8 @@
 //! What a reader of logs gives, step by step, as lines.
-use crate::page::Page;
 use crate::watched::{Place, Seen};
 use crate::ways::Way;
 use binlog_feed::OpenFeedFault;
-use case_language::{Refused, Verdict};
+use case_language::{Page, Refused, Verdict};
 use std::alloc::Global;
 use std::cell::Cell;
 

@@ -1,10 +1,9 @@
 //! Sweeps over frames, units and the feed: reads that fail, are short or turn to other bytes, and files that are cut or changed.
-use crate::page::Page;
 use crate::reading::tell;
 use crate::steps::{Told, differing};
 use crate::watched::{Place, Turning};
 use crate::ways::{Layer, Reading};
-use case_language::{Case, Named, Reads, Refused, Verdict, copies_of};
+use case_language::{Case, Named, Page, Reads, Refused, Verdict, copies_of};
 use std::alloc::Global;
 
 /// Reads of fewer bytes than so many are tried.

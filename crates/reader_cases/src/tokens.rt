@@ -1,8 +1,13 @@
 //! Tokens as texts.
-use crate::page::Page;
 use binlog_select::{Token, TokenRef};
-use case_language::{Pieces, Refused};
+use case_language::{Page, Pieces, Refused};
 use std::alloc::Global;
+
+/// A token's text.
+pub fn push_token(text: &mut Page, token: TokenRef<'_>) {
+    let written = token.write(text.string());
+    text.take(written);
+}
 
 /// The parts of a token, and behind them its text.
 fn show_parts(text: &mut Page, file: &str, token: TokenRef<'_>) {
@@ -11,7 +16,7 @@ fn show_parts(text: &mut Page, file: &str, token: TokenRef<'_>) {
     text.push_str(", file ");
     text.push_str(file);
     text.push_str(", text ");
-    text.push_token(token);
+    push_token(text, token);
 }
 
 /// What a token says, by its file and a copy of it.
