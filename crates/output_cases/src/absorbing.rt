@@ -5,37 +5,36 @@ use binlog_frame::MemoryLogs;
 use binlog_json::{HistoryFault, KeyIndex};
 use binlog_select::Token;
 use case_language::{Page, Refused};
-use std::alloc::{AllocError, Global};
-
-/// What a feed answers.
-enum Step {
-    /// A change, with its place.
-    Gave(Token),
-    /// No memory was found.
-    NoMemory,
-    /// Nothing more comes.
-    Ended(Option<FeedFault>),
-}
+use std::alloc::Global;
 
 /// Puts a change in an index, and gives its place.
-fn absorb(alloc: Global, index: &mut KeyIndex, change: &Change<'_>) -> Result<Token, AllocError> {
+fn absorb(
+    alloc: Global,
+    text: &mut Page,
+    index: &mut KeyIndex,
+    change: &Change<'_>,
+) -> Option<Token> {
     if index.absorb(change).is_err() {
-        index.absorb(change)?;
+        text.take(index.absorb(change));
     }
-    change.token().to_token(alloc)
+    let place = change.token().to_token(alloc).ok();
+    if place.is_none() {
+        text.refuse(Refused::OutOfMemory);
+    }
+    place
 }
 
-/// Puts the next change of a feed in an index.
+/// Puts the next change of a feed in an index, and gives its place. There is none at the end.
 fn absorb_next(
     alloc: Global,
+    text: &mut Page,
     feed: &mut Feed<MemoryLogs>,
     index: &mut KeyIndex,
-) -> Result<Step, AllocError> {
+) -> Result<Option<Token>, FeedFault> {
     match feed.next() {
-        Ok(Some(change)) => Ok(Step::Gave(absorb(alloc, index, &change)?)),
-        Ok(None) => Ok(Step::Ended(None)),
-        Err(FeedFault::OutOfMemory) => Ok(Step::NoMemory),
-        Err(fault) => Ok(Step::Ended(Some(fault))),
+        Ok(Some(change)) => Ok(absorb(alloc, text, index, &change)),
+        Ok(None) => Ok(None),
+        Err(fault) => Err(fault),
     }
 }
 
@@ -68,14 +67,11 @@ fn absorb_all(
     index: &mut KeyIndex,
 ) -> Option<FeedFault> {
     for _ in 0..u32::MAX {
-        match absorb_next(alloc, feed, index) {
-            Ok(Step::Gave(place)) => look(text, feed, &place),
-            Ok(Step::NoMemory) => {}
-            Ok(Step::Ended(fault)) => return fault,
-            Err(_) => {
-                text.refuse(Refused::OutOfMemory);
-                return None;
-            }
+        match absorb_next(alloc, text, feed, index) {
+            Ok(Some(place)) => look(text, feed, &place),
+            Ok(None) => return None,
+            Err(FeedFault::OutOfMemory) => {}
+            Err(fault) => return Some(fault),
         }
     }
     None

@@ -70,13 +70,27 @@ pub fn each_byte(alloc: Global, case: &Case, words: &[String]) -> Result<Verdict
     bend_each(alloc, case)
 }
 
+/// Runs over units and over changes, where the last file has another byte. Gives the run over changes if its end isn't in order.
+fn disordered(
+    alloc: Global,
+    case: &Case,
+    at: usize,
+    bend: Bend,
+) -> Result<Option<Outcome>, Refused> {
+    let units = run_bent(alloc, case, Job::Transactions, at, bend)?.fault;
+    let changes = run_bent(alloc, case, Task::Changes.job(), at, bend)?;
+    if end_in_order(units, changes.fault) {
+        Ok(None)
+    } else {
+        Ok(Some(changes))
+    }
+}
+
 fn bend_each(alloc: Global, case: &Case) -> Result<Verdict, Refused> {
     let mut runs = 0u64;
-    for bend in [Bend::Zero, Bend::Full, Bend::TopBit] {
+    for bend in &[Bend::Zero, Bend::Full, Bend::TopBit] {
         for at in 0..case.last_length() {
-            let units = run_bent(alloc, case, Job::Transactions, at, bend)?.fault;
-            let changes = run_bent(alloc, case, Task::Changes.job(), at, bend)?;
-            if !end_in_order(units, changes.fault) {
+            if let Some(changes) = disordered(alloc, case, at, *bend)? {
                 return differs(alloc, "changes with another byte at", at, &changes);
             }
             runs = runs.saturating_add(2);

@@ -34,15 +34,6 @@ fn files_named(alloc: Global, case: &Case, names: &[&str]) -> Result<Vec<Named>,
     Ok(files)
 }
 
-/// What is done with the order that words give.
-#[derive(Clone, Copy)]
-enum Purpose<'a> {
-    /// It is shown.
-    Shown,
-    /// It is carried out over a case's files.
-    CarriedOut(&'a Case, How),
-}
-
 /// Does a job over the files of a case with these names, and says what came of it.
 fn perform_job(
     alloc: Global,
@@ -81,18 +72,18 @@ fn perform(alloc: Global, case: &Case, order: Order<'_>, how: How) -> Result<Str
     }
 }
 
-/// What comes of an order.
-fn answer_order(alloc: Global, order: Order<'_>, purpose: Purpose<'_>) -> Result<String, Refused> {
-    match purpose {
-        Purpose::Shown => order_text(alloc, order),
-        Purpose::CarriedOut(case, how) => perform(alloc, case, order, how),
+/// What comes of words that are carried out over a case's files.
+fn answer(alloc: Global, case: &Case, words: &[&str], how: How) -> Result<String, Refused> {
+    match read_words(alloc, words) {
+        Ok(order) => perform(alloc, case, order, how),
+        Err(fault) => fault_text(alloc, &fault),
     }
 }
 
-/// What comes of words of the command line.
-fn answer(alloc: Global, words: &[&str], purpose: Purpose<'_>) -> Result<String, Refused> {
+/// What words ask for.
+fn asked(alloc: Global, words: &[&str]) -> Result<String, Refused> {
     match read_words(alloc, words) {
-        Ok(order) => answer_order(alloc, order, purpose),
+        Ok(order) => order_text(alloc, order),
         Err(fault) => fault_text(alloc, &fault),
     }
 }
@@ -105,7 +96,7 @@ fn answer_each(alloc: Global, case: &Case, words: &[&str]) -> Result<Verdict, Re
             window: *window,
             ..How::of(case)
         };
-        let came = answer(alloc, words, Purpose::CarriedOut(case, how))?;
+        let came = answer(alloc, case, words, how)?;
         if !case.wants(came.as_str()) {
             return Ok(Verdict::Differs { came });
         }
@@ -123,7 +114,7 @@ pub fn answer_words(alloc: Global, case: &Case, words: &[String]) -> Result<Verd
 /// `words WORD..`: what the words ask for.
 pub fn show_words(alloc: Global, case: &Case, words: &[String]) -> Result<Verdict, Refused> {
     let words = borrowed(alloc, words)?;
-    let came = answer(alloc, &words, Purpose::Shown)?;
+    let came = asked(alloc, &words)?;
     Ok(Verdict::of(case, came))
 }
 

@@ -39,8 +39,15 @@ pub fn run_once(alloc: Global, case: &Case, task: Task, how: How) -> Result<Outc
     run_files(alloc, copies_of(alloc, &case.files)?, task.job(), how)
 }
 
-/// What came of a run: all of it, or its measure alone.
-fn text_of(alloc: Global, verb: &str, outcome: &Outcome) -> Result<String, Refused> {
+/// What comes of a run: all of it, or its measure alone.
+fn text_of(
+    alloc: Global,
+    case: &Case,
+    verb: &str,
+    task: Task,
+    how: How,
+) -> Result<String, Refused> {
+    let outcome = run_once(alloc, case, task, how)?;
     match verb {
         "run" => outcome.text(alloc),
         _ => outcome.measure(alloc),
@@ -61,7 +68,7 @@ pub fn run_task(
             window: *window,
             ..How::of(case)
         };
-        let came = text_of(alloc, verb, &run_once(alloc, case, task, how)?)?;
+        let came = text_of(alloc, case, verb, task, how)?;
         if !case.wants(came.as_str()) {
             return Ok(Verdict::Differs { came });
         }

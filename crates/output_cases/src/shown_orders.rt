@@ -117,15 +117,11 @@ fn push_kinds(text: &mut Page, kinds: &[ChangeKind]) {
 /// A set that is given, in its written form.
 fn show_set(text: &mut Page, set: Option<GtidSet>) {
     if let Some(set) = set {
-        push_set(text, &set);
+        text.push_str("auto-position ");
+        let written = set.write(text.string());
+        text.take(written);
+        text.push('\n');
     }
-}
-
-fn push_set(text: &mut Page, set: &GtidSet) {
-    text.push_str("auto-position ");
-    let written = set.write(text.string());
-    text.take(written);
-    text.push('\n');
 }
 
 /// The names of a list that is given, in the order of their bytes.

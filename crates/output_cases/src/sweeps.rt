@@ -69,11 +69,11 @@ fn is_cut_by_room(cut: &Outcome, whole: &Outcome, room: usize) -> bool {
 /// Lets the writer have room for each number of bytes that is less than the whole, with both ways of running full.
 fn each_room(alloc: Global, case: &Case, task: Task, whole: &Outcome) -> Result<Verdict, Refused> {
     let mut runs = 0u64;
-    for full in [Full::TakesNothing, Full::Fails] {
+    for full in &[Full::TakesNothing, Full::Fails] {
         for room in 0..whole.received.len() {
             let narrow = Room {
                 room,
-                full,
+                full: *full,
                 ..case.room
             };
             let how = How {
@@ -183,10 +183,14 @@ fn wanted_of_cut(
     let mut text = Page::new(alloc);
     let mut lines = 0u64;
     for (end, line) in ends.iter().zip(case.wanted.as_str().lines()) {
-        if number(end.as_str())? <= length {
-            text.push_str(line);
-            text.push('\n');
-            lines = lines.saturating_add(1);
+        match number(end.as_str()) {
+            Ok(end) if end <= length => {
+                text.push_str(line);
+                text.push('\n');
+                lines = lines.saturating_add(1);
+            }
+            Ok(_) => {}
+            Err(why) => text.refuse(why),
         }
     }
     text.push_named("end 0, flushes 1, lines ", lines);

@@ -36,10 +36,10 @@ fn between<'a>(text: &'a str, beginning: &str, end: &str) -> &'a str {
     rest.strip_suffix(end).unwrap_or(whole)
 }
 
-/// The code of a type.
-fn code_of(word: &str) -> Result<u8, Refused> {
+/// The number that a word is, in one byte.
+pub fn byte_of(word: &str) -> Result<u8, Refused> {
     match u8::try_from(number(word)?) {
-        Ok(code) => Ok(code),
+        Ok(byte) => Ok(byte),
         Err(_) => Err(Refused::BadPart),
     }
 }
@@ -69,7 +69,7 @@ fn map_of(
     metadata: &String,
     sign: &str,
 ) -> Result<Vec<u8>, Refused> {
-    let code = code_of(code)?;
+    let code = byte_of(code)?;
     let metadata = metadata_of(alloc, pieces, metadata)?;
     Ok(map_with(alloc, code, &metadata, sign_of(sign)?)?)
 }

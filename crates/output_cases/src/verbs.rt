@@ -8,8 +8,8 @@ use crate::orders::{answer_words, show_words};
 use crate::rows::{push_rows, push_rows_cuts};
 use crate::runs::run_task;
 use crate::sweeps::sweep;
-use crate::values::push_value;
-use case_language::{Case, Page, Pieces, Refused, Verbs, Verdict, number};
+use crate::values::{byte_of, push_value};
+use case_language::{Case, Page, Pieces, Refused, Verbs, Verdict};
 use std::alloc::Global;
 use std::rt::Files;
 use std::slice;
@@ -102,9 +102,7 @@ fn push_event_verb(
     let [kind, map, parts @ ..] = words else {
         return Err(Refused::UnknownWord);
     };
-    let Ok(kind) = u8::try_from(number(kind.as_str())?) else {
-        return Err(Refused::BadPart);
-    };
+    let kind = byte_of(kind.as_str())?;
     let map = pieces.bytes_of(alloc, slice::from_ref(map))?;
     let rows = pieces.bytes_of(alloc, parts)?;
     match verb {
