@@ -1,3 +1,4 @@
 pub mod OnBytes
+pub mod OnWords
 pub mod Paths
 pub mod Windows

@@ -11,3 +11,4 @@ pub mod Tokens
 pub mod Frames
 pub mod Sources
 pub mod Statuses
+pub mod Words

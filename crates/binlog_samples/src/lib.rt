@@ -8,6 +8,7 @@ mod statuses;
 mod tables;
 mod tokens;
 mod values;
+mod words;
 
 pub use files::sample_files;
 pub use frames::sample_frames;
@@ -16,3 +17,4 @@ pub use statuses::sample_statuses;
 pub use tables::sample_tables;
 pub use tokens::{sample_continuations, sample_tokens};
 pub use values::sample_values;
+pub use words::sample_words;

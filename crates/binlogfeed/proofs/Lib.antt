@@ -1,5 +1,4 @@
 pub mod Parsing
-mod WordFacts
 pub mod Building
 pub mod Sending
 pub mod Coming

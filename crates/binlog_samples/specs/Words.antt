@@ -1,0 +1,77 @@
+-- What the words of a command line ask for.
+use Rattle.std.specs.Prelude.{◌≡◌, List, [], ◌∷◌, Option, Some, None, option_map, codes}
+use Rattle.clap.specs.Words.{Text, fault_of, first_of, subcommand_of}
+use Rattle.clap.specs.declared.error.kind.ErrorKind.{ErrorKind}
+use Rattle.clap.specs.declared.error.kind.ErrorKind.TheVariants as kind
+use Rattle.binlogfeed.specs.Words.{program_app, files_given}
+
+-- ---- what is found in words
+
+abbrev pub mistakes_in : List Text → List ErrorKind
+mistakes_in words = fault_of program_app words
+
+abbrev pub subcommand_in : List Text → Option Text
+subcommand_in words = option_map (λ found. found.0) (subcommand_of program_app words)
+
+abbrev pub files_in : List Text → Option (List Text)
+files_in words = option_map (λ found. files_given found.1) (subcommand_of program_app words)
+
+abbrev pub value_in : Text → List Text → Option (Option Text)
+value_in option words = option_map (λ found. first_of option found.1) (subcommand_of program_app words)
+
+-- ---- words
+
+abbrev pub two_files : List Text
+two_files = codes "b" ∷ codes "transactions" ∷ codes "x" ∷ codes "dir/y" ∷ []
+
+abbrev pub Files : Type 0
+Files =
+    (mistakes_in two_files ≡ []) × (subcommand_in two_files ≡ Some (codes "transactions"))
+    × (files_in two_files ≡ Some (codes "x" ∷ codes "dir/y" ∷ []))
+    × (subcommand_of program_app (codes "b" ∷ []) ≡ None)
+
+-- an option and its value, before a file or behind it
+abbrev pub option_between : List Text
+option_between = codes "b" ∷ codes "read" ∷ codes "x" ∷ codes "--only-tables" ∷ codes "t,u" ∷ codes "y" ∷ []
+
+abbrev pub Options : Type 0
+Options =
+    (mistakes_in option_between ≡ []) × (files_in option_between ≡ Some (codes "x" ∷ codes "y" ∷ []))
+    × (value_in (codes "only-tables") option_between ≡ Some (Some (codes "t,u")))
+    × (value_in (codes "only-schemas") option_between ≡ Some None)
+    × (value_in (codes "from") (codes "b" ∷ codes "read" ∷ codes "--from" ∷ codes "4.1@x" ∷ codes "x" ∷ []) ≡ Some (Some (codes "4.1@x")))
+
+-- a value behind an equals sign, which may be empty or begin with a hyphen
+abbrev pub EqualsSigns : Type 0
+EqualsSigns =
+    (value_in (codes "only-events") (codes "b" ∷ codes "read" ∷ codes "--only-events=" ∷ codes "x" ∷ []) ≡ Some (Some []))
+    × (value_in (codes "only-tables") (codes "b" ∷ codes "read" ∷ codes "--only-tables=-t" ∷ codes "x" ∷ []) ≡ Some (Some (codes "-t")))
+
+abbrev pub of_a_key : List Text
+of_a_key =
+    codes "b" ∷ codes "history" ∷ codes "--schema" ∷ codes "s" ∷ codes "--table" ∷ codes "t" ∷ codes "--key" ∷ codes "[1]" ∷ codes "x" ∷ []
+
+abbrev pub without_a_key : List Text
+without_a_key = codes "b" ∷ codes "history" ∷ codes "--schema" ∷ codes "s" ∷ codes "--table" ∷ codes "t" ∷ codes "x" ∷ []
+
+abbrev pub Histories : Type 0
+Histories =
+    (mistakes_in of_a_key ≡ []) × (value_in (codes "key") of_a_key ≡ Some (Some (codes "[1]")))
+    × (mistakes_in without_a_key ≡ kind.MissingRequiredArgument ∷ [])
+
+abbrev pub Helps : Type 0
+Helps =
+    (mistakes_in (codes "b" ∷ codes "--help" ∷ []) ≡ kind.DisplayHelp ∷ [])
+    × (mistakes_in (codes "b" ∷ codes "transactions" ∷ codes "-h" ∷ []) ≡ kind.DisplayHelp ∷ [])
+
+abbrev pub option_twice : List Text
+option_twice =
+    codes "b" ∷ codes "read" ∷ codes "--only-tables" ∷ codes "t" ∷ codes "--only-tables" ∷ codes "u" ∷ codes "x" ∷ []
+
+abbrev pub Mistakes : Type 0
+Mistakes =
+    (mistakes_in (codes "b" ∷ codes "transactions" ∷ []) ≡ kind.MissingRequiredArgument ∷ [])
+    × (mistakes_in (codes "b" ∷ codes "read" ∷ codes "--only-events" ∷ codes "drop" ∷ []) ≡ kind.MissingRequiredArgument ∷ [])
+    × (mistakes_in (codes "b" ∷ codes "transactions" ∷ codes "--all" ∷ codes "x" ∷ []) ≡ kind.UnknownArgument ∷ [])
+    × (mistakes_in (codes "b" ∷ codes "write" ∷ codes "x" ∷ []) ≡ kind.UnknownArgument ∷ kind.InvalidSubcommand ∷ [])
+    × (mistakes_in option_twice ≡ kind.ArgumentConflict ∷ [])
