@@ -91,17 +91,6 @@ Same-merged i (next ∷ rest) is each above rising source number =
           )
     ] refl
 
--- a step of the loop
-pub merged-touch : (done : List Interval) (i next : Interval) (rest whole : List Interval) → touches i next ≡ true
-    → done ++ merged i (next ∷ rest) ≡ whole → done ++ merged (united i next) rest ≡ whole
-merged-touch done i next rest whole is so_far = ap (λ b. done ++ cond b (merged (united i next) rest) (i ∷ merged next rest)) (sym is) ∙ so_far
-
-pub merged-gap : (done : List Interval) (i next : Interval) (rest whole : List Interval) → touches i next ≡ false
-    → done ++ merged i (next ∷ rest) ≡ whole → (done ++ i ∷ []) ++ merged next rest ≡ whole
-merged-gap done i next rest whole is so_far =
-    append_assoc done (i ∷ []) (merged next rest)
-    ∙ ap (λ b. done ++ cond b (merged (united i next) rest) (i ∷ merged next rest)) (sym is) ∙ so_far
-
 -- membership as a test, which doesn't depend on the order
 has_number : ℕ → ℕ → Interval → Bool
 has_number source number i = eqb i.source source && (leb i.first number && leb number i.last)

@@ -20,8 +20,3 @@ length-plain (b ∷ bs) = ap suc (length-map bs (plain_byte (ltb b 128)))
 pub plain-more : (text bytes : List ℕ) (i y : ℕ) → 1 ≤ i → i < length text → i < length bytes → y ≡ plain_byte (ltb (get_or text 0 0) 128) (get_or text i 0) → take i bytes ≡ take i (plain text) → take (i + 1) (set bytes i y) ≡ take (i + 1) (plain text)
 plain-more text bytes i y p h k is so_far =
     take_more_set bytes i y k ∙ ap (λ (t : List ℕ). t ++ y ∷ []) so_far ∙ ap (λ (z : ℕ). take i (plain text) ++ z ∷ []) (is ∙ sym (plain-at text i p h)) ∙ sym (take_more (plain text) i 0 (omega (arith, length-plain text)))
-
-pub plain-first : (text bytes : List ℕ) (y : ℕ) → 0 < length text → 0 < length bytes → y ≡ plain_byte (ltb (get_or text 0 0) 128) (get_or text 0 0) - 128 → take 1 (set bytes 0 y) ≡ take 1 (plain text)
-plain-first [] bytes y h k is = absurd (omega arith)
-plain-first (b ∷ bs) [] y h k is = absurd (omega arith)
-plain-first (b ∷ bs) (x ∷ xs) y h k is = rw is refl

@@ -6,10 +6,6 @@ use Rattle.binlog_table.specs.MapResult.{◌>>=◌}
 abbrev pub prepended : {A B : Type 0} → List A → Result (List A × B) MapFault → Result (List A × B) MapFault
 prepended front read = read >>= λ x. Ok (front ++ x.0, x.1)
 
-pub prepended-none : {A B : Type 0} (read : Result (List A × B) MapFault) → prepended [] read ≡ read
-prepended-none (Ok x) = refl
-prepended-none (Err e) = refl
-
 -- one item more in front
 pub prepended-more : {A B : Type 0} (front : List A) (a : A) (read : Result (List A × B) MapFault) → prepended front (read >>= λ x. Ok (a ∷ x.0, x.1)) ≡ prepended (front ++ a ∷ []) read
 prepended-more {A = A} front a (Ok x) = ap (λ (xs : List A). Ok (xs, x.1)) (sym (append_assoc front (a ∷ []) x.0))

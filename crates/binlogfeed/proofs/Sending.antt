@@ -43,10 +43,6 @@ beginning_longer old new text more h = record {
 pub sending_all : (old : Option (List ℕ)) (text : List ℕ) → IsSending old old text text
 sending_all old text = record { sent = []; parts = refl; received = appends_none old }
 
--- all of it
-pub sending_none : (old new : Option (List ℕ)) (text : List ℕ) → Appends old new text → IsSending old new [] text
-sending_none old new text h = record { sent = text; parts = sym (append-nil text); received = h }
-
 pub sending_more : (old mid new : Option (List ℕ)) (waiting later text more : List ℕ) → IsSending old mid waiting text → IsSending mid new later (waiting ++ more) → IsSending old new later (text ++ more)
 sending_more old mid new waiting later text more h k = record {
   sent = h.sent ++ k.sent;
