@@ -17,7 +17,7 @@ pub(crate) struct GtidText {
 }
 
 impl GtidText {
-    ghost use Rattle.std.specs.Prelude.{◌≡◌, ◌++◌, Some, OnOk, true, string_bytes};
+    ghost use Rattle.std.specs.Prelude.{◌≡◌, ◌++◌, ◌↔◌, Some, OnOk, true, string_bytes};
     ghost use Rattle.serde_json.specs.Written.{compact_text};
     ghost use Rattle.binlog_json.specs.Line.{gtid_data};
 
@@ -47,7 +47,7 @@ impl GtidText {
 
     /// Whether the text is known to be that of a GTID.
     fn is_of(&self, source: Uuid, number: u64) -> bool
-        ensures { result ≡ true → self.now.gtid ≡ Some (source, number) }
+        ensures { (result ≡ true) ↔ (self.now.gtid ≡ Some (source, number)) }
     {
         match &self.gtid {
             None => false,

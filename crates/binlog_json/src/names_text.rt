@@ -17,7 +17,7 @@ pub(crate) struct NamesText {
 }
 
 impl NamesText {
-    ghost use Rattle.std.specs.Prelude.{◌≡◌, ◌++◌, true, OnOk, string_bytes};
+    ghost use Rattle.std.specs.Prelude.{◌≡◌, ◌++◌, ◌↔◌, true, OnOk, string_bytes};
     ghost use Rattle.binlog_json.specs.Written.{table_text};
 
     pub(crate) fn new(alloc: Global) -> NamesText {
@@ -45,7 +45,8 @@ impl NamesText {
 
     /// Whether the text is known to be that of a schema and a table.
     fn is_of(&self, schema: &str, table: &str) -> bool
-        ensures { result ≡ true → string_bytes self.now.text ≡ table_text schema.now table.now }
+        ensures text { result ≡ true → string_bytes self.now.text ≡ table_text schema.now table.now }
+        ensures known { (result ≡ true) ↔ ((self.now.is_known ≡ true) × (string_bytes self.now.table ≡ table.now) × (string_bytes self.now.schema ≡ schema.now)) }
     {
         self.is_known && self.table.as_str() == table && self.schema.as_str() == schema
     }
