@@ -12,6 +12,9 @@ fails the run, and so does one that can't be applied, whose function can't be fo
 An edit is a file with a line 'file: src/NAME.rt' and pairs of lines 'old: TEXT' and 'new: TEXT'. Each TEXT stands in
 that file exactly once, inside one function.
 
+Each public function with a contract has to have an edit, here or in must-fail/, but for laws, which give and change nothing.
+Those that no body can get wrong are named in wrong-bodies/without.md, each by a line "- `MODULE::TYPE::NAME`: why".
+
 The crate itself must be proved, and a check stands on the work that its proof kept. Behind tests/proofs.py both are there:
 the library that `rt ci` proved, and what its checks of edits kept. Else the crate is checked first as it is. A check asks for
 the edited functions alone, and so for what they call: what calls them would be proved again for nothing. Every function
@@ -39,6 +42,7 @@ from pathlib import Path
 
 ROOT = Path(__file__).resolve().parent.parent
 FOLDER = "wrong-bodies"
+FOLDERS = (FOLDER, "must-fail")
 PARTS = ("src", "specs", "proofs")
 # So many edits in one check: more would make the last checks of a run wait for one long one.
 MOST_IN_A_ROUND = 64
@@ -46,6 +50,8 @@ LONGEST_CHECK = 7200
 SECONDS_BETWEEN_LOOKS = 2
 
 HEAD = re.compile(r"^( *)(?:pub(?:\([^)]*\))? )?(?:const )?fn (\w+)")
+PUBLIC = re.compile(r"^ *pub (?:const )?fn ")
+CLAUSE = re.compile(r"^ *(?:requires|ensures|ghost)\b", re.M)
 IMPL = re.compile(r"^impl\b(?P<rest>.*)")
 SAID = re.compile(r"^fn (\S+): (.*)$", re.M)
 # An error's file, and what it says; a record without a field is told of on the second line.
@@ -65,6 +71,9 @@ class Function:
     name: str
     first: int
     last: int
+
+    def path(self):
+        return "::".join(it for it in (self.module, self.owner, self.name) if it)
 
 
 @dataclass(frozen=True)
@@ -268,6 +277,37 @@ def read_edits(crate, only):
                 crate.edits.append(read_edit(crate, file))
         except (BadEdit, UnicodeDecodeError) as why:
             crate.failed[file.name] = f"BAD EDIT: {why}"
+    for path in [] if only else without_edits(crate):
+        crate.failed[path] = "NO EDIT: a public function with a contract, and nothing shows that it refuses a wrong body"
+
+
+def changes_in(file):
+    """Yields the paths and old texts of an edit of either folder."""
+    path = None
+    for line in file.read_text().splitlines():
+        if line.startswith("file: "):
+            path = line[len("file: ") :].strip()
+        elif line.startswith("old: "):
+            yield path, line[len("old: ") :]
+
+
+def without_edits(crate):
+    """Returns the paths of the public functions with a contract that no edit changes, and that aren't named as such."""
+    folder, promising, changed = ROOT / "crates" / crate.name, set(), set()
+    texts = {str(it.relative_to(folder)): it.read_text() for it in sources(crate) if it.suffix == ".rt"}
+    functions = {path: functions_of(path, text) for path, text in texts.items()}
+    for path, text in texts.items():
+        lines = text.split("\n")
+        for it in functions[path]:
+            text = "\n".join(lines[it.first : it.last + 1])
+            head = CLAUSE.split(text)[0]
+            if PUBLIC.match(text) and " ensures" in text and ("->" in head or "&mut" in head):
+                promising.add(it.path())
+    for path, old in (change for each in FOLDERS for file in folder.glob(f"{each}/*.edit") for change in changes_in(file)):
+        at = texts[path].count("\n", 0, texts[path].index(old)) if old in texts.get(path, "") else -1
+        changed.update(it.path() for it in functions.get(path, ()) if it.first <= at <= it.last)
+    named = folder / FOLDER / "without.md"
+    return promising - changed - set(re.findall(r"^- `([\w:]+)`: ", named.read_text() if named.is_file() else "", re.M))
 
 
 def rounds_of(edits):
@@ -299,13 +339,19 @@ def planted(text, edits):
 # The copies
 
 
-def link_tree(source, target):
-    """Copies a folder by linking its files: whoever writes one anew leaves the other as it is."""
+def link_or_copy(source, target):
+    """Copies a file, by a link where it is a module that was checked: such a file is written anew, and never changed."""
     try:
-        shutil.copytree(source, target, copy_function=os.link)
-    except shutil.Error:
-        shutil.rmtree(target)
-        shutil.copytree(source, target)
+        if source.endswith(".oantt"):
+            return os.link(source, target)
+    except OSError:
+        pass
+    return shutil.copy2(source, target)
+
+
+def link_tree(source, target):
+    """Copies a folder: what is done in the one leaves the other as it is."""
+    shutil.copytree(source, target, copy_function=link_or_copy)
 
 
 def make_room(room, crate, crates, kept):
