@@ -9,20 +9,20 @@ its own. An edit whose function is only unproved with something that it calls, o
 planted beside one that doesn't compile, is tried again with fewer others, and at last alone. An edit that isn't refused
 fails the run, and so does one that can't be applied, whose function can't be found, or that doesn't compile.
 
-An edit is a file with a line 'file: src/NAME.rt' and pairs of lines 'old: TEXT' and 'new: TEXT'. Each TEXT stands in
-that file exactly once, inside one function.
+An edit is a file with a line 'file: src/NAME.rt' and pairs of lines 'old: TEXT' and 'new: TEXT'. Each old text stands in
+that file exactly once, inside one function; or with a line 'in: NAME' once in the function of that name.
 
 Each public function with a contract has to have an edit, here or in must-fail/, but for laws, which give and change nothing.
 Those that no body can get wrong are named in wrong-bodies/without.md, each by a line "- `MODULE::TYPE::NAME`: why".
 
-The crate itself must be proved, and a check stands on the work that its proof kept. Behind tests/proofs.py both are there:
-the library that `rt ci` proved, and what its checks of edits kept. Else the crate is checked first as it is. A check asks for
-the edited functions alone, and so for what they call: what calls them would be proved again for nothing. Every function
-that it tells of and no edit touches must be proved, or be unproved only with what it calls.
+A check asks for the edited functions alone, and so for what they call: what calls them would be proved again for nothing.
+Every function that it tells of and no edit touches must be proved, or be unproved only with what it calls. That the crate
+is proved as it is, this script doesn't look at: `rt ci` does. A check begins with what `rt check` kept in the crate's out/,
+where that is there, and a further one with what the one before it proved.
 
-The copies lie in .git/wrong-bodies, with what was kept. Checks run side by side, one a processor or as many as RT_JOBS
-says. --only tries the edits whose name has TEXT. As long as the file of --while is there, tests/proofs.py runs: a crate
-waits until that has proved it and kept the work. The last line is 'N passed, M failed'.
+The copies lie in .git/wrong-bodies. Checks run side by side, one a processor or as many as RT_JOBS says. --only tries the
+edits whose name has TEXT. As long as the file of --while is there, `rt ci` runs beside this script: a crate waits until that
+has built the libraries below it. The last line is 'N passed, M failed'.
 """
 import argparse
 import fcntl
@@ -34,6 +34,7 @@ import shutil
 import subprocess
 import sys
 import tempfile
+import threading
 import time
 from collections import Counter, deque
 from concurrent.futures import FIRST_COMPLETED, ThreadPoolExecutor, wait
@@ -44,14 +45,16 @@ ROOT = Path(__file__).resolve().parent.parent
 FOLDER = "wrong-bodies"
 FOLDERS = (FOLDER, "must-fail")
 PARTS = ("src", "specs", "proofs")
-# So many edits in one check: more would make the last checks of a run wait for one long one.
-MOST_IN_A_ROUND = 64
+# So many edits in one check. Most of what a check costs beside its functions it costs once.
+MOST_IN_A_ROUND = 128
 LONGEST_CHECK = 7200
+# Held while what was kept is copied, or replaced.
+KEEPING = threading.Lock()
 SECONDS_BETWEEN_LOOKS = 2
 
 HEAD = re.compile(r"^( *)(?:pub(?:\([^)]*\))? )?(?:const )?fn (\w+)")
 PUBLIC = re.compile(r"^ *pub (?:const )?fn ")
-CLAUSE = re.compile(r"^ *(?:requires|ensures|ghost)\b", re.M)
+CLAUSE = re.compile(r"^\s*(?:requires|ensures|ghost)\b", re.M)
 IMPL = re.compile(r"^impl\b(?P<rest>.*)")
 SAID = re.compile(r"^fn (\S+): (.*)$", re.M)
 # An error's file, and what it says; a record without a field is told of on the second line.
@@ -81,7 +84,8 @@ class Edit:
     crate: str
     name: str
     path: str
-    pairs: tuple
+    # The place of each old text in the file, that text, and the new one.
+    changes: tuple
     function: Function
 
     def label(self):
@@ -217,16 +221,35 @@ def functions_of(path, text):
     return found
 
 
-def function_at(functions, text, old):
-    """Returns the function that the text to replace stands in."""
-    start = text.index(old)
+def function_at(functions, text, start, old):
+    """Returns the function that the text to replace stands in, which begins at a place of the file."""
     first, last = text.count("\n", 0, start), text.count("\n", 0, start + len(old))
     around = [it for it in functions if it.first <= first and last <= it.last]
     if not around:
         raise BadEdit(f"it changes what no function holds: {old.strip()[:80]!r}")
-    if re.match(r"\s*(?:requires|ensures|ghost)\b", text.split("\n")[first]):
+    if CLAUSE.match(text.split("\n")[first]):
         raise BadEdit(f"it changes a clause, which shows nothing: {old.strip()[:80]!r}")
     return around[-1]
+
+
+def place_of(text, old, path, part):
+    """Returns the only place of a text in a part of a file, which a slice says."""
+    times = text[part].count(old)
+    if times != 1:
+        raise BadEdit(f"it is stale: {path} has its old text {times} times, and not once: {old.strip()[:80]!r}")
+    return text.index(old, part.start)
+
+
+def part_of(functions, text, names):
+    """Returns the part of a file in which an edit's old texts stand: that of the function that it names, or all of it."""
+    if not names:
+        return slice(0, len(text))
+    found = [it for it in functions if it.name == names[0]]
+    if len(names) != 1 or len(found) != 1:
+        raise BadEdit(f"a line 'in: NAME' names the only function of that name in its file, and {' '.join(names)} is none")
+    lines = text.split("\n")
+    start = sum(len(it) + 1 for it in lines[: found[0].first])
+    return slice(start, start + sum(len(it) + 1 for it in lines[found[0].first : found[0].last + 1]))
 
 
 def read_edit(crate, file):
@@ -234,25 +257,21 @@ def read_edit(crate, file):
     if not re.fullmatch(r"[a-z0-9_]+\.edit", file.name) or not file.is_file():
         raise BadEdit("an edit's name is of small letters, digits and _, and ends in .edit")
     lines = file.read_text().splitlines()
-    paths = [it[len("file: ") :].strip() for it in lines if it.startswith("file: ")]
-    olds = [it[len("old: ") :] for it in lines if it.startswith("old: ")]
-    news = [it[len("new:") :].removeprefix(" ") for it in lines if it.startswith("new:")]
-    if len(paths) != 1 or not re.fullmatch(r"src/[\w/]+\.rt", paths[0]) or not olds or len(olds) != len(news):
+    said = lambda word: [it.removeprefix(f"{word}:").removeprefix(" ") for it in lines if it.startswith(f"{word}:")]
+    paths, names, olds, news = map(said, ("file", "in", "old", "new"))
+    if len(paths) != 1 or not re.fullmatch(r"src/[\w/]+\.rt", paths[0]) or not all(olds) or not olds or len(olds) != len(news):
         raise BadEdit("an edit is one line 'file: src/NAME.rt' and then pairs of lines 'old: TEXT' and 'new: TEXT'")
     try:
         text = (ROOT / "crates" / crate.name / paths[0]).read_text()
     except OSError:
         raise BadEdit(f"it is stale: there is no file {paths[0]}") from None
-    functions, changed, found = functions_of(paths[0], text), text, set()
-    for old, new in zip(olds, news):
-        times = changed.count(old)
-        if times != 1 or text.count(old) != 1:
-            raise BadEdit(f"it is stale: {paths[0]} has its old text {times} times, and not once: {old.strip()[:80]!r}")
-        found.add(function_at(functions, text, old))
-        changed = changed.replace(old, new)
+    functions = functions_of(paths[0], text)
+    part = part_of(functions, text, names)
+    places = [place_of(text, old, paths[0], part) for old in olds]
+    found = {function_at(functions, text, at, old) for at, old in zip(places, olds)}
     if len(found) != 1:
         raise BadEdit("it changes more than one function")
-    return Edit(crate.name, file.name, paths[0], tuple(zip(olds, news)), found.pop())
+    return Edit(crate.name, file.name, paths[0], tuple(zip(places, olds, news)), found.pop())
 
 
 def shared_names(crate):
@@ -281,57 +300,42 @@ def read_edits(crate, only):
         crate.failed[path] = "NO EDIT: a public function with a contract, and nothing shows that it refuses a wrong body"
 
 
-def changes_in(file):
-    """Yields the paths and old texts of an edit of either folder."""
-    path = None
-    for line in file.read_text().splitlines():
-        if line.startswith("file: "):
-            path = line[len("file: ") :].strip()
-        elif line.startswith("old: "):
-            yield path, line[len("old: ") :]
+def promises(text):
+    """Returns whether a function is public, and has a contract that some body wouldn't meet: it gives or changes something."""
+    head = CLAUSE.split(text)[0]
+    return PUBLIC.match(text) and re.search(r"^\s*ensures\b", text, re.M) and ("->" in head or "&mut" in head)
 
 
 def without_edits(crate):
     """Returns the paths of the public functions with a contract that no edit changes, and that aren't named as such."""
-    folder, promising, changed = ROOT / "crates" / crate.name, set(), set()
-    texts = {str(it.relative_to(folder)): it.read_text() for it in sources(crate) if it.suffix == ".rt"}
-    functions = {path: functions_of(path, text) for path, text in texts.items()}
-    for path, text in texts.items():
-        lines = text.split("\n")
-        for it in functions[path]:
-            text = "\n".join(lines[it.first : it.last + 1])
-            head = CLAUSE.split(text)[0]
-            if PUBLIC.match(text) and " ensures" in text and ("->" in head or "&mut" in head):
-                promising.add(it.path())
-    for path, old in (change for each in FOLDERS for file in folder.glob(f"{each}/*.edit") for change in changes_in(file)):
-        at = texts[path].count("\n", 0, texts[path].index(old)) if old in texts.get(path, "") else -1
-        changed.update(it.path() for it in functions.get(path, ()) if it.first <= at <= it.last)
+    folder, promising, changed = ROOT / "crates" / crate.name, set(), {it.function.path() for it in crate.edits}
+    for file in (it for it in sources(crate) if it.suffix == ".rt"):
+        path, text = str(file.relative_to(folder)), file.read_text()
+        functions, lines = functions_of(path, text), text.split("\n")
+        promising.update(it.path() for it in functions if promises("\n".join(lines[it.first : it.last + 1])))
+        for edit in folder.glob("must-fail/*.edit"):
+            olds = re.findall(r"^old: (.*)$", edit.read_text(), re.M) if f"file: {path}\n" in edit.read_text() else []
+            changed.update(function_at(functions, text, text.index(it), it).path() for it in olds if it in text)
     named = folder / FOLDER / "without.md"
     return promising - changed - set(re.findall(r"^- `([\w:]+)`: ", named.read_text() if named.is_file() else "", re.M))
 
 
 def rounds_of(edits):
-    """Returns the edits in the lists that are planted together: few, and no function twice in one.
-
-    Neighbours stand together, since a check proves again what lies between two edited functions of which one leads to the other.
-    """
-    by_function = {}
-    for edit in sorted(edits, key=lambda it: (it.path, it.function.first)):
-        by_function.setdefault((edit.path, edit.function), []).append(edit)
-    number = max([-(-len(edits) // MOST_IN_A_ROUND), *map(len, by_function.values())])
-    rounds, before = [[] for _ in range(number)], 0
-    for each in by_function.values():
-        first = before * number // len(edits)
-        for later, edit in enumerate(each):
-            rounds[(first + later) % number].append(edit)
-        before += len(each)
-    return [it for it in rounds if it]
+    """Returns the edits in the lists that are planted together: few, and no function twice in one."""
+    rounds = []
+    for edit in edits:
+        fitting = (it for it in rounds if len(it) < MOST_IN_A_ROUND and all(edit.function != other.function or edit.path != other.path for other in it))
+        found = next(fitting, None)
+        if found is None:
+            rounds.append([edit])
+        else:
+            found.append(edit)
+    return rounds
 
 
 def planted(text, edits):
     """Returns a file's text with edits of different functions in it, each at its own place."""
-    places = [(text.index(old), old, new) for edit in edits for old, new in edit.pairs]
-    for start, old, new in sorted(places, reverse=True):
+    for start, old, new in sorted((it for edit in edits for it in edit.changes), reverse=True):
         text = text[:start] + new + text[start + len(old) :]
     return text
 
@@ -354,9 +358,8 @@ def link_tree(source, target):
     shutil.copytree(source, target, copy_function=link_or_copy)
 
 
-def make_room(room, crate, crates, kept):
+def make_room(room, crate, crates, base):
     """Lays out a copy of the repository: the crate, with kept work of its check, and the built libraries below it."""
-    shutil.rmtree(room, ignore_errors=True)
     (room / "crates").mkdir(parents=True)
     shutil.copy(ROOT / "crates.txt", room)
     for it in crates.values():
@@ -371,8 +374,10 @@ def make_room(room, crate, crates, kept):
             link_tree(folder / "out/rlib", to / "out/rlib")
             if not (to / "out/rlib/stamp").exists():
                 (to / "out/rlib/stamp").write_text(stamp(it, crates))
-    if kept.is_dir():
-        link_tree(kept, room / "crates" / crate.name / "out/incremental")
+    with KEEPING:
+        kept = next((it for it in (kept_of(crate, base), ROOT / "crates" / crate.name / "out/incremental") if it.is_dir()), None)
+        if kept:
+            link_tree(kept, room / "crates" / crate.name / "out/incremental")
 
 
 def asked_by(function, crate):
@@ -385,7 +390,7 @@ def asked_by(function, crate):
 
 
 def check(room, crate, edits):
-    """Returns what a check of the crate in a copy says: of the edited functions and those that they call, where there are edits."""
+    """Returns what a check in a copy says of the edited functions and those that they call."""
     words = ["rt", "check", "--jobs", "1"]
     for path in sorted({asked_by(it.function, crate) for it in edits}):
         words += ["--only", path]
@@ -396,38 +401,35 @@ def check(room, crate, edits):
         return f"the check hadn't ended after {LONGEST_CHECK} seconds"
 
 
-def kept_of(crate, base, edits):
-    """Returns where a proof of the crate left its work: `rt ci`, a check of our own, or before such a check, one by hand."""
-    own = [] if edits else [ROOT / "crates" / crate.name / "out/incremental"]
-    places = [*own, base / f"gate-{crate.name}", base / f"kept-{crate.name}"]
-    return next((it for it in places if it.is_dir()), places[-1])
+def kept_of(crate, base):
+    """Returns where the last check of a crate left its work."""
+    return base / f"kept-{crate.name}"
 
 
 def check_round(base, crate, crates, edits):
     """Checks the crate with these edits planted, and returns what was said and the seconds that it took.
 
-    What it proved without any edit is left for the rounds that stand on it.
+    What it proved is left for the rounds that follow: rattle takes of it what the next edits leave as it is.
     """
     start, room = time.time(), Path(tempfile.mkdtemp(prefix=f"{crate.name}-", dir=base))
-    make_room(room, crate, crates, kept_of(crate, base, edits))
+    make_room(room, crate, crates, base)
     for path in {it.path for it in edits}:
         file = room / "crates" / crate.name / path
         text = planted(file.read_text(), [it for it in edits if it.path == path])
         file.unlink()
         file.write_text(text)
     said = check(room, crate, edits)
-    if not edits:
-        keep(room / "crates" / crate.name / "out/incremental", crate, base)
+    keep(room / "crates" / crate.name / "out/incremental", kept_of(crate, base))
     shutil.rmtree(room)
     return said, time.time() - start
 
 
-def keep(made, crate, base):
-    """Puts what a check of the crate as it is proved in the place of what was kept before."""
-    for it in (base / f"gate-{crate.name}", base / f"kept-{crate.name}"):
-        shutil.rmtree(it, ignore_errors=True)
-    if made.is_dir():
-        os.rename(made, base / f"kept-{crate.name}")
+def keep(made, kept):
+    """Puts what a check proved in the place of what was kept before."""
+    with KEEPING:
+        shutil.rmtree(kept, ignore_errors=True)
+        if made.is_dir():
+            os.rename(made, kept)
 
 
 # The verdicts
@@ -540,9 +542,9 @@ def try_all(base, chosen, crates, jobs, proving):
     queue, running = deque(), {}
     with ThreadPoolExecutor(jobs) as pool:
         while waiting or queue or running:
-            begun = [it for it in waiting if is_kept(it, base)] if proving and proving.exists() else waiting
+            begun = [it for it in waiting if has_libraries(it, crates)] if proving and proving.exists() else waiting
             waiting = [it for it in waiting if it not in begun]
-            queue.extend(opening_of(begun, base, crates))
+            queue.extend(opening_of(begun, crates))
             while queue and len(running) < jobs:
                 crate, edits = queue.popleft()
                 running[pool.submit(check_round, base, crate, crates, edits)] = crate, edits
@@ -554,34 +556,23 @@ def try_all(base, chosen, crates, jobs, proving):
                 said, seconds = done.result()
                 crate.rounds += 1
                 crate.seconds += seconds
-                rounds = (after_round if edits else after_clean)(crate, edits, said, seconds)
-                queue.extendleft((crate, it) for it in reversed(rounds))
+                queue.extendleft((crate, it) for it in reversed(after_round(crate, edits, said, seconds)))
                 if not any(it is crate for it, _ in [*queue, *running.values()]):
                     tell(crate)
 
 
-def is_kept(crate, base):
-    """Returns whether `rt ci` has proved the crate, and its checks of edits have kept their work."""
-    return is_of_the_gate(crate) and (base / f"gate-{crate.name}").is_dir()
+def has_libraries(crate, crates):
+    """Returns whether `rt ci` has built the libraries below a crate."""
+    return all(map(is_of_the_gate, below(crate, crates)))
 
 
-def opening_of(begun, base, crates):
-    """Returns the checks that crates begin with: one without edits, where `rt ci` hasn't shown that the crate is proved."""
+def opening_of(begun, crates):
+    """Returns the checks that crates begin with."""
     lacking = build_libraries(begun, crates)
     for crate in begun if lacking else []:
         take_down_all(crate, f"its library {lacking} isn't proved")
         tell(crate)
-    known = lambda crate: rounds_of(crate.edits) if is_kept(crate, base) else [[]]
-    return [] if lacking else [(crate, edits) for crate in begun for edits in known(crate)]
-
-
-def after_clean(crate, _, said, seconds):
-    """Returns the rounds of a crate that is proved without any edit."""
-    if re.search(r"^logic=proved ", said, re.M):
-        print(f"{crate.name}: proved as it is, {seconds:.0f} s", flush=True)
-        return rounds_of(crate.edits)
-    take_down_all(crate, f"the crate itself isn't proved: {first_error(said)}")
-    return []
+    return [] if lacking else [(crate, edits) for crate in begun for edits in rounds_of(crate.edits)]
 
 
 def take_down_all(crate, why):
@@ -610,9 +601,9 @@ def tell(crate):
 
 
 def clear(base):
-    """Removes the copies, and leaves what was kept."""
+    """Removes the copies, and what was kept."""
     for it in base.iterdir():
-        if it.is_dir() and not it.name.startswith(("kept-", "gate-", "taking-")):
+        if it.is_dir():
             shutil.rmtree(it)
 
 
@@ -628,7 +619,7 @@ def try_in(base, chosen, crates, proving):
 
 
 def try_somewhere(chosen, crates, proving):
-    """The same, in .git where that is a folder, so that what was kept is there for the next run."""
+    """The same, in .git where that is a folder, so that modules can be linked."""
     if (ROOT / ".git").is_dir():
         base = ROOT / ".git" / FOLDER
         base.mkdir(exist_ok=True)
@@ -641,7 +632,7 @@ def try_somewhere(chosen, crates, proving):
 def main():
     reader = argparse.ArgumentParser(description="Tries the wrong bodies of the crates.")
     reader.add_argument("--only", default="", metavar="TEXT", help="the edits whose name has this")
-    reader.add_argument("--while", type=Path, metavar="FILE", dest="proving", help="the file that is there as long as tests/proofs.py runs")
+    reader.add_argument("--while", type=Path, metavar="FILE", dest="proving", help="the file that is there as long as `rt ci` runs beside this")
     reader.add_argument("names", nargs="*", metavar="CRATE")
     given = reader.parse_args()
     start, crates = time.time(), read_crates()

@@ -13,9 +13,9 @@ from built.logs import put, worked_log
 
 TOP = Path(__file__).resolve().parents[2]
 SOURCE = TOP / "tests/built/refuse_request.c"
-CASES = TOP / "crates/output_cases/data"
+CASES = TOP / "crates/row_cases/data"
 # Programs that carry out the cases of an index.
-PROGRAMS = [TOP / "crates/output_cases/out/output_cases", TOP / "crates/output_cases/out/output_cases.by-rattle"]
+PROGRAMS = [TOP / "crates/row_cases/out/row_cases", TOP / "crates/row_cases/out/row_cases.by-rattle"]
 OUT_OF_MEMORY = said("out of memory")
 # How a case tells of a refusal.
 NO_MEMORY = re.compile(rb"out of memory|OutOfMemory")

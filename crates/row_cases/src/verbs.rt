@@ -1,13 +1,9 @@
-//! The verbs of table maps, rows, values, lines and histories, and those of runs and of words of the command line.
-use crate::bent::each_byte;
+//! The verbs of table maps, rows, values, lines and histories.
 use crate::histories::push_history;
 use crate::images::push_images;
 use crate::json_lines::{judge_lines, judge_lines_again};
 use crate::maps::{push_map_cuts, push_map_of, push_map_size};
-use crate::orders::{answer_words, show_words};
 use crate::rows::{push_rows, push_rows_cuts};
-use crate::runs::run_task;
-use crate::sweeps::sweep;
 use crate::values::{byte_of, push_value};
 use case_language::{Case, Page, Pieces, Refused, Verbs, Verdict};
 use std::alloc::Global;
@@ -16,9 +12,9 @@ use std::slice;
 
 /// The verbs of this program.
 #[derive(Clone, Copy)]
-pub struct OutputVerbs;
+pub struct RowVerbs;
 
-impl Verbs for OutputVerbs {
+impl Verbs for RowVerbs {
     fn carry_out<R: Files + AllocGlobal>(
         &self,
         rt: &R,
@@ -30,13 +26,6 @@ impl Verbs for OutputVerbs {
         match verb {
             "lines" => judge_lines(rt.alloc(), case),
             "lines-again" => judge_lines_again(rt.alloc(), case),
-            "run" | "measure" => run_task(rt.alloc(), case, verb, words),
-            "each-byte" => each_byte(rt.alloc(), case, words),
-            "each-room" | "each-read" | "each-short" | "each-cut" => {
-                sweep(rt.alloc(), case, verb, words)
-            }
-            "binlogfeed" => answer_words(rt.alloc(), case, words),
-            "words" => show_words(rt.alloc(), case, words),
             _ => judge_text(rt.alloc(), pieces, case, verb, words),
         }
     }
