@@ -97,6 +97,8 @@ class Crate:
     name: str
     deps: list
     edits: list = field(default_factory=list)
+    # Further edits of functions that the first check has one of: they wait for what it keeps.
+    later: list = field(default_factory=list)
     # The owners and names that several functions have.
     shared: set = field(default_factory=set)
     # Why edits fail, by their name.
@@ -321,7 +323,7 @@ def without_edits(crate):
 
 
 def rounds_of(edits):
-    """Returns the edits in the lists that are planted together: few, and no function twice in one."""
+    """Returns the edits in the lists that are planted together: not too many, and no function twice in one."""
     rounds = []
     for edit in edits:
         fitting = (it for it in rounds if len(it) < MOST_IN_A_ROUND and all(edit.function != other.function or edit.path != other.path for other in it))
@@ -568,11 +570,15 @@ def has_libraries(crate, crates):
 
 def opening_of(begun, crates):
     """Returns the checks that crates begin with."""
-    lacking = build_libraries(begun, crates)
-    for crate in begun if lacking else []:
-        take_down_all(crate, f"its library {lacking} isn't proved")
-        tell(crate)
-    return [] if lacking else [(crate, edits) for crate in begun for edits in rounds_of(crate.edits)]
+    lacking, opening = build_libraries(begun, crates), []
+    for crate in begun:
+        if lacking:
+            take_down_all(crate, f"its library {lacking} isn't proved")
+            tell(crate)
+        else:
+            first, *crate.later = rounds_of(crate.edits)
+            opening.append((crate, first))
+    return opening
 
 
 def take_down_all(crate, why):
@@ -585,11 +591,12 @@ def after_round(crate, edits, said, seconds):
     """Returns the rounds that follow on a round."""
     before, failed = crate.refused, len(crate.failed)
     again = settle(crate, edits, said)
+    later, crate.later = crate.later, []
     for name in list(crate.failed)[failed:]:
         print(f"{crate.name}/{FOLDER}/{name}: {crate.failed[name]}")
     came_out = f"{crate.refused - before} refused, {len(crate.failed) - failed} not, {sum(map(len, again))} to try again"
     print(f"{crate.name}: {len(edits)} edits in one check, {seconds:.0f} s: {came_out}", flush=True)
-    return again
+    return again + later
 
 
 def tell(crate):
