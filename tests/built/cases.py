@@ -25,11 +25,11 @@ def judge(program: Path, _folder: Path) -> list[str]:
 
 
 def same_pieces(_program: Path, _folder: Path) -> list[str]:
-    """Compares the pieces that both programs of cases have alike."""
+    """Compares the pieces that the programs of cases have alike."""
     texts = {path: path.read_bytes() for path in sorted(TOP.glob("crates/*/data/pieces.cases"))}
     wanted = (TOP / "crates/reader_cases/data/pieces.cases").read_bytes()
     others = [f"{path.relative_to(TOP)} isn't that of reader_cases" for path, text in texts.items() if text != wanted]
-    return others + ([] if len(texts) == 2 else [f"there are {len(texts)} files of pieces, wanted 2"])
+    return others + ([] if len(texts) == 3 else [f"there are {len(texts)} files of pieces, wanted 3"])
 
 
 def checks() -> list[Check]:
