@@ -630,6 +630,8 @@ def try_somewhere(chosen, crates, proving):
     if (ROOT / ".git").is_dir():
         base = ROOT / ".git" / FOLDER
         base.mkdir(exist_ok=True)
+        # `rt ci` takes each folder for a crate that lies as one, but for those below such a file.
+        (base / "MODULE.bazel").touch()
         try_in(base, chosen, crates, proving)
     else:
         with tempfile.TemporaryDirectory(prefix=f"{FOLDER}-") as base:
