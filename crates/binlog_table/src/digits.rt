@@ -1,5 +1,5 @@
 //! The digits of a decimal.
-ghost use Rattle.std.specs.Prelude.{◌≡◌, ◌<◌, ◌+◌, ◌++◌, [], ◌∷◌, length};
+ghost use Rattle.std.specs.Prelude.{◌≡◌, ◌<◌, ◌≤◌, ◌+◌, ◌++◌, [], ◌∷◌, length};
 ghost use Rattle.std.specs.List.{All};
 
 use std::marker::Model;
@@ -47,6 +47,7 @@ impl Digits {
     pub fn as_slice(&self) -> &[u8]
         ensures value { result.now ≡ self.now }
         ensures small { All (λ x. x < 10) result.now }
+        ensures few { length result.now ≤ 65 }
     {
         &self.digits[..self.len]
     }
