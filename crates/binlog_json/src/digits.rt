@@ -1,5 +1,5 @@
 //! Numbers and their digits, at the end of a text.
-ghost use Rattle.std.specs.Prelude.{◌≡◌, ◌<◌, ◌≤◌, ◌∷◌, ◌++◌, ◌/◌, ◌%◌, ◌^◌, ◌*◌, take, replicate, OnOk, All, decimal, string_bytes};
+ghost use Rattle.std.specs.Prelude.{◌≡◌, ◌+◌, ◌<◌, ◌≤◌, [], ◌∷◌, ◌++◌, ◌/◌, ◌%◌, ◌^◌, ◌*◌, length, take, replicate, OnOk, All, decimal, string_bytes};
 ghost use Rattle.binlog_table.specs.Decimal.{digits_of};
 ghost use Rattle.binlog_json.specs.Texts.{padded, digits_text, whole_text, point_text, fraction_text};
 
@@ -23,29 +23,13 @@ pub(crate) fn push_padded(text: &mut String, number: u32, width: usize) -> Resul
     text.push_str(digits)
 }
 
-/// The number in two digits, or in more where it has more.
-pub(crate) fn push_pair(text: &mut String, number: u16) -> Result<(), AllocError>
-    ensures { OnOk result (string_bytes text.new ≡ string_bytes text.old ++ padded 2 number) }
-{
-    if number >= 100 {
-        return push_padded(text, u32::from(number), 2);
-    }
-    let low = number as u8;
-    let pair = [b'0' + low / 10, b'0' + low % 10];
-    text.push_str(unsafe { str::from_utf8_unchecked(&pair) })
-}
-
 /// A mark, and a number in two digits behind it, or in more where it has more.
 pub(crate) fn push_part(text: &mut String, mark: u8, number: u8) -> Result<(), AllocError>
     requires { mark < 128 }
     ensures { OnOk result (string_bytes text.new ≡ string_bytes text.old ++ mark ∷ padded 2 number) }
 {
-    if number >= 100 {
-        text.push(mark as char)?;
-        return push_padded(text, u32::from(number), 2);
-    }
-    let part = [mark, b'0' + number / 10, b'0' + number % 10];
-    text.push_str(unsafe { str::from_utf8_unchecked(&part) })
+    text.push(mark as char)?;
+    push_padded(text, u32::from(number), 2)
 }
 
 fn push_zeros(text: &mut String, count: usize) -> Result<(), AllocError>
@@ -57,20 +41,24 @@ fn push_zeros(text: &mut String, count: usize) -> Result<(), AllocError>
     Ok(())
 }
 
-/// The digits as they are.
+/// The digits as they are, no more than a decimal has.
 fn push_digits(text: &mut String, digits: &[u8]) -> Result<(), AllocError>
-    requires { All (λ d. d < 10) digits.now }
+    requires digits { All (λ d. d < 10) digits.now }
+    requires few { length digits.now ≤ 65 }
     ensures { OnOk result (string_bytes text.new ≡ string_bytes text.old ++ digits_text digits.now) }
 {
-    for digit in digits {
-        text.push((b'0' + *digit) as char)?;
+    let mut shown = [b'0'; 65];
+    for (place, digit) in digits.iter().enumerate() {
+        shown[place] = b'0' + *digit;
     }
-    Ok(())
+    let shown = &shown[..digits.len()];
+    text.push_str(unsafe { str::from_utf8_unchecked(shown) })
 }
 
-/// The digits in front of a point.
+/// The digits in front of a point, no more than a decimal has.
 pub(crate) fn push_whole(text: &mut String, digits: &[u8]) -> Result<(), AllocError>
-    requires { All (λ d. d < 10) digits.now }
+    requires digits { All (λ d. d < 10) digits.now }
+    requires few { length digits.now ≤ 65 }
     ensures { OnOk result (string_bytes text.new ≡ string_bytes text.old ++ whole_text digits.now) }
 {
     let mut at = 0;
@@ -83,9 +71,10 @@ pub(crate) fn push_whole(text: &mut String, digits: &[u8]) -> Result<(), AllocEr
     push_digits(text, &digits[at..])
 }
 
-/// The digits behind a point, with the point.
+/// The digits behind a point, with the point, no more than a decimal has.
 pub(crate) fn push_point(text: &mut String, digits: &[u8]) -> Result<(), AllocError>
-    requires { All (λ d. d < 10) digits.now }
+    requires digits { All (λ d. d < 10) digits.now }
+    requires few { length digits.now ≤ 65 }
     ensures { OnOk result (string_bytes text.new ≡ string_bytes text.old ++ point_text digits.now) }
 {
     if digits.is_empty() {

@@ -1,14 +1,12 @@
 //! The texts of decimals, dates and times, at the end of a text.
-ghost use Rattle.std.specs.Prelude.{◌≡◌, ◌<◌, ◌≤◌, ◌-◌, ◌++◌, ◌==◌, length, take, drop, All, OnOk, string_bytes};
+ghost use Rattle.std.specs.Prelude.{◌≡◌, ◌<◌, ◌≤◌, ◌+◌, ◌-◌, ◌/◌, ◌%◌, ◌++◌, [], ◌∷◌, ◌==◌, length, take, drop, All, OnOk, string_bytes};
 ghost use Rattle.std.specs.List.{list_all};
 ghost use Rattle.binlog_table.specs.DecimalShown.{decimal_view};
 ghost use Rattle.binlog_table.specs.Value.{view as cell_view};
 ghost use Rattle.binlog_json.specs.Values.{shown_text};
 ghost use Rattle.binlog_json.specs.Texts.{sign_text, whole_text, point_text, decimal_text, fraction_text, day_text, clock_text, date_text, date_time_text, time_text, timestamp_text};
 
-use crate::digits::{
-    push_fraction, push_number, push_padded, push_pair, push_part, push_point, push_whole,
-};
+use crate::digits::{push_fraction, push_number, push_padded, push_part, push_point, push_whole};
 use binlog_table::{Cell, Date, DateTime, DecimalView, Time, Timestamp};
 use std::alloc::AllocError;
 
@@ -22,9 +20,10 @@ pub(crate) fn push_decimal(text: &mut String, decimal: DecimalView<'_>) -> Resul
     push_scaled(text, digits, decimal.scale())
 }
 
-/// Digits with a point in front of the last `scale` of them.
+/// Digits with a point in front of the last `scale` of them, no more than a decimal has.
 fn push_scaled(text: &mut String, digits: &[u8], scale: usize) -> Result<(), AllocError>
     requires digits { All (λ d. d < 10) digits.now }
+    requires few { length digits.now ≤ 65 }
     requires scale { scale ≤ length digits.now }
     ensures { OnOk result (string_bytes text.new ≡ string_bytes text.old
         ++ (whole_text (take (length digits.now - scale) digits.now) ++ point_text (drop (length digits.now - scale) digits.now))) }
@@ -49,7 +48,8 @@ fn push_sign(text: &mut String, is_negative: bool) -> Result<(), AllocError>
     Ok(())
 }
 
-fn push_day(text: &mut String, year: u32, month: u8, day: u8) -> Result<(), AllocError>
+/// A day, of which a number may have more digits than its place.
+fn push_wide_day(text: &mut String, year: u32, month: u8, day: u8) -> Result<(), AllocError>
     ensures { OnOk result (string_bytes text.new
         ≡ string_bytes text.old ++ day_text year month day) }
 {
@@ -58,13 +58,59 @@ fn push_day(text: &mut String, year: u32, month: u8, day: u8) -> Result<(), Allo
     push_part(text, b'-', day)
 }
 
+fn push_day(text: &mut String, year: u32, month: u8, day: u8) -> Result<(), AllocError>
+    ensures { OnOk result (string_bytes text.new
+        ≡ string_bytes text.old ++ day_text year month day) }
+{
+    if year >= 10_000 || month >= 100 || day >= 100 {
+        return push_wide_day(text, year, month, day);
+    }
+    let century = (year / 100) as u8;
+    let later = (year % 100) as u8;
+    let shown = [
+        b'0' + century / 10,
+        b'0' + century % 10,
+        b'0' + later / 10,
+        b'0' + later % 10,
+        b'-',
+        b'0' + month / 10,
+        b'0' + month % 10,
+        b'-',
+        b'0' + day / 10,
+        b'0' + day % 10,
+    ];
+    text.push_str(unsafe { str::from_utf8_unchecked(&shown) })
+}
+
+/// A time of day, of which a number may have more digits than its place.
+fn push_wide_clock(text: &mut String, hour: u16, minute: u8, second: u8) -> Result<(), AllocError>
+    ensures { OnOk result (string_bytes text.new
+        ≡ string_bytes text.old ++ clock_text hour minute second) }
+{
+    push_padded(text, u32::from(hour), 2)?;
+    push_part(text, b':', minute)?;
+    push_part(text, b':', second)
+}
+
 fn push_clock(text: &mut String, hour: u16, minute: u8, second: u8) -> Result<(), AllocError>
     ensures { OnOk result (string_bytes text.new
         ≡ string_bytes text.old ++ clock_text hour minute second) }
 {
-    push_pair(text, hour)?;
-    push_part(text, b':', minute)?;
-    push_part(text, b':', second)
+    if hour >= 100 || minute >= 100 || second >= 100 {
+        return push_wide_clock(text, hour, minute, second);
+    }
+    let hour = hour as u8;
+    let shown = [
+        b'0' + hour / 10,
+        b'0' + hour % 10,
+        b':',
+        b'0' + minute / 10,
+        b'0' + minute % 10,
+        b':',
+        b'0' + second / 10,
+        b'0' + second % 10,
+    ];
+    text.push_str(unsafe { str::from_utf8_unchecked(&shown) })
 }
 
 pub(crate) fn push_date(text: &mut String, date: Date) -> Result<(), AllocError>

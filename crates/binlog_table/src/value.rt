@@ -10,6 +10,7 @@ use crate::number::{big, little, little_signed};
 use crate::time::{date_of, date_time_of, time_of, timestamp_of};
 
 /// What the whole text of a value means, where it means anything.
+#[inline(always)]
 #[tactic(auto, unfolding(crate::specs::Value::value_of))]
 pub(crate) fn value_of<'a>(column: &Column, text: &'a [u8]) -> Option<Cell<'a>>
     requires { HasExtent (extent_of column.now.layout) text.now }

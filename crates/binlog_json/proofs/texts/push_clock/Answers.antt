@@ -1,0 +1,12 @@
+use Rattle.std.proofs.Common.{arith}
+use Rattle.std.proofs.lemmas.Grind.{common_steps}
+use Rattle.binlog_json.proofs.Pairs.{clock_is, clock_utf8}
+use Rattle.binlog_json.proofs.texts.push_clock.Goals as goal
+
+pub from_utf8_unchecked-requires : goal.from_utf8_unchecked-requires
+from_utf8_unchecked-requires c = clock_utf8 c.args.hour c.args.minute c.args.second (omega arith) (omega arith) (omega arith)
+
+pub returns : goal.returns
+returns c =
+    let whole = clock_is c.args.hour c.args.minute c.args.second (omega arith) (omega arith) (omega arith) in
+    grind (arith, common_steps)

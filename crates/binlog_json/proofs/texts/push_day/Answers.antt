@@ -1,0 +1,12 @@
+use Rattle.std.proofs.Common.{arith}
+use Rattle.std.proofs.lemmas.Grind.{common_steps}
+use Rattle.binlog_json.proofs.Pairs.{day_is, day_utf8}
+use Rattle.binlog_json.proofs.texts.push_day.Goals as goal
+
+pub from_utf8_unchecked-requires : goal.from_utf8_unchecked-requires
+from_utf8_unchecked-requires c = day_utf8 c.args.year c.args.month c.args.day (omega arith) (omega arith) (omega arith)
+
+pub returns : goal.returns
+returns c =
+    let whole = day_is c.args.year c.args.month c.args.day (omega arith) (omega arith) (omega arith) in
+    grind (arith, common_steps)
