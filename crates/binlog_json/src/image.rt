@@ -76,7 +76,8 @@ fn append_column(
     if column >= image.column_count() {
         return Ok(later);
     }
-    match row.cell(column) {
+    let cell = row.cell(column);
+    match &cell {
         Cell::Absent => Ok(later),
         present => {
             let label = labels.label(column);

@@ -103,7 +103,7 @@ fn append_of(
     match image.value(column) {
         Cell::Absent => Ok(false),
         cell => {
-            append_value(out, room, image, column, cell)?;
+            append_value(out, room, image, column, &cell)?;
             Ok(true)
         }
     }

@@ -144,17 +144,17 @@ pub(crate) fn push_timestamp(text: &mut String, time: Timestamp) -> Result<(), A
 }
 
 /// The text of a value that is written as a string of digits and signs: a decimal, a date or a time.
-pub(crate) fn push_cell(text: &mut String, cell: Cell<'_>) -> Result<(), AllocError>
+pub(crate) fn push_cell(text: &mut String, cell: &Cell<'_>) -> Result<(), AllocError>
     ensures { OnOk result (string_bytes text.new
-        ≡ string_bytes text.old ++ shown_text (cell_view cell.entry)) }
+        ≡ string_bytes text.old ++ shown_text (cell_view cell.now)) }
 {
     match cell {
-        Cell::Decimal(decimal) => push_decimal(text, decimal),
-        Cell::Year(year) => push_padded(text, u32::from(year), 4),
-        Cell::Date(date) => push_date(text, date),
-        Cell::DateTime(time) => push_date_time(text, time),
-        Cell::Time(time) => push_time(text, time),
-        Cell::Timestamp(time) => push_timestamp(text, time),
+        Cell::Decimal(decimal) => push_decimal(text, *decimal),
+        Cell::Year(year) => push_padded(text, u32::from(*year), 4),
+        Cell::Date(date) => push_date(text, *date),
+        Cell::DateTime(time) => push_date_time(text, *time),
+        Cell::Time(time) => push_time(text, *time),
+        Cell::Timestamp(time) => push_timestamp(text, *time),
         _ => Ok(()),
     }
 }

@@ -23,18 +23,18 @@ pub(crate) fn append_value(
     room: &mut Room,
     image: &RowView<'_>,
     column: usize,
-    cell: Cell<'_>,
+    cell: &Cell<'_>,
 ) -> Result<(), AllocError>
     requires { column < length image.now.table.columns }
     ensures { OnOk result (string_bytes out.new ≡ string_bytes out.old ++ compact_text
-        (content_data (value_names_in image.now.table column) (cell_view cell.entry))) }
+        (content_data (value_names_in image.now.table column) (cell_view cell.now))) }
 {
     match cell {
         Cell::Absent | Cell::Null => out.push_str("null"),
-        Cell::Int(number) => append_integer(out, number),
-        Cell::UInt(number) | Cell::Bits(number) => push_number(out, number),
-        Cell::Enum(number) => append_enum(out, room, image, column, number),
-        Cell::Set(number) => append_set(out, room, image, column, number),
+        Cell::Int(number) => append_integer(out, *number),
+        Cell::UInt(number) | Cell::Bits(number) => push_number(out, *number),
+        Cell::Enum(number) => append_enum(out, room, image, column, *number),
+        Cell::Set(number) => append_set(out, room, image, column, *number),
         Cell::Bytes(bytes) => append_bytes(out, room, bytes),
         Cell::Raw(bytes) => append_encoded(out, &mut room.quoter, &mut room.text, "raw", bytes),
         shown => append_shown(out, room, shown),
@@ -42,9 +42,9 @@ pub(crate) fn append_value(
 }
 
 /// A decimal, a date or a time.
-fn append_shown(out: &mut String, room: &mut Room, cell: Cell<'_>) -> Result<(), AllocError>
+fn append_shown(out: &mut String, room: &mut Room, cell: &Cell<'_>) -> Result<(), AllocError>
     ensures { OnOk result (string_bytes out.new
-        ≡ string_bytes out.old ++ compact_text (string (shown_text (cell_view cell.entry)))) }
+        ≡ string_bytes out.old ++ compact_text (string (shown_text (cell_view cell.now)))) }
 {
     room.text.clear();
     push_cell(&mut room.text, cell)?;

@@ -10,35 +10,17 @@ use crate::number::{big, little, little_signed};
 use crate::time::{date_of, date_time_of, time_of, timestamp_of};
 
 /// What the whole text of a value means, where it means anything.
-#[inline(always)]
 #[tactic(auto, unfolding(crate::specs::Value::value_of))]
 pub(crate) fn value_of<'a>(column: &Column, text: &'a [u8]) -> Option<Cell<'a>>
     requires { HasExtent (extent_of column.now.layout) text.now }
     ensures { option_map view result ≡ value_of column.now text.now }
 {
     match &column.layout {
-        Layout::Integer(width) => {
-            if column.unsigned {
-                Some(Cell::UInt(little(text, usize::from(width.bytes))))
-            } else {
-                Some(Cell::Int(little_signed(text, usize::from(width.bytes))))
-            }
-        }
-        Layout::Year => {
-            let byte = u16::from(text[0]);
-            Some(Cell::Year(if byte == 0 { 0 } else { 1900 + byte }))
-        }
-        Layout::Date => Some(Cell::Date(date_of(text))),
-        Layout::Text(width) => Some(Cell::Bytes(&text[usize::from(width.bytes)..])),
-        Layout::Raw(width) => Some(Cell::Raw(&text[usize::from(width.bytes)..])),
-        Layout::Float(_) => Some(Cell::Raw(text)),
-        Layout::Bits(width) => Some(Cell::Bits(big(text, usize::from(width.bytes)))),
         Layout::Timestamp(precision) => timestamp_of(*precision, text),
         Layout::DateTime(precision) => date_time_of(*precision, text),
         Layout::Time(precision) => time_of(*precision, text),
         Layout::Decimal(size) => decimal_of(*size, text),
-        Layout::Enum(size) => Some(Cell::Enum(little(text, usize::from(size.bytes)) as u16)),
-        Layout::Set(width) => Some(Cell::Set(little(text, usize::from(width.bytes)))),
+        _ => Some(known_value(column, text)),
     }
 }
 
@@ -50,8 +32,28 @@ pub(crate) fn known_value<'a>(column: &Column, text: &'a [u8]) -> Cell<'a>
     ensures { value_of column.now text.now ≡ Some (view result) }
 {
     match &column.layout {
+        Layout::Integer(width) => {
+            if column.unsigned {
+                Cell::UInt(little(text, usize::from(width.bytes)))
+            } else {
+                Cell::Int(little_signed(text, usize::from(width.bytes)))
+            }
+        }
+        Layout::Year => {
+            let byte = u16::from(text[0]);
+            Cell::Year(if byte == 0 { 0 } else { 1900 + byte })
+        }
+        Layout::Date => Cell::Date(date_of(text)),
+        Layout::Text(width) => Cell::Bytes(&text[usize::from(width.bytes)..]),
+        Layout::Raw(width) => Cell::Raw(&text[usize::from(width.bytes)..]),
+        Layout::Float(_) => Cell::Raw(text),
+        Layout::Bits(width) => Cell::Bits(big(text, usize::from(width.bytes))),
+        Layout::Timestamp(precision) => timestamp_of(*precision, text).unwrap(),
+        Layout::DateTime(precision) => date_time_of(*precision, text).unwrap(),
+        Layout::Time(precision) => time_of(*precision, text).unwrap(),
         Layout::Decimal(size) => Cell::Decimal(known_decimal(*size, text)),
-        _ => value_of(column, text).unwrap(),
+        Layout::Enum(size) => Cell::Enum(little(text, usize::from(size.bytes)) as u16),
+        Layout::Set(width) => Cell::Set(little(text, usize::from(width.bytes))),
     }
 }
 

@@ -13,8 +13,8 @@ returns-then-column-column_count c =
 
 pub returns-in-Absent : goal.returns-in-Absent
 returns-in-Absent c =
-    let at : slice_get c.args.image.now.cells c.args.column ≡ Some (view c.cell.result) = ap (λ (r : RowImage). slice_get r.cells c.args.column) (sym c.requires.row) ∙ c.cell.ensures in
-    rw (absent_is c.args.image.now c.args.column c.cell.result at c.in-Absent.is) (record { text = sym (append-nil _); later = refl })
+    let at : slice_get c.args.image.now.cells c.args.column ≡ Some (view c.cell-cell.result) = ap (λ (r : RowImage). slice_get r.cells c.args.column) (sym c.requires.row) ∙ c.cell-cell.ensures in
+    rw (absent_is c.args.image.now c.args.column c.cell-cell.result at c.in-Absent.is) (record { text = sym (append-nil _); later = refl })
 
 pub from_utf8_unchecked-requires : goal.from_utf8_unchecked-requires
 from_utf8_unchecked-requires c =
@@ -24,12 +24,12 @@ from_utf8_unchecked-requires c =
 
 pub returns-in_ok-append_value-in_default : goal.returns-in_ok-append_value-in_default
 returns-in_ok-append_value-in_default c =
-    let at : slice_get c.args.image.now.cells c.args.column ≡ Some (view c.cell.result) = ap (λ (r : RowImage). slice_get r.cells c.args.column) (sym c.requires.row) ∙ c.cell.ensures in
+    let at : slice_get c.args.image.now.cells c.args.column ≡ Some (view c.cell-cell.result) = ap (λ (r : RowImage). slice_get r.cells c.args.column) (sym c.requires.row) ∙ c.cell-cell.ensures in
     let below = c.column_count.ensures.names in
     let label = c.label-label.ensures c.args.image.now.table.names c.requires.labels (omega arith) in
     let text = then_value (string_bytes c.args.out.now) (string_bytes c.append_comma.new.out) (string_bytes c.push_str.new.self) (string_bytes c.append_value.new.out) _ (quoted (name_of c.args.image.now.table.names c.args.column)) _
     c.in_ok-append_comma-in_default.ensures (c.in_ok-push_str-in_default.ensures.bytes ∙ ap (λ l. string_bytes c.append_comma.new.out ++ l) (c.from_utf8_unchecked.ensures ∙ label)) c.in_ok-append_value-in_default.ensures in
     record {
-      text = text ∙ ap (λ t. string_bytes c.args.out.now ++ t) (sym (column_is c.args.later c.args.image.now c.args.column c.cell.result at c.in_default.not-Absent));
-      later = rw (present_is c.args.image.now c.args.column c.cell.result at c.in_default.not-Absent) refl;
+      text = text ∙ ap (λ t. string_bytes c.args.out.now ++ t) (sym (column_is c.args.later c.args.image.now c.args.column c.cell-cell.result at c.in_default.not-Absent));
+      later = rw (present_is c.args.image.now c.args.column c.cell-cell.result at c.in_default.not-Absent) refl;
     }
