@@ -1,9 +1,11 @@
--- Places of files: the magic in front of them, and the window that the event there needs.
-use Rattle.std.specs.Prelude.{ℕ, List, [], ◌∷◌, take, drop}
+-- Places of files: the magic in front of them, the window that the event there needs, and the events whose bodies are read.
+use Rattle.std.specs.Prelude.{◌≡◌, ℕ, List, [], ◌∷◌, take, drop, true, false}
 use Rattle.binlog_frame.specs.Frames.{HasMagic, NeedsWindow}
 use Rattle.binlog_frame.specs.declared.fault.Ending.TheVariants.{Complete}
 use Rattle.binlog_frame.specs.declared.fault.FrameFault.TheVariants.{WindowTooSmall}
 use Rattle.binlog_frame.specs.declared.frames.Frames.{Frames}
+use Rattle.binlog_frame.specs.Kinds.{covers}
+use Rattle.binlog_frame.specs.declared.kind.Bodies.TheVariants.{All, Simple}
 use Rattle.binlog_frame.specs.declared.phase.Phase.{Phase}
 use Rattle.binlog_frame.specs.declared.phase.Phase.TheVariants.{Start, Later, Stopped}
 use Rattle.binlog_samples.specs.Files.{first_log}
@@ -30,3 +32,14 @@ abbrev pub NoWindows : Type 0
 NoWindows =
     (Needs first_log (standing 0 Start) 121 → ⊥) × (Needs first_log (standing 126 (Later 0)) 122 → ⊥) × (Needs (0xfd ∷ drop 1 first_log) (standing 0 Start) 122 → ⊥)
     × (Needs (take 125 first_log) (standing 0 Start) 122 → ⊥) × (Needs (take 145 first_log) (standing 126 (Later 4)) 19 → ⊥)
+
+-- QUERY, ROTATE, XID, GTID and ANONYMOUS_GTID have simple bodies
+abbrev pub SimpleBodies : Type 0
+SimpleBodies =
+    (covers Simple 2 ≡ true) × (covers Simple 4 ≡ true) × (covers Simple 16 ≡ true) × (covers Simple 33 ≡ true) × (covers Simple 34 ≡ true)
+
+-- STOP, FORMAT_DESCRIPTION, TABLE_MAP, ROWS_QUERY, the rows events and PREVIOUS_GTIDS have none; all bodies are theirs, too
+abbrev pub OtherBodies : Type 0
+OtherBodies =
+    (covers Simple 3 ≡ false) × (covers Simple 15 ≡ false) × (covers Simple 19 ≡ false) × (covers Simple 29 ≡ false) × (covers Simple 30 ≡ false)
+    × (covers Simple 31 ≡ false) × (covers Simple 32 ≡ false) × (covers Simple 35 ≡ false) × (covers All 19 ≡ true) × (covers All 30 ≡ true)
