@@ -82,8 +82,9 @@ fn append_gtid(
     room.quoter.append(out, room.text.as_str())
 }
 
-/// The source and the number, parted by a colon.
-fn push_gtid(text: &mut String, source: Uuid, number: u64) -> Result<(), AllocError>
+/// Appends the text of a GTID: its source and its number, parted by a colon. Where it finds no memory, nothing is said of what was
+/// appended.
+pub fn push_gtid(text: &mut String, source: Uuid, number: u64) -> Result<(), AllocError>
     ensures { OnOk result (string_bytes text.new ≡ string_bytes text.old ++ gtid_text (source, number)) }
 {
     let mut buffer = Uuid::encode_buffer();

@@ -18,6 +18,7 @@ mod values;
 mod visit;
 mod writer;
 
+pub use gtid::push_gtid;
 pub use index_laws::{histories_are_held, indexes_go_on};
 pub use key::{has_key, key_text};
 pub use key_index::KeyIndex;
