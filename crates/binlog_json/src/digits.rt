@@ -1,17 +1,9 @@
 //! Numbers and their digits, at the end of a text.
-ghost use Rattle.std.specs.Prelude.{◌≡◌, ◌+◌, ◌<◌, ◌≤◌, [], ◌∷◌, ◌++◌, ◌/◌, ◌%◌, ◌^◌, ◌*◌, length, take, replicate, OnOk, All, decimal, string_bytes};
+ghost use Rattle.std.specs.Prelude.{◌≡◌, ◌+◌, ◌<◌, ◌≤◌, [], ◌∷◌, ◌++◌, ◌/◌, ◌%◌, ◌^◌, ◌*◌, length, take, replicate, OnOk, All, string_bytes};
 ghost use Rattle.binlog_table.specs.Decimal.{digits_of};
 ghost use Rattle.binlog_json.specs.Texts.{padded, digits_text, whole_text, point_text, fraction_text};
 
 use std::alloc::AllocError;
-
-/// The number in decimal digits.
-pub(crate) fn push_number(text: &mut String, number: u64) -> Result<(), AllocError>
-    ensures { OnOk result (string_bytes text.new ≡ string_bytes text.old ++ decimal number) }
-{
-    let mut buffer = itoa::Buffer::new();
-    text.push_str(buffer.format(number))
-}
 
 /// The number with zeros in front of it, up to the width.
 pub(crate) fn push_padded(text: &mut String, number: u32, width: usize) -> Result<(), AllocError>

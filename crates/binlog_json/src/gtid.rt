@@ -3,8 +3,8 @@ ghost use Rattle.std.specs.Prelude.{◌≡◌, ◌++◌, is_some, true, Some, On
 ghost use Rattle.serde_json.specs.Written.{compact_text};
 ghost use Rattle.binlog_json.specs.Line.{gtid_data, gtid_text};
 
-use crate::digits::push_number;
 use crate::room::Room;
+use binlog_select::push_number;
 use std::alloc::{AllocError, Global};
 use uuid::Uuid;
 

@@ -6,7 +6,8 @@ ghost use Rattle.binlog_table.specs.Value.{view as cell_view};
 ghost use Rattle.binlog_json.specs.Values.{shown_text};
 ghost use Rattle.binlog_json.specs.Texts.{sign_text, whole_text, point_text, decimal_text, fraction_text, day_text, clock_text, date_text, date_time_text, time_text, timestamp_text};
 
-use crate::digits::{push_fraction, push_number, push_padded, push_part, push_point, push_whole};
+use crate::digits::{push_fraction, push_padded, push_part, push_point, push_whole};
+use binlog_select::push_number;
 use binlog_table::{Cell, Date, DateTime, DecimalView, Time, Timestamp};
 use std::alloc::AllocError;
 

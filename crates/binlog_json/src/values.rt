@@ -8,12 +8,12 @@ ghost use Rattle.binlog_table.specs.MapWords.{value_names_in};
 ghost use Rattle.binlog_json.specs.Values.{content_data, bytes_data, encoded_data, enum_data, set_data, shown_text};
 
 use crate::append::{Quoter, append_integer, append_plain};
-use crate::digits::push_number;
 use crate::names::{append_names, enum_name, is_named};
 use crate::plain::is_plain;
 use crate::room::Room;
 use crate::texts::push_cell;
 use base64::engine::general_purpose::STANDARD;
+use binlog_select::push_number;
 use binlog_table::{Cell, RowView};
 use std::alloc::AllocError;
 

@@ -46,8 +46,8 @@ pub(crate) fn plain_number(digits: &[u8]) -> Option<u64>
     number(digits)
 }
 
-/// Appends a number without leading zeros.
-pub(crate) fn push_number(text: &mut String, n: u64) -> Result<(), AllocError>
+/// Appends a number in decimal digits, without leading zeros.
+pub fn push_number(text: &mut String, n: u64) -> Result<(), AllocError>
     ensures ok { OnOk result (string_bytes text.new ≡ string_bytes text.old ++ decimal n) }
     ensures err { OnErr result (string_bytes text.new ≡ string_bytes text.old) }
 {

@@ -1,5 +1,5 @@
 //! What a reader of a change feed chooses by, and the text that it keeps to go on from: GTID sets,
-//! filters and tokens.
+//! filters and tokens. And how a number is written, there and in lines.
 #![tactic(auto)]
 
 mod decimal;
@@ -17,6 +17,7 @@ mod set_text;
 mod split;
 mod token;
 
+pub use decimal::push_number;
 pub use file_name::FileName;
 pub use filter::Filter;
 pub use gtid_set::{GtidSet, one_set_for_each_text, one_written_form, written_form_names_the_set};
