@@ -11,6 +11,7 @@ use std::alloc::{AllocError, Global};
 use std::mem;
 
 /// The number in decimal digits, with its sign where it is below zero.
+#[inline(always)]
 pub(crate) fn append_integer(out: &mut String, number: i64) -> Result<(), AllocError>
     ensures { OnOk result (string_bytes out.new ≡ string_bytes out.old ++ signed_decimal number) }
 {
@@ -29,6 +30,7 @@ pub(crate) fn append_comma(out: &mut String, later: bool) -> Result<(), AllocErr
 }
 
 /// A text that needs no escape, in quotes.
+#[inline(always)]
 pub(crate) fn append_plain(out: &mut String, text: &[u8]) -> Result<(), AllocError>
     requires { IsPlain text.now }
     ensures { OnOk result (string_bytes out.new ≡ string_bytes out.old ++ quoted text.now) }

@@ -18,6 +18,7 @@ use binlog_table::{Cell, RowView};
 use std::alloc::AllocError;
 
 /// The value of a column with this cell.
+#[inline(always)]
 pub(crate) fn append_value(
     out: &mut String,
     room: &mut Room,
@@ -42,6 +43,7 @@ pub(crate) fn append_value(
 }
 
 /// A decimal, a date or a time.
+#[inline(always)]
 fn append_shown(out: &mut String, room: &mut Room, cell: &Cell<'_>) -> Result<(), AllocError>
     ensures { OnOk result (string_bytes out.new
         ≡ string_bytes out.old ++ compact_text (string (shown_text (cell_view cell.now)))) }
@@ -87,6 +89,7 @@ fn append_set(
     append_text(out, &mut room.quoter, &mut room.text, &room.names)
 }
 
+#[inline(always)]
 fn append_bytes(out: &mut String, room: &mut Room, bytes: &[u8]) -> Result<(), AllocError>
     ensures { OnOk result (string_bytes out.new ≡ string_bytes out.old ++ compact_text (bytes_data bytes.now)) }
 {
@@ -94,6 +97,7 @@ fn append_bytes(out: &mut String, room: &mut Room, bytes: &[u8]) -> Result<(), A
 }
 
 /// A string where the bytes are UTF-8, else an object with the bytes in base64.
+#[inline(always)]
 fn append_text(
     out: &mut String,
     quoter: &mut Quoter,

@@ -47,6 +47,7 @@ pub(crate) fn plain_number(digits: &[u8]) -> Option<u64>
 }
 
 /// Appends a number in decimal digits, without leading zeros.
+#[inline(always)]
 pub fn push_number(text: &mut String, n: u64) -> Result<(), AllocError>
     ensures ok { OnOk result (string_bytes text.new ≡ string_bytes text.old ++ decimal n) }
     ensures err { OnErr result (string_bytes text.new ≡ string_bytes text.old) }

@@ -73,6 +73,7 @@ fn find_places(
 }
 
 /// The cell at a place among these values.
+#[inline(always)]
 fn cell_in<'a>(column: &Column, place: CellPlace, values: &'a [u8]) -> Cell<'a>
     requires { IsPlace column.now values.now place }
     ensures { view result ≡ content_in (read_from column.now values.now place) }
@@ -127,6 +128,7 @@ impl<'a> PlacedRow<'a> {
     }
 
     /// The cell of a column, counted from 0.
+    #[inline(always)]
     pub fn cell(&self, column: usize) -> Cell<'a>
         requires { column < length self.now.table.columns }
         ensures { slice_get self.now.cells column ≡ Some (view result) }

@@ -141,6 +141,7 @@ pub(crate) fn plain(text: &[u8]) -> [u8; 36]
 }
 
 /// The decimal that the bytes spell, where they spell one.
+#[inline(always)]
 pub(crate) fn decimal_of(size: DecimalSize, text: &[u8]) -> Option<Cell<'_>>
     requires { length text.now ≡ decimal_len size.precision size.scale }
     ensures { option_map view result ≡ option_map decimal (decimal_of size.precision size.scale text.now) }

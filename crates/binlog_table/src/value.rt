@@ -25,6 +25,7 @@ pub(crate) fn value_of<'a>(column: &Column, text: &'a [u8]) -> Option<Cell<'a>>
 }
 
 /// What the whole text of a value means that is known to mean something.
+#[inline(always)]
 #[tactic(auto, unfolding(crate::specs::Value::value_of))]
 pub(crate) fn known_value<'a>(column: &Column, text: &'a [u8]) -> Cell<'a>
     requires extent { HasExtent (extent_of column.now.layout) text.now }
@@ -58,6 +59,7 @@ pub(crate) fn known_value<'a>(column: &Column, text: &'a [u8]) -> Cell<'a>
 }
 
 /// Whether the whole text of a value means anything. Only times and decimals can be out of range.
+#[inline(always)]
 #[tactic(auto, unfolding(crate::specs::Value::value_of))]
 pub(crate) fn has_value(column: &Column, text: &[u8]) -> bool
     requires { HasExtent (extent_of column.now.layout) text.now }
