@@ -46,7 +46,7 @@ pub(crate) fn plain_number(digits: &[u8]) -> Option<u64>
     number(digits)
 }
 
-/// Appends a number in decimal digits, without leading zeros.
+/// Appends a number in decimal digits, without leading zeros: all of it, or nothing where a growth was refused.
 #[inline(always)]
 pub fn push_number(text: &mut String, n: u64) -> Result<(), AllocError>
     ensures ok { OnOk result (string_bytes text.new ≡ string_bytes text.old ++ decimal n) }
