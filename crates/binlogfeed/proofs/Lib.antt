@@ -4,7 +4,6 @@ pub mod Sending
 pub mod Coming
 pub mod Keeping
 pub mod Ends
-pub mod Naming
 pub mod Answering
 pub mod OverFiles
 pub mod Listing

@@ -8,7 +8,6 @@ pub mod fault;
 mod feed_lines;
 pub mod history;
 mod key_words;
-mod names;
 mod opening;
 mod options;
 pub mod program;
