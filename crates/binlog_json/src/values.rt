@@ -5,13 +5,15 @@ ghost use Rattle.serde_json.specs.Data.{string, object, member, no_members};
 ghost use Rattle.serde_json.specs.Written.{compact_text};
 ghost use Rattle.binlog_table.specs.Value.{view as cell_view};
 ghost use Rattle.binlog_table.specs.MapWords.{value_names_in};
-ghost use Rattle.binlog_json.specs.Values.{content_data, bytes_data, encoded_data, enum_data, set_data, shown_text};
+ghost use Rattle.binlog_json.specs.Values.{content_data, bytes_data, encoded_data, enum_data, set_data};
 
 use crate::append::{Quoter, append_integer, append_plain};
 use crate::names::{append_names, enum_name, is_named};
 use crate::plain::is_plain;
 use crate::room::Room;
-use crate::texts::push_cell;
+use crate::texts::{
+    append_date, append_date_time, append_decimal, append_time, append_timestamp, append_year,
+};
 use base64::engine::general_purpose::STANDARD;
 use binlog_select::push_number;
 use binlog_table::{Cell, RowView};
@@ -38,19 +40,13 @@ pub(crate) fn append_value(
         Cell::Set(number) => append_set(out, room, image, column, *number),
         Cell::Bytes(bytes) => append_bytes(out, room, bytes),
         Cell::Raw(bytes) => append_encoded(out, &mut room.quoter, &mut room.text, "raw", bytes),
-        shown => append_shown(out, room, shown),
+        Cell::Decimal(decimal) => append_decimal(out, *decimal),
+        Cell::Year(year) => append_year(out, *year),
+        Cell::Date(date) => append_date(out, *date),
+        Cell::DateTime(time) => append_date_time(out, *time),
+        Cell::Time(time) => append_time(out, *time),
+        Cell::Timestamp(time) => append_timestamp(out, *time),
     }
-}
-
-/// A decimal, a date or a time.
-#[inline(always)]
-fn append_shown(out: &mut String, room: &mut Room, cell: &Cell<'_>) -> Result<(), AllocError>
-    ensures { OnOk result (string_bytes out.new
-        ≡ string_bytes out.old ++ compact_text (string (shown_text (cell_view cell.now)))) }
-{
-    room.text.clear();
-    push_cell(&mut room.text, cell)?;
-    room.quoter.append(out, room.text.as_str())
 }
 
 fn append_enum(
