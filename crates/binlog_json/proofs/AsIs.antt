@@ -14,7 +14,7 @@ use Rattle.binlog_table.specs.Extent.{fraction_len}
 use Rattle.binlog_json.specs.Texts.{padded, digits_text, whole_text, point_text, sign_text, is_below_zero, whole_len, decimal_text, fraction_text, day_text, clock_text, date_text, date_time_text, time_text, timestamp_text}
 
 -- a text stands in a string as it is
-abbrev AsIs : List ℕ → Type 0
+abbrev pub AsIs : List ℕ → Type 0
 AsIs text = escape text ≡ text
 
 byte : (x : ℕ) (rest : List ℕ) → 35 ≤ x → x ≤ 91 → AsIs rest → AsIs (x ∷ rest)
@@ -98,26 +98,26 @@ blank : (rest : List ℕ) → AsIs rest → AsIs (32 ∷ rest)
 blank rest is = ap₂ (λ (front back : List ℕ). front ++ back) (escape_byte_plain 32 (λ e. omega (arith, e)) (λ e. omega (arith, e)) (omega arith)) is
 
 -- a string of such a text
-in_quotes : (text : List ℕ) → AsIs text → quoted text ≡ 34 ∷ (text ++ 34 ∷ [])
-in_quotes text is = ap (λ (t : List ℕ). 34 ∷ (t ++ 34 ∷ [])) is
+pub quoted_as_is : (text : List ℕ) → AsIs text → quoted text ≡ 34 ∷ (text ++ 34 ∷ [])
+quoted_as_is text is = ap (λ (t : List ℕ). 34 ∷ (t ++ 34 ∷ [])) is
 
 pub quoted_number : (width n : ℕ) → quoted (padded width n) ≡ 34 ∷ (padded width n ++ 34 ∷ [])
-quoted_number width n = in_quotes _ (padded_number width n)
+quoted_number width n = quoted_as_is _ (padded_number width n)
 
 pub quoted_decimal : (d : Decimal) → All (λ x. x < 10) d.digits → quoted (decimal_text d) ≡ 34 ∷ (decimal_text d ++ 34 ∷ [])
 quoted_decimal d small =
-    in_quotes _ (both (sign_text (is_below_zero d)) _ (sign (is_below_zero d)) (both (whole_text (take (whole_len d) d.digits)) _ (whole _ (taken (whole_len d) d.digits small)) (point _ (dropped (whole_len d) d.digits small))))
+    quoted_as_is _ (both (sign_text (is_below_zero d)) _ (sign (is_below_zero d)) (both (whole_text (take (whole_len d) d.digits)) _ (whole _ (taken (whole_len d) d.digits small)) (point _ (dropped (whole_len d) d.digits small))))
 
 pub quoted_date : (d : Date) → quoted (date_text d) ≡ 34 ∷ (date_text d ++ 34 ∷ [])
-quoted_date d = in_quotes _ (date d.year d.month d.day)
+quoted_date d = quoted_as_is _ (date d.year d.month d.day)
 
 pub quoted_date_time : (t : DateTime) → quoted (date_time_text t) ≡ 34 ∷ (date_time_text t ++ 34 ∷ [])
 quoted_date_time t =
-    in_quotes _ (both (day_text t.year t.month t.day) _ (date t.year t.month t.day) (blank _ (both (clock_text t.hour t.minute t.second) _ (clock t.hour t.minute t.second) (fraction t.precision t.fraction))))
+    quoted_as_is _ (both (day_text t.year t.month t.day) _ (date t.year t.month t.day) (blank _ (both (clock_text t.hour t.minute t.second) _ (clock t.hour t.minute t.second) (fraction t.precision t.fraction))))
 
 pub quoted_time : (t : Time) → quoted (time_text t) ≡ 34 ∷ (time_text t ++ 34 ∷ [])
 quoted_time t =
-    in_quotes _ (both (sign_text t.negative) _ (sign t.negative) (both (clock_text t.hour t.minute t.second) _ (clock t.hour t.minute t.second) (fraction t.precision t.fraction)))
+    quoted_as_is _ (both (sign_text t.negative) _ (sign t.negative) (both (clock_text t.hour t.minute t.second) _ (clock t.hour t.minute t.second) (fraction t.precision t.fraction)))
 
 pub quoted_timestamp : (t : Timestamp) → quoted (timestamp_text t) ≡ 34 ∷ (timestamp_text t ++ 34 ∷ [])
-quoted_timestamp t = in_quotes _ (both (decimal t.seconds) _ (number t.seconds) (fraction t.precision t.fraction))
+quoted_timestamp t = quoted_as_is _ (both (decimal t.seconds) _ (number t.seconds) (fraction t.precision t.fraction))

@@ -102,11 +102,11 @@ fn append_text(
 ) -> Result<(), AllocError>
     ensures { OnOk result (string_bytes out.new ≡ string_bytes out.old ++ compact_text (bytes_data bytes.now)) }
 {
-    if is_plain(bytes) {
+    if is_plain::<0x80>(bytes) {
         return append_plain(out, bytes);
     }
     match str::from_utf8(bytes) {
-        Ok(text) => quoter.append_escaped(out, text),
+        Ok(text) => quoter.append(out, text),
         Err(_) => append_encoded(out, quoter, room, "base64", bytes),
     }
 }
