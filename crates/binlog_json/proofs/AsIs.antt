@@ -121,3 +121,13 @@ quoted_time t =
 
 pub quoted_timestamp : (t : Timestamp) → quoted (timestamp_text t) ≡ 34 ∷ (timestamp_text t ++ 34 ∷ [])
 quoted_timestamp t = quoted_as_is _ (both (decimal t.seconds) _ (number t.seconds) (fraction t.precision t.fraction))
+
+-- what stands as it is in front of a text
+pub escape_behind : (front back : List ℕ) → AsIs front → escape (front ++ back) ≡ front ++ escape back
+escape_behind front back is = flat_map-append escape_byte front back ∙ ap (λ (text : List ℕ). text ++ escape back) is
+
+pub escape_at_sign : (text : List ℕ) → escape (64 ∷ text) ≡ 64 ∷ escape text
+escape_at_sign text = ap (λ (sign : List ℕ). sign ++ escape text) (escape_byte_plain 64 (λ e. omega (arith, e)) (λ e. omega (arith, e)) (omega arith))
+
+pub place_as_is : (position count : ℕ) → AsIs (decimal position ++ 46 ∷ decimal count)
+place_as_is position count = both (decimal position) (46 ∷ decimal count) (number position) (byte 46 (decimal count) (omega arith) (omega arith) (number count))

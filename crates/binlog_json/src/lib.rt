@@ -3,6 +3,7 @@
 
 mod append;
 mod digits;
+mod event_text;
 mod gtid;
 mod image;
 mod index_laws;

@@ -29,18 +29,11 @@ impl NamesText {
         }
     }
 
-    /// Appends the members of a schema and a table.
-    pub(crate) fn append(
-        &mut self,
-        out: &mut String,
-        quoter: &mut Quoter,
-        schema: &str,
-        table: &str,
-    ) -> Result<(), AllocError>
-        ensures { OnOk result (string_bytes out.new ≡ string_bytes out.old ++ table_text schema.now table.now) }
+    /// The members of the schema and the table.
+    pub(crate) fn text(&self) -> &str
+        ensures { result.now ≡ string_bytes self.now.text }
     {
-        self.spell(quoter, schema, table)?;
-        out.push_str(self.text.as_str())
+        self.text.as_str()
     }
 
     /// Whether the text is known to be that of a schema and a table.
@@ -52,7 +45,12 @@ impl NamesText {
     }
 
     /// Takes the text of a schema and a table in place of the one that it held, unless that is it.
-    fn spell(&mut self, quoter: &mut Quoter, schema: &str, table: &str) -> Result<(), AllocError>
+    pub(crate) fn take(
+        &mut self,
+        quoter: &mut Quoter,
+        schema: &str,
+        table: &str,
+    ) -> Result<(), AllocError>
         ensures { OnOk result (string_bytes self.new.text ≡ table_text schema.now table.now) }
     {
         if self.is_of(schema, table) {
