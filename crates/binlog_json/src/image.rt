@@ -1,5 +1,5 @@
 //! Images as objects, written in the order of the columns' names.
-ghost use Rattle.std.specs.Prelude.{◌≡◌, ◌++◌, ◌||◌, not, OnOk, IfOk, string_bytes};
+ghost use Rattle.std.specs.Prelude.{◌≡◌, ◌<◌, ◌++◌, ◌||◌, not, length, drop, if◌then◌else◌, OnOk, IfOk, string_bytes};
 ghost use Rattle.serde_json.specs.Data.{object};
 ghost use Rattle.serde_json.specs.Written.{compact_text};
 ghost use Rattle.binlog_json.specs.Images.{cell_in, image_members};
@@ -7,7 +7,6 @@ ghost use Rattle.binlog_json.specs.Labels.{AreLabels};
 ghost use Rattle.binlog_json.specs.Values.{is_absent};
 ghost use Rattle.binlog_json.specs.Written.{column_text};
 
-use crate::append::append_comma;
 use crate::labels::{KeptLabels, Labels};
 use crate::room::Room;
 use crate::values::append_value;
@@ -80,11 +79,19 @@ fn append_column(
     match &cell {
         Cell::Absent => Ok(later),
         present => {
-            let label = labels.label(column);
-            append_comma(out, later)?;
+            let label = joined(labels.label(column), later);
             out.push_str(unsafe { str::from_utf8_unchecked(label) })?;
             append_value(out, room, image, column, present)?;
             Ok(true)
         }
     }
+}
+
+/// A label without the comma in front of it, unless a member stands before it.
+#[inline(always)]
+fn joined(label: &[u8], later: bool) -> &[u8]
+    requires { 0 < length label.now }
+    ensures { result.now ≡ (if later then label.now else drop 1 label.now) }
+{
+    if later { label } else { &label[1..] }
 }

@@ -1,4 +1,4 @@
-//! The names of a table's columns as they stand in front of members, kept from image to image by the body of the table's map.
+//! The names of a table's columns as they stand in front of members, each behind a comma, kept from image to image by the body of the table's map.
 ghost use Rattle.std.specs.Prelude.{◌≡◌, ◌<◌, ℕ, List, length, true, Ok, OnOk, string_bytes};
 ghost use Rattle.std.proofs.Props.{props};
 ghost use Rattle.binlog_table.specs.Map.{Map, map_at};
@@ -51,7 +51,7 @@ impl Labels {
         Ok(())
     }
 
-    /// The label of a column.
+    /// The label of a column, with the comma in front of it.
     pub(crate) fn label(&self, column: usize) -> &[u8]
         ensures { (names : List (List ℕ)) → AreLabels names (string_bytes self.now.text) self.now.bounds.items → column < length names
             → result.now ≡ label_text names column }
@@ -79,6 +79,7 @@ fn write_labels(
     bounds.clear();
     for column in 0..map.column_count() {
         let start = text.len();
+        text.push_str(",")?;
         append_member_name(text, quoter, map.column_name(column))?;
         bounds.push((start, text.len()))?;
     }
