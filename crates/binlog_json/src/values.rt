@@ -1,7 +1,8 @@
 //! Values of columns as JSON, at the end of a text.
-ghost use Rattle.std.specs.Prelude.{◌≡◌, ◌<◌, ◌++◌, ◌∷◌, [], length, OnOk, string_bytes};
+ghost use Rattle.std.specs.Prelude.{◌≡◌, ◌<◌, ◌++◌, ◌∷◌, [], codes, length, OnOk, string_bytes};
 ghost use Rattle.json.specs.Print.{quoted};
-ghost use Rattle.serde_json.specs.Data.{string, object, member, no_members};
+ghost use Rattle.base64.specs.Engines.{standard};
+ghost use Rattle.base64.specs.GeneralPurpose.{encode_of};
 ghost use Rattle.serde_json.specs.Written.{compact_text};
 ghost use Rattle.binlog_table.specs.Value.{view as cell_view};
 ghost use Rattle.binlog_table.specs.MapWords.{value_names_in};
@@ -39,7 +40,7 @@ pub(crate) fn append_value(
         Cell::Enum(number) => append_enum(out, room, image, column, *number),
         Cell::Set(number) => append_set(out, room, image, column, *number),
         Cell::Bytes(bytes) => append_bytes(out, room, bytes),
-        Cell::Raw(bytes) => append_encoded(out, &mut room.quoter, &mut room.text, "raw", bytes),
+        Cell::Raw(bytes) => append_raw(out, &mut room.quoter, &mut room.text, bytes),
         Cell::Decimal(decimal) => append_decimal(out, *decimal),
         Cell::Year(year) => append_year(out, *year),
         Cell::Date(date) => append_date(out, *date),
@@ -107,40 +108,53 @@ fn append_text(
     }
     match str::from_utf8(bytes) {
         Ok(text) => quoter.append(out, text),
-        Err(_) => append_encoded(out, quoter, room, "base64", bytes),
+        Err(_) => append_encoded(out, quoter, room, bytes),
     }
 }
 
-/// An object of one member: the bytes in base64.
+/// An object whose member says that the bytes are as they are stored.
+fn append_raw(
+    out: &mut String,
+    quoter: &mut Quoter,
+    room: &mut String,
+    bytes: &[u8],
+) -> Result<(), AllocError>
+    ensures { OnOk result (string_bytes out.new
+        ≡ string_bytes out.old ++ compact_text (encoded_data (codes "raw") bytes.now)) }
+{
+    out.push_str("{\"raw\":")?;
+    append_base64(out, quoter, room, bytes)?;
+    out.push_str("}")
+}
+
+/// An object whose member says that the bytes are no text.
 fn append_encoded(
     out: &mut String,
     quoter: &mut Quoter,
     room: &mut String,
-    name: &str,
     bytes: &[u8],
 ) -> Result<(), AllocError>
     ensures { OnOk result (string_bytes out.new
-        ≡ string_bytes out.old ++ compact_text (encoded_data name.now bytes.now)) }
+        ≡ string_bytes out.old ++ compact_text (encoded_data (codes "base64") bytes.now)) }
+{
+    out.push_str("{\"base64\":")?;
+    append_base64(out, quoter, room, bytes)?;
+    out.push_str("}")
+}
+
+/// The bytes in base64, as a string.
+fn append_base64(
+    out: &mut String,
+    quoter: &mut Quoter,
+    room: &mut String,
+    bytes: &[u8],
+) -> Result<(), AllocError>
+    ensures { OnOk result (string_bytes out.new
+        ≡ string_bytes out.old ++ quoted (encode_of standard bytes.now)) }
 {
     room.clear();
     STANDARD.encode_string(bytes, room)?;
-    append_object(out, quoter, name, room.as_str())
-}
-
-/// An object of one member, which is a string.
-fn append_object(
-    out: &mut String,
-    quoter: &mut Quoter,
-    name: &str,
-    text: &str,
-) -> Result<(), AllocError>
-    ensures { OnOk result (string_bytes out.new
-        ≡ string_bytes out.old ++ compact_text (object (member name.now (string text.now) no_members))) }
-{
-    out.push('{')?;
-    append_member_name(out, quoter, name)?;
-    quoter.append(out, text)?;
-    out.push('}')
+    quoter.append(out, room.as_str())
 }
 
 /// The name of a member, with its colon.
