@@ -7,7 +7,7 @@ ghost use Rattle.binlog_json.specs.Labels.{AreLabels};
 ghost use Rattle.binlog_json.specs.Values.{is_absent};
 ghost use Rattle.binlog_json.specs.Written.{column_text};
 
-use crate::labels::{KeptLabels, Labels};
+use crate::labels::Labels;
 use crate::room::Room;
 use crate::values::append_value;
 use binlog_table::{Cell, PlacedRow, RowView};
@@ -18,15 +18,13 @@ use std::mem;
 pub(crate) fn append_image(
     out: &mut String,
     room: &mut Room,
-    kept: &mut KeptLabels,
+    labels: &Labels,
     image: &RowView<'_>,
 ) -> Result<(), AllocError>
+    requires { AreLabels image.now.table.names (string_bytes labels.now.text) labels.now.bounds.items }
     ensures { OnOk result (string_bytes out.new
         ≡ string_bytes out.old ++ compact_text (object (image_members image.now))) }
 {
-    let map = image.map();
-    let labels = kept.at(map.table_id())?;
-    labels.take(map, &mut room.quoter)?;
     let places = mem::replace(&mut room.places, Vec::new(room.alloc));
     let row = PlacedRow::of(image, places)?;
     let written = append_columns(out, room, labels, image, &row);

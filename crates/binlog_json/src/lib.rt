@@ -11,7 +11,6 @@ mod key;
 mod key_index;
 mod labels;
 mod names;
-mod names_text;
 mod plain;
 mod room;
 mod texts;
