@@ -68,17 +68,14 @@ impl Labels {
     }
 
     /// The label of a column, with the comma in front of it.
+    #[inline(always)]
     pub(crate) fn label(&self, column: usize) -> &[u8]
+        requires { (names : List (List ℕ)) × (AreLabels names (string_bytes self.now.text) self.now.bounds.items × (column < length names)) }
         ensures { (names : List (List ℕ)) → AreLabels names (string_bytes self.now.text) self.now.bounds.items → column < length names
             → result.now ≡ label_text names column }
     {
-        let Some((start, end)) = self.bounds.get(column) else {
-            return &[];
-        };
-        match self.text.as_bytes().get(*start..*end) {
-            None => &[],
-            Some(label) => label,
-        }
+        let (start, end) = self.bounds[column];
+        &self.text.as_bytes()[start..end]
     }
 }
 
