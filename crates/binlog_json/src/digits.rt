@@ -5,6 +5,21 @@ ghost use Rattle.binlog_json.specs.Texts.{padded, digits_text, whole_text, point
 
 use std::alloc::AllocError;
 
+/// The two digits of each number below 100.
+static PAIRS: [u8; 200] =
+    *b"00010203040506070809101112131415161718192021222324252627282930313233343536373839404142434445464748495051525354555657585960616263646566676869707172737475767778798081828384858687888990919293949596979899";
+
+/// The two digits of a number below 100.
+#[inline(always)]
+pub(crate) fn pair(number: u8) -> (u8, u8)
+    requires { number < 100 }
+    ensures tens { result.0 ≡ 48 + number / 10 }
+    ensures ones { result.1 ≡ 48 + number % 10 }
+{
+    let at = usize::from(number) * 2;
+    (PAIRS[at], PAIRS[at + 1])
+}
+
 /// The number with zeros in front of it, up to the width.
 pub(crate) fn push_padded(text: &mut String, number: u32, width: usize) -> Result<(), AllocError>
     ensures { OnOk result (string_bytes text.new ≡ string_bytes text.old ++ padded width number) }

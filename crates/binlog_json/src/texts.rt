@@ -5,7 +5,7 @@ ghost use Rattle.json.specs.Print.{quoted};
 ghost use Rattle.binlog_table.specs.DecimalShown.{decimal_view};
 ghost use Rattle.binlog_json.specs.Texts.{sign_text, padded, decimal_text, day_text, clock_text, date_text, date_time_text, time_text, timestamp_text};
 
-use crate::digits::{push_fraction, push_padded, push_part, push_scaled};
+use crate::digits::{pair, push_fraction, push_padded, push_part, push_scaled};
 use binlog_select::push_number;
 use binlog_table::{Date, DateTime, DecimalView, Time, Timestamp};
 use std::alloc::AllocError;
@@ -54,19 +54,12 @@ fn push_day(text: &mut String, year: u32, month: u8, day: u8) -> Result<(), Allo
     if year >= 10_000 || month >= 100 || day >= 100 {
         return push_wide_day(text, year, month, day);
     }
-    let century = (year / 100) as u8;
-    let later = (year % 100) as u8;
+    let century = pair((year / 100) as u8);
+    let later = pair((year % 100) as u8);
+    let month = pair(month);
+    let day = pair(day);
     let shown = [
-        b'0' + century / 10,
-        b'0' + century % 10,
-        b'0' + later / 10,
-        b'0' + later % 10,
-        b'-',
-        b'0' + month / 10,
-        b'0' + month % 10,
-        b'-',
-        b'0' + day / 10,
-        b'0' + day % 10,
+        century.0, century.1, later.0, later.1, b'-', month.0, month.1, b'-', day.0, day.1,
     ];
     text.push_str(unsafe { str::from_utf8_unchecked(&shown) })
 }
@@ -88,16 +81,11 @@ fn push_clock(text: &mut String, hour: u16, minute: u8, second: u8) -> Result<()
     if hour >= 100 || minute >= 100 || second >= 100 {
         return push_wide_clock(text, hour, minute, second);
     }
-    let hour = hour as u8;
+    let hour = pair(hour as u8);
+    let minute = pair(minute);
+    let second = pair(second);
     let shown = [
-        b'0' + hour / 10,
-        b'0' + hour % 10,
-        b':',
-        b'0' + minute / 10,
-        b'0' + minute % 10,
-        b':',
-        b'0' + second / 10,
-        b'0' + second % 10,
+        hour.0, hour.1, b':', minute.0, minute.1, b':', second.0, second.1,
     ];
     text.push_str(unsafe { str::from_utf8_unchecked(&shown) })
 }
