@@ -1,4 +1,4 @@
-use Rattle.std.proofs.Common.{string_bytes, ap}
+use Rattle.std.proofs.Common.{string_bytes}
 use lib.Utf8.{encode}
 use Rattle.binlog_json.proofs.LineParts.{in_quotes}
 use Rattle.binlog_json.proofs.AsIs.{quoted_as_is}
