@@ -58,8 +58,8 @@ pub column_is : (later : Bool) (image : RowImage) (column : ℕ) (cell : Cell) �
     → column_text later image column ≡ comma_if later ++ (quoted (name_of image.table.names column) ++ (58 ∷ compact_text (content_data (value_names_in image.table column) (view cell))))
 column_is later image column cell at some = rw (index_of_get image.cells column (view cell) absent at, present_at cell some) refl
 
-pub then_value : (old comma name value a q t : List ℕ) → comma ≡ old ++ a → name ≡ comma ++ (q ++ 58 ∷ []) → value ≡ name ++ t → value ≡ old ++ (a ++ (q ++ (58 ∷ t)))
-then_value old comma name value a q t is_comma is_name is_value = rw (is_value, is_name, is_comma) (simp append_assoc)
+pub then_value : (old name value a q t : List ℕ) → name ≡ old ++ (a ++ (q ++ 58 ∷ [])) → value ≡ name ++ t → value ≡ old ++ (a ++ (q ++ (58 ∷ t)))
+then_value old name value a q t is_name is_value = rw (is_value, is_name) (simp append_assoc)
 
 step_at : (b later : Bool) (name : List ℕ) (d : Data) (rest : Members)
     → members_text later (cond b rest (member name d rest)) ≡ cond b [] (comma_if later ++ member_text name d) ++ members_text (not b || later) rest

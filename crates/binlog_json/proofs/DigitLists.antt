@@ -1,9 +1,11 @@
 -- The digits of a number, from the first on.
-use Rattle.std.proofs.Common.{◌≡◌, ◌∙◌, ℕ, zero, suc, ◌+◌, ◌-◌, ◌/◌, ◌%◌, ◌^◌, ◌<◌, ◌≤◌, List, [], ◌∷◌, ◌++◌, length, take, set, get_or, refl, sym, ap, arith}
+use Rattle.std.proofs.Common.{◌≡◌, ◌∙◌, ℕ, zero, suc, ◌+◌, ◌-◌, ◌/◌, ◌%◌, ◌^◌, ◌<◌, ◌≤◌, List, [], ◌∷◌, ◌++◌, length, take, drop, set, get_or, length-drop, refl, sym, ap, subst, arith}
 use Rattle.std.specs.List.{All}
-use Rattle.std.specs.Str.{IsAscii}
+use Rattle.std.specs.Str.{IsAscii, IsUtf8}
 use Rattle.std.proofs.Math.Seq.{take-length}
-use Rattle.std.proofs.lemmas.List.{map-append, take_more, take_more_set}
+use Rattle.std.proofs.lemmas.Grind.{common_steps}
+use Rattle.std.proofs.lemmas.List.{map-append, drop-map, take_more, take_more_set}
+use Rattle.std.proofs.lemmas.Str.{IsUtf8-from_ascii}
 use Rattle.binlog_table.specs.Decimal.{digits_of}
 use Rattle.binlog_json.specs.Texts.{digits_text}
 
@@ -36,3 +38,14 @@ shown_more digits shown place below room front =
 pub shown_whole : (digits shown : List ℕ) (place : ℕ) → place ≡ length digits → take place shown ≡ digits_text (take place digits) → take (length digits) shown ≡ digits_text digits
 shown_whole digits shown place all front =
     ap (λ n. take n shown) (sym all) ∙ front ∙ ap (λ n. digits_text (take n digits)) all ∙ ap digits_text (take-length digits)
+
+-- what is left of digits, as characters
+pub left_shown : (digits shown : List ℕ) (at : ℕ) → shown ≡ digits_text digits → take (length shown - at) (drop at shown) ≡ digits_text (drop at digits)
+left_shown digits shown at is =
+    let whole : take (length shown - at) (drop at shown) ≡ drop at shown = ap (λ n. take n (drop at shown)) (sym (length-drop at shown)) ∙ take-length (drop at shown) in
+    whole ∙ ap (drop at) is ∙ drop-map (λ d. 48 + d) at digits
+
+pub left_utf8 : (digits shown : List ℕ) (at : ℕ) → All (λ d. d < 10) digits → shown ≡ digits_text digits → IsUtf8 (take (length shown - at) (drop at shown))
+left_utf8 digits shown at small is =
+    let left : All (λ d. d < 10) (drop at digits) = grind (arith, common_steps) in
+    subst IsUtf8 (sym (left_shown digits shown at is)) (IsUtf8-from_ascii _ (digits_ascii (drop at digits) left))

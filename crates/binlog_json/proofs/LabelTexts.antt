@@ -1,10 +1,12 @@
 -- The labels of columns, kept behind one another.
-use Rattle.std.proofs.Common.{◌≡◌, ℕ, zero, suc, ◌+◌, ◌-◌, ◌<◌, ◌≤◌, nat_lt, List, [], ◌∷◌, ◌++◌, Bool, true, false, length, take, drop, slice_get, slice_index_or, Some, ltb-true, ltb-false, length-append, refl, ap, sym, subst, ◌∙◌, arith}
+use Rattle.std.proofs.Common.{◌≡◌, ℕ, zero, suc, ◌+◌, ◌-◌, ◌<◌, ◌≤◌, nat_lt, List, [], ◌∷◌, ◌++◌, Bool, true, false, cond, length, take, drop, slice_get, slice_index_or, Some, ltb-true, ltb-false, length-append, append_assoc, refl, ap, sym, subst, ◌∙◌, arith}
 use Rattle.std.proofs.lemmas.List.{take-append-le, take_all}
-use Rattle.std.proofs.lemmas.Str.{IsUtf8-from_is_utf8, is_utf8-from_IsUtf8}
+use Rattle.std.proofs.lemmas.Str.{IsCharBoundary-before_ascii, IsUtf8-append, IsUtf8-drop, IsUtf8-from_is_utf8, is_utf8-from_IsUtf8}
 use Rattle.std.specs.Str.{IsUtf8, is_utf8}
 use Rattle.json.specs.Print.{quoted}
-use Rattle.json.proofs.Printed.Utf8.{IsUtf8-key}
+use Rattle.json.proofs.Printed.Utf8.{IsUtf8-are_ascii, IsUtf8-key}
+use Rattle.binlog_table.specs.NameOrder.{name_of}
+use Rattle.binlog_json.specs.Joining.{comma_if}
 use Rattle.binlog_json.specs.Labels.{label_text, IsLabel, AreWritten, AreLabels}
 use Rattle.binlog_json.proofs.ColumnTexts.{index_of_get}
 
@@ -71,16 +73,40 @@ each_more names text new bounds after k each count is utf8 pushed column below =
     subst (λ bs. IsLabel names new column (slice_index_or bs column (0, 0))) (sym pushed)
     (each_at (nat_lt column (length bounds)) names text new bounds each more whole column (omega arith) refl)
 
-pub named_label : (names : List (List ℕ)) (text new : List ℕ) (k : ℕ) (name : List ℕ) → slice_get names k ≡ Some name → new ≡ text ++ (quoted name ++ 58 ∷ []) → new ≡ text ++ label_text names k
-named_label names text new k name at is = is ∙ ap (λ n. text ++ (quoted n ++ 58 ∷ [])) (sym (index_of_get names k name [] at))
+pub named_label : (names : List (List ℕ)) (text comma new : List ℕ) (k : ℕ) (name : List ℕ) → slice_get names k ≡ Some name → comma ≡ text ++ 44 ∷ [] → new ≡ comma ++ (quoted name ++ 58 ∷ [])
+    → new ≡ text ++ label_text names k
+named_label names text comma new k name at behind is =
+    is ∙ ap (λ (t : List ℕ). t ++ (quoted name ++ 58 ∷ [])) behind ∙ append_assoc text (44 ∷ []) (quoted name ++ 58 ∷ []) ∙ ap (λ n. text ++ (44 ∷ (quoted n ++ 58 ∷ []))) (sym (index_of_get names k name [] at))
+
+comma_utf8 : IsUtf8 (44 ∷ [])
+comma_utf8 = IsUtf8-are_ascii (44 ∷ []) refl
 
 pub named_utf8 : (names : List (List ℕ)) (k : ℕ) (name : List ℕ) → slice_get names k ≡ Some name → IsUtf8 name → is_utf8 (label_text names k) ≡ true
 named_utf8 names k name at text =
-    ap (λ n. is_utf8 (quoted n ++ 58 ∷ [])) (index_of_get names k name [] at) ∙ is_utf8-from_IsUtf8 (quoted name ++ 58 ∷ []) (IsUtf8-key name text)
+    ap (λ n. is_utf8 (44 ∷ (quoted n ++ 58 ∷ []))) (index_of_get names k name [] at)
+    ∙ is_utf8-from_IsUtf8 (44 ∷ (quoted name ++ 58 ∷ [])) (IsUtf8-append (44 ∷ []) (quoted name ++ 58 ∷ []) comma_utf8 (IsUtf8-key name text))
 
 -- a label is text
-pub label_utf8 : (names : List (List ℕ)) (text : List ℕ) (bounds : List (ℕ × ℕ)) (column : ℕ) (label : List ℕ) → AreLabels names text bounds → column < length names
-    → label ≡ label_text names column → IsUtf8 label
-label_utf8 names text bounds column label h below is =
+label_utf8 : (names : List (List ℕ)) (text : List ℕ) (bounds : List (ℕ × ℕ)) (column : ℕ) → AreLabels names text bounds → column < length names → IsUtf8 (label_text names column)
+label_utf8 names text bounds column h below =
     let all = h.all in
-    subst IsUtf8 (sym is) (IsUtf8-from_is_utf8 (label_text names column) (h.each column (omega arith)).utf8)
+    IsUtf8-from_is_utf8 (label_text names column) (h.each column (omega arith)).utf8
+
+-- also without its comma
+joined_utf8_at : (later : Bool) (names : List (List ℕ)) (column : ℕ) → IsUtf8 (label_text names column) → IsUtf8 (cond later (label_text names column) (drop 1 (label_text names column)))
+joined_utf8_at true names column is = is
+joined_utf8_at false names column is = IsUtf8-drop (label_text names column) 1 is (IsCharBoundary-before_ascii (label_text names column) 1 (omega arith) (omega arith))
+
+pub joined_utf8 : (names : List (List ℕ)) (text : List ℕ) (bounds : List (ℕ × ℕ)) (column : ℕ) (later : Bool) (label joined : List ℕ) → AreLabels names text bounds → column < length names
+    → label ≡ label_text names column → joined ≡ cond later label (drop 1 label) → IsUtf8 joined
+joined_utf8 names text bounds column later label joined h below is cut =
+    subst IsUtf8 (sym (cut ∙ ap (λ (l : List ℕ). cond later l (drop 1 l)) is)) (joined_utf8_at later names column (label_utf8 names text bounds column h below))
+
+-- a label that is joined to what stands before it
+joined_at : (later : Bool) (names : List (List ℕ)) (column : ℕ) → cond later (label_text names column) (drop 1 (label_text names column)) ≡ comma_if later ++ (quoted (name_of names column) ++ 58 ∷ [])
+joined_at true names column = refl
+joined_at false names column = refl
+
+pub joined_is : (names : List (List ℕ)) (column : ℕ) (later : Bool) (label joined : List ℕ) → label ≡ label_text names column → joined ≡ cond later label (drop 1 label)
+    → joined ≡ comma_if later ++ (quoted (name_of names column) ++ 58 ∷ [])
+joined_is names column later label joined is cut = cut ∙ ap (λ (l : List ℕ). cond later l (drop 1 l)) is ∙ joined_at later names column

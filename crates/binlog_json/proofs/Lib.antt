@@ -6,6 +6,7 @@ pub mod Folding
 pub mod Putting
 pub mod NameOrders
 pub mod Quoting
+pub mod AsIs
 pub mod ColumnTexts
 pub mod KeyTexts
 pub mod LabelTexts

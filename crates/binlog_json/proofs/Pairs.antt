@@ -1,5 +1,5 @@
 -- Numbers of two and of four digits, days and times of day.
-use Rattle.std.proofs.Common.{◌≡◌, ◌∙◌, ℕ, zero, suc, ◌+◌, ◌-◌, ◌<◌, ◌≤◌, ◌/◌, ◌%◌, List, [], ◌∷◌, ◌++◌, length, replicate, length-append, append_assoc, Bool, true, false, ◌&&◌, nat_lt, ltb-true, ltb-false, refl, sym, ap, subst, arith}
+use Rattle.std.proofs.Common.{◌≡◌, ◌∙◌, ℕ, zero, suc, ◌+◌, ◌-◌, ◌<◌, ◌≤◌, ◌*◌, ◌/◌, ◌%◌, ◌==◌, List, [], ◌∷◌, ◌++◌, length, replicate, length-append, append_assoc, Bool, true, false, ◌&&◌, nat_lt, get_or, eqb-true, ltb-true, ltb-false, refl, sym, ap, subst, arith}
 use Rattle.std.specs.Str.{bytes_eq}
 use Rattle.std.specs.Fmt.{digits}
 use Rattle.std.proofs.lemmas.Slice.Eq.{bytes_eq-Decides}
@@ -8,6 +8,7 @@ use Rattle.std.specs.Str.{IsAscii, IsUtf8}
 use Rattle.std.proofs.lemmas.Fmt.{decimal_step, length-decimal-le}
 use Rattle.std.proofs.lemmas.Str.{IsUtf8-from_ascii}
 use Rattle.std.proofs.lemmas.Str.Ascii.{IsAscii-nil}
+use Rattle.binlog_json.specs.declared.digits.TheConstants.{PAIRS}
 use Rattle.binlog_json.specs.Texts.{padded, day_text, clock_text}
 
 abbrev pair : ℕ → List ℕ
@@ -108,3 +109,35 @@ clock_utf8 hour minute second h m s =
     let seconds = (48 + second / 10) ∷ (48 + second % 10) ∷ [] in
     let minutes = (48 + minute / 10) ∷ (48 + minute % 10) ∷ 58 ∷ seconds in
     IsUtf8-from_ascii _ (pair_ascii hour (58 ∷ minutes) h (ascii 58 minutes (omega arith) (pair_ascii minute (58 ∷ seconds) m (ascii 58 seconds (omega arith) (pair_ascii second [] s IsAscii-nil)))))
+
+-- the table of pairs
+abbrev are_pairs : ℕ → Bool
+are_pairs zero = true
+are_pairs (suc n) = ((get_or PAIRS (n * 2) 0 == 48 + n / 10) && (get_or PAIRS (n * 2 + 1) 0 == 48 + n % 10)) && are_pairs n
+
+record IsPair (n : ℕ) : Type 0 where
+  tens : get_or PAIRS (n * 2) 0 ≡ 48 + n / 10
+  ones : get_or PAIRS (n * 2 + 1) 0 ≡ 48 + n % 10
+
+pair_read : (n k : ℕ) (b : Bool) → nat_lt n k ≡ b → n < suc k → (n < k → IsPair n) → IsPair k → IsPair n
+pair_read n k true test below before last = before (ltb-true n k test)
+pair_read n k false test below before last =
+    let above : k ≤ n = ltb-false n k test in
+    let same : k ≡ n = omega arith in
+    subst IsPair same last
+
+pairs_read : (k n : ℕ) → are_pairs k ≡ true → n < k → IsPair n
+pairs_read zero n h below = absurd (omega arith)
+pairs_read (suc k) n h below =
+    let both = front _ (are_pairs k) h in
+    pair_read n k (nat_lt n k) refl below (λ less. pairs_read k n (back _ (are_pairs k) h) less)
+    (record { tens = eqb-true _ _ (front _ _ both); ones = eqb-true _ _ (back _ _ both) })
+
+all_read : are_pairs 100 ≡ true
+all_read = refl
+
+pub tens_read : (n : ℕ) → n < 100 → get_or PAIRS (n * 2) 0 ≡ 48 + n / 10
+tens_read n below = (pairs_read 100 n all_read below).tens
+
+pub ones_read : (n : ℕ) → n < 100 → get_or PAIRS (n * 2 + 1) 0 ≡ 48 + n % 10
+ones_read n below = (pairs_read 100 n all_read below).ones

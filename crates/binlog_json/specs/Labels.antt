@@ -4,9 +4,9 @@ use Rattle.std.specs.Str.{is_utf8}
 use Rattle.json.specs.Print.{quoted}
 use Rattle.binlog_table.specs.NameOrder.{name_of}
 
--- the name as a string, and a colon
+-- a comma, the name as a string, and a colon
 abbrev pub label_text : List (List ℕ) → ℕ → List ℕ
-label_text names column = quoted (name_of names column) ++ 58 ∷ []
+label_text names column = 44 ∷ (quoted (name_of names column) ++ 58 ∷ [])
 
 -- between these places the column's label stands
 pub record IsLabel (names : List (List ℕ)) (text : List ℕ) (column : ℕ) (bounds : ℕ × ℕ) : Type 0 where

@@ -42,24 +42,6 @@ abbrev pub set_data : Option (List (List ℕ)) → ℕ → Data
 set_data None n = whole_number n
 set_data (Some names) n = if nat_lt n (2 ^ length names) then bytes_data (join_with_byte 44 (members_in names n)) else whole_number n
 
--- The text of a decimal, a date or a time; nothing for other values.
-abbrev pub shown_text : Content → List ℕ
-shown_text cell.absent = []
-shown_text cell.null = []
-shown_text (cell.int z) = []
-shown_text (cell.uint n) = []
-shown_text (cell.decimal d) = decimal_text d
-shown_text (cell.year n) = padded 4 n
-shown_text (cell.date d) = date_text d
-shown_text (cell.date_time t) = date_time_text t
-shown_text (cell.time t) = time_text t
-shown_text (cell.timestamp t) = timestamp_text t
-shown_text (cell.bits n) = []
-shown_text (cell.enum n) = []
-shown_text (cell.set n) = []
-shown_text (cell.bytes b) = []
-shown_text (cell.raw b) = []
-
 -- The value under the names of its column's values, where there are some. An absent one, which is never asked for, is null.
 abbrev pub content_data : Option (List (List ℕ)) → Content → Data
 content_data names cell.absent = null

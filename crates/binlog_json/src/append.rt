@@ -1,7 +1,7 @@
 //! Integers and strings of JSON, at the end of a text.
 ghost use Rattle.std.specs.Prelude.{◌≡◌, ◌++◌, OnOk, string_bytes};
 ghost use Rattle.std.specs.Fmt.{signed_decimal};
-ghost use Rattle.json.specs.Print.{quoted};
+ghost use Rattle.json.specs.Print.{escape, quoted};
 ghost use Rattle.binlog_json.specs.Joining.{comma_if};
 ghost use Rattle.binlog_json.specs.PlainText.{IsPlain};
 
@@ -31,13 +31,22 @@ pub(crate) fn append_comma(out: &mut String, later: bool) -> Result<(), AllocErr
 
 /// A text that needs no escape, in quotes.
 #[inline(always)]
+pub(crate) fn append_as_is(out: &mut String, text: &str) -> Result<(), AllocError>
+    requires { escape text.now ≡ text.now }
+    ensures { OnOk result (string_bytes out.new ≡ string_bytes out.old ++ quoted text.now) }
+{
+    out.push('"')?;
+    out.push_str(text)?;
+    out.push('"')
+}
+
+/// A text of ASCII characters that need no escape, in quotes.
+#[inline(always)]
 pub(crate) fn append_plain(out: &mut String, text: &[u8]) -> Result<(), AllocError>
     requires { IsPlain text.now }
     ensures { OnOk result (string_bytes out.new ≡ string_bytes out.old ++ quoted text.now) }
 {
-    out.push('"')?;
-    out.push_str(unsafe { str::from_utf8_unchecked(text) })?;
-    out.push('"')
+    append_as_is(out, unsafe { str::from_utf8_unchecked(text) })
 }
 
 /// Writes strings of JSON. It keeps its room for the next one.
@@ -59,14 +68,14 @@ impl Quoter {
     pub(crate) fn append(&mut self, out: &mut String, text: &str) -> Result<(), AllocError>
         ensures { OnOk result (string_bytes out.new ≡ string_bytes out.old ++ quoted text.now) }
     {
-        if !is_plain(text.as_bytes()) {
+        if !is_plain::<0xff>(text.as_bytes()) {
             return self.append_escaped(out, text);
         }
-        append_plain(out, text.as_bytes())
+        append_as_is(out, text)
     }
 
     /// The text as a string, in quotes, each byte judged for itself.
-    pub(crate) fn append_escaped(&mut self, out: &mut String, text: &str) -> Result<(), AllocError>
+    fn append_escaped(&mut self, out: &mut String, text: &str) -> Result<(), AllocError>
         ensures { OnOk result (string_bytes out.new ≡ string_bytes out.old ++ quoted text.now) }
     {
         self.room.clear();

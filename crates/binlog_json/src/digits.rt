@@ -1,9 +1,24 @@
 //! Numbers and their digits, at the end of a text.
-ghost use Rattle.std.specs.Prelude.{◌≡◌, ◌+◌, ◌<◌, ◌≤◌, [], ◌∷◌, ◌++◌, ◌/◌, ◌%◌, ◌^◌, ◌*◌, length, take, replicate, OnOk, All, string_bytes};
+ghost use Rattle.std.specs.Prelude.{◌≡◌, ◌+◌, ◌<◌, ◌≤◌, [], ◌∷◌, ◌++◌, ◌-◌, ◌/◌, ◌%◌, ◌^◌, ◌*◌, length, take, drop, replicate, OnOk, All, string_bytes};
 ghost use Rattle.binlog_table.specs.Decimal.{digits_of};
 ghost use Rattle.binlog_json.specs.Texts.{padded, digits_text, whole_text, point_text, fraction_text};
 
 use std::alloc::AllocError;
+
+/// The two digits of each number below 100.
+static PAIRS: [u8; 200] =
+    *b"00010203040506070809101112131415161718192021222324252627282930313233343536373839404142434445464748495051525354555657585960616263646566676869707172737475767778798081828384858687888990919293949596979899";
+
+/// The two digits of a number below 100.
+#[inline(always)]
+pub(crate) fn pair(number: u8) -> (u8, u8)
+    requires { number < 100 }
+    ensures tens { result.0 ≡ 48 + number / 10 }
+    ensures ones { result.1 ≡ 48 + number % 10 }
+{
+    let at = usize::from(number) * 2;
+    (PAIRS[at], PAIRS[at + 1])
+}
 
 /// The number with zeros in front of it, up to the width.
 pub(crate) fn push_padded(text: &mut String, number: u32, width: usize) -> Result<(), AllocError>
@@ -33,24 +48,39 @@ fn push_zeros(text: &mut String, count: usize) -> Result<(), AllocError>
     Ok(())
 }
 
-/// The digits as they are, no more than a decimal has.
-fn push_digits(text: &mut String, digits: &[u8]) -> Result<(), AllocError>
+/// Digits as characters, of which those behind them are zeros; no more digits than a decimal has.
+#[inline(always)]
+fn shown_digits(digits: &[u8]) -> [u8; 65]
     requires digits { All (λ d. d < 10) digits.now }
     requires few { length digits.now ≤ 65 }
-    ensures { OnOk result (string_bytes text.new ≡ string_bytes text.old ++ digits_text digits.now) }
+    ensures { take (length digits.now) result ≡ digits_text digits.now }
 {
     let mut shown = [b'0'; 65];
     for (place, digit) in digits.iter().enumerate() {
         shown[place] = b'0' + *digit;
     }
-    let shown = &shown[..digits.len()];
-    text.push_str(unsafe { str::from_utf8_unchecked(shown) })
+    shown
 }
 
-/// The digits in front of a point, no more than a decimal has.
-pub(crate) fn push_whole(text: &mut String, digits: &[u8]) -> Result<(), AllocError>
+/// Digits with a point in front of the last `scale` of them, no more than a decimal has.
+pub(crate) fn push_scaled(text: &mut String, digits: &[u8], scale: usize) -> Result<(), AllocError>
     requires digits { All (λ d. d < 10) digits.now }
     requires few { length digits.now ≤ 65 }
+    requires scale { scale ≤ length digits.now }
+    ensures { OnOk result (string_bytes text.new ≡ string_bytes text.old
+        ++ (whole_text (take (length digits.now - scale) digits.now) ++ point_text (drop (length digits.now - scale) digits.now))) }
+{
+    let shown = shown_digits(digits);
+    let (whole, fraction) = digits.split_at(digits.len() - scale);
+    let (shown_whole, shown_fraction) = shown[..digits.len()].split_at(digits.len() - scale);
+    push_whole(text, whole, shown_whole)?;
+    push_point(text, fraction, shown_fraction)
+}
+
+/// The digits in front of a point, which are given as characters too.
+fn push_whole(text: &mut String, digits: &[u8], shown: &[u8]) -> Result<(), AllocError>
+    requires digits { All (λ d. d < 10) digits.now }
+    requires shown { shown.now ≡ digits_text digits.now }
     ensures { OnOk result (string_bytes text.new ≡ string_bytes text.old ++ whole_text digits.now) }
 {
     let mut at = 0;
@@ -60,20 +90,20 @@ pub(crate) fn push_whole(text: &mut String, digits: &[u8]) -> Result<(), AllocEr
     if at == digits.len() {
         return text.push('0');
     }
-    push_digits(text, &digits[at..])
+    text.push_str(unsafe { str::from_utf8_unchecked(&shown[at..]) })
 }
 
-/// The digits behind a point, with the point, no more than a decimal has.
-pub(crate) fn push_point(text: &mut String, digits: &[u8]) -> Result<(), AllocError>
+/// The digits behind a point, with the point. They are given as characters too.
+fn push_point(text: &mut String, digits: &[u8], shown: &[u8]) -> Result<(), AllocError>
     requires digits { All (λ d. d < 10) digits.now }
-    requires few { length digits.now ≤ 65 }
+    requires shown { shown.now ≡ digits_text digits.now }
     ensures { OnOk result (string_bytes text.new ≡ string_bytes text.old ++ point_text digits.now) }
 {
     if digits.is_empty() {
         return Ok(());
     }
     text.push('.')?;
-    push_digits(text, digits)
+    text.push_str(unsafe { str::from_utf8_unchecked(shown) })
 }
 
 /// The digit of a number at a place, counted from the last digit.

@@ -1,5 +1,5 @@
 //! Images as objects, written in the order of the columns' names.
-ghost use Rattle.std.specs.Prelude.{◌≡◌, ◌++◌, ◌||◌, not, OnOk, IfOk, string_bytes};
+ghost use Rattle.std.specs.Prelude.{◌≡◌, ◌<◌, ◌++◌, ◌||◌, not, length, drop, if◌then◌else◌, OnOk, IfOk, string_bytes};
 ghost use Rattle.serde_json.specs.Data.{object};
 ghost use Rattle.serde_json.specs.Written.{compact_text};
 ghost use Rattle.binlog_json.specs.Images.{cell_in, image_members};
@@ -7,8 +7,7 @@ ghost use Rattle.binlog_json.specs.Labels.{AreLabels};
 ghost use Rattle.binlog_json.specs.Values.{is_absent};
 ghost use Rattle.binlog_json.specs.Written.{column_text};
 
-use crate::append::append_comma;
-use crate::labels::{KeptLabels, Labels};
+use crate::labels::Labels;
 use crate::room::Room;
 use crate::values::append_value;
 use binlog_table::{Cell, PlacedRow, RowView};
@@ -19,15 +18,13 @@ use std::mem;
 pub(crate) fn append_image(
     out: &mut String,
     room: &mut Room,
-    kept: &mut KeptLabels,
+    labels: &Labels,
     image: &RowView<'_>,
 ) -> Result<(), AllocError>
+    requires { AreLabels image.now.table.names (string_bytes labels.now.text) labels.now.bounds.items }
     ensures { OnOk result (string_bytes out.new
         ≡ string_bytes out.old ++ compact_text (object (image_members image.now))) }
 {
-    let map = image.map();
-    let labels = kept.at(map.table_id())?;
-    labels.take(map, &mut room.quoter)?;
     let places = mem::replace(&mut room.places, Vec::new(room.alloc));
     let row = PlacedRow::of(image, places)?;
     let written = append_columns(out, room, labels, image, &row);
@@ -80,11 +77,19 @@ fn append_column(
     match &cell {
         Cell::Absent => Ok(later),
         present => {
-            let label = labels.label(column);
-            append_comma(out, later)?;
+            let label = joined(labels.label(column), later);
             out.push_str(unsafe { str::from_utf8_unchecked(label) })?;
             append_value(out, room, image, column, present)?;
             Ok(true)
         }
     }
+}
+
+/// A label without the comma in front of it, unless a member stands before it.
+#[inline(always)]
+fn joined(label: &[u8], later: bool) -> &[u8]
+    requires { 0 < length label.now }
+    ensures { result.now ≡ (if later then label.now else drop 1 label.now) }
+{
+    if later { label } else { &label[1..] }
 }

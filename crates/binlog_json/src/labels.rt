@@ -1,8 +1,9 @@
-//! The names of a table's columns as they stand in front of members, kept from image to image by the body of the table's map.
-ghost use Rattle.std.specs.Prelude.{◌≡◌, ◌<◌, ℕ, List, length, true, Ok, OnOk, string_bytes};
+//! A table's names as lines have them, and those of its columns as they stand in front of members, each behind a comma; kept from image to image by the body of the table's map.
+ghost use Rattle.std.specs.Prelude.{◌≡◌, ◌<◌, ◌++◌, ℕ, List, length, true, Ok, OnOk, string_bytes};
 ghost use Rattle.std.proofs.Props.{props};
 ghost use Rattle.binlog_table.specs.Map.{Map, map_at};
 ghost use Rattle.binlog_json.specs.Labels.{AreLabels, label_text};
+ghost use Rattle.binlog_json.specs.Written.{table_text};
 
 use crate::append::Quoter;
 use crate::values::append_member_name;
@@ -18,19 +19,24 @@ pub(crate) struct Labels {
     /// Whether they are those of the body.
     are_known: bool,
     body: Vec<u8>,
+    /// The members of the schema and the table.
+    names: String,
     text: String,
     bounds: Vec<(usize, usize)>,
     ghost known: { are_known ≡ true → (map : Map) → map_at body.items ≡ Ok map → AreLabels map.names (string_bytes text) bounds.items } by { Prim.hlevel props },
+    ghost named: { are_known ≡ true → (map : Map) → map_at body.items ≡ Ok map → string_bytes names ≡ table_text map.schema map.table } by { Prim.hlevel props },
 }
 
 impl Labels {
     ghost use Rattle.std.specs.Prelude.{◌≡◌, ◌<◌, ℕ, List, length, true, Ok, OnOk, string_bytes};
     ghost use Rattle.binlog_json.specs.Labels.{AreLabels, label_text};
+    ghost use Rattle.binlog_json.specs.Written.{table_text};
 
     fn new(alloc: Global) -> Labels {
         Labels {
             are_known: false,
             body: Vec::new(alloc),
+            names: String::new(alloc),
             text: String::new(alloc),
             bounds: Vec::new(alloc),
         }
@@ -38,12 +44,15 @@ impl Labels {
 
     /// Takes the labels of a map's columns in place of those that it held, unless it holds these.
     pub(crate) fn take(&mut self, map: &TableMap, quoter: &mut Quoter) -> Result<(), AllocError>
-        ensures { OnOk result (AreLabels map.now.names (string_bytes self.new.text) self.new.bounds.items) }
+        ensures labels { OnOk result (AreLabels map.now.names (string_bytes self.new.text) self.new.bounds.items) }
+        ensures names { OnOk result (string_bytes self.new.names ≡ table_text map.now.schema map.now.table) }
     {
         if self.are_known && map.spells(&self.body) {
             return Ok(());
         }
         self.are_known = false;
+        self.names.clear();
+        append_names(&mut self.names, quoter, map.schema(), map.table())?;
         write_labels(&mut self.text, &mut self.bounds, quoter, map)?;
         self.body.clear();
         self.body.extend_from_slice(map.body())?;
@@ -51,19 +60,38 @@ impl Labels {
         Ok(())
     }
 
-    /// The label of a column.
+    /// The members of the schema and the table.
+    pub(crate) fn names(&self) -> &str
+        ensures { result.now ≡ string_bytes self.now.names }
+    {
+        self.names.as_str()
+    }
+
+    /// The label of a column, with the comma in front of it.
+    #[inline(always)]
     pub(crate) fn label(&self, column: usize) -> &[u8]
+        requires { (names : List (List ℕ)) × (AreLabels names (string_bytes self.now.text) self.now.bounds.items × (column < length names)) }
         ensures { (names : List (List ℕ)) → AreLabels names (string_bytes self.now.text) self.now.bounds.items → column < length names
             → result.now ≡ label_text names column }
     {
-        let Some((start, end)) = self.bounds.get(column) else {
-            return &[];
-        };
-        match self.text.as_bytes().get(*start..*end) {
-            None => &[],
-            Some(label) => label,
-        }
+        let (start, end) = self.bounds[column];
+        &self.text.as_bytes()[start..end]
     }
+}
+
+/// The members of a schema and a table, with the comma before each.
+pub(crate) fn append_names(
+    out: &mut String,
+    quoter: &mut Quoter,
+    schema: &str,
+    table: &str,
+) -> Result<(), AllocError>
+    ensures { OnOk result (string_bytes out.new ≡ string_bytes out.old ++ table_text schema.now table.now) }
+{
+    out.push_str(",\"schema\":")?;
+    quoter.append(out, schema)?;
+    out.push_str(",\"table\":")?;
+    quoter.append(out, table)
 }
 
 /// Writes the labels of a map's columns in place of others.
@@ -79,6 +107,7 @@ fn write_labels(
     bounds.clear();
     for column in 0..map.column_count() {
         let start = text.len();
+        text.push_str(",")?;
         append_member_name(text, quoter, map.column_name(column))?;
         bounds.push((start, text.len()))?;
     }

@@ -3,6 +3,7 @@
 
 mod append;
 mod digits;
+mod event_text;
 mod gtid;
 mod image;
 mod index_laws;
@@ -10,7 +11,6 @@ mod key;
 mod key_index;
 mod labels;
 mod names;
-mod names_text;
 mod plain;
 mod room;
 mod texts;

@@ -1,37 +1,25 @@
-//! The texts of decimals, dates and times, at the end of a text.
-ghost use Rattle.std.specs.Prelude.{◌≡◌, ◌<◌, ◌≤◌, ◌+◌, ◌-◌, ◌/◌, ◌%◌, ◌++◌, [], ◌∷◌, ◌==◌, length, take, drop, All, OnOk, string_bytes};
+//! Decimals, dates and times as strings of JSON, at the end of a text. None of their characters needs an escape.
+ghost use Rattle.std.specs.Prelude.{◌≡◌, ◌++◌, ◌∷◌, [], ◌==◌, OnOk, string_bytes};
 ghost use Rattle.std.specs.List.{list_all};
+ghost use Rattle.json.specs.Print.{quoted};
 ghost use Rattle.binlog_table.specs.DecimalShown.{decimal_view};
-ghost use Rattle.binlog_table.specs.Value.{view as cell_view};
-ghost use Rattle.binlog_json.specs.Values.{shown_text};
-ghost use Rattle.binlog_json.specs.Texts.{sign_text, whole_text, point_text, decimal_text, fraction_text, day_text, clock_text, date_text, date_time_text, time_text, timestamp_text};
+ghost use Rattle.binlog_json.specs.Texts.{sign_text, padded, decimal_text, day_text, clock_text, date_text, date_time_text, time_text, timestamp_text};
 
-use crate::digits::{push_fraction, push_padded, push_part, push_point, push_whole};
+use crate::digits::{pair, push_fraction, push_padded, push_part, push_scaled};
 use binlog_select::push_number;
-use binlog_table::{Cell, Date, DateTime, DecimalView, Time, Timestamp};
+use binlog_table::{Date, DateTime, DecimalView, Time, Timestamp};
 use std::alloc::AllocError;
 
-pub(crate) fn push_decimal(text: &mut String, decimal: DecimalView<'_>) -> Result<(), AllocError>
-    ensures { OnOk result (string_bytes text.new
+fn push_decimal(text: &mut String, decimal: DecimalView<'_>) -> Result<(), AllocError>
+    ensures text { OnOk result (string_bytes text.new
         ≡ string_bytes text.old ++ decimal_text (decimal_view decimal.entry)) }
+    ensures as_is { OnOk result (quoted (decimal_text (decimal_view decimal.entry))
+        ≡ 34 ∷ (decimal_text (decimal_view decimal.entry) ++ 34 ∷ [])) }
 {
     let digits = decimal.digits();
     let digits = digits.as_slice();
     push_sign(text, decimal.is_negative() && !are_zeros(digits))?;
     push_scaled(text, digits, decimal.scale())
-}
-
-/// Digits with a point in front of the last `scale` of them, no more than a decimal has.
-fn push_scaled(text: &mut String, digits: &[u8], scale: usize) -> Result<(), AllocError>
-    requires digits { All (λ d. d < 10) digits.now }
-    requires few { length digits.now ≤ 65 }
-    requires scale { scale ≤ length digits.now }
-    ensures { OnOk result (string_bytes text.new ≡ string_bytes text.old
-        ++ (whole_text (take (length digits.now - scale) digits.now) ++ point_text (drop (length digits.now - scale) digits.now))) }
-{
-    let (whole, fraction) = digits.split_at(digits.len() - scale);
-    push_whole(text, whole)?;
-    push_point(text, fraction)
 }
 
 fn are_zeros(digits: &[u8]) -> bool
@@ -66,19 +54,12 @@ fn push_day(text: &mut String, year: u32, month: u8, day: u8) -> Result<(), Allo
     if year >= 10_000 || month >= 100 || day >= 100 {
         return push_wide_day(text, year, month, day);
     }
-    let century = (year / 100) as u8;
-    let later = (year % 100) as u8;
+    let century = pair((year / 100) as u8);
+    let later = pair((year % 100) as u8);
+    let month = pair(month);
+    let day = pair(day);
     let shown = [
-        b'0' + century / 10,
-        b'0' + century % 10,
-        b'0' + later / 10,
-        b'0' + later % 10,
-        b'-',
-        b'0' + month / 10,
-        b'0' + month % 10,
-        b'-',
-        b'0' + day / 10,
-        b'0' + day % 10,
+        century.0, century.1, later.0, later.1, b'-', month.0, month.1, b'-', day.0, day.1,
     ];
     text.push_str(unsafe { str::from_utf8_unchecked(&shown) })
 }
@@ -100,27 +81,16 @@ fn push_clock(text: &mut String, hour: u16, minute: u8, second: u8) -> Result<()
     if hour >= 100 || minute >= 100 || second >= 100 {
         return push_wide_clock(text, hour, minute, second);
     }
-    let hour = hour as u8;
+    let hour = pair(hour as u8);
+    let minute = pair(minute);
+    let second = pair(second);
     let shown = [
-        b'0' + hour / 10,
-        b'0' + hour % 10,
-        b':',
-        b'0' + minute / 10,
-        b'0' + minute % 10,
-        b':',
-        b'0' + second / 10,
-        b'0' + second % 10,
+        hour.0, hour.1, b':', minute.0, minute.1, b':', second.0, second.1,
     ];
     text.push_str(unsafe { str::from_utf8_unchecked(&shown) })
 }
 
-pub(crate) fn push_date(text: &mut String, date: Date) -> Result<(), AllocError>
-    ensures { OnOk result (string_bytes text.new ≡ string_bytes text.old ++ date_text date) }
-{
-    push_day(text, u32::from(date.year), date.month, date.day)
-}
-
-pub(crate) fn push_date_time(text: &mut String, time: DateTime) -> Result<(), AllocError>
+fn push_date_time(text: &mut String, time: DateTime) -> Result<(), AllocError>
     ensures { OnOk result (string_bytes text.new ≡ string_bytes text.old ++ date_time_text time) }
 {
     push_day(text, time.year, time.month, time.day)?;
@@ -129,7 +99,7 @@ pub(crate) fn push_date_time(text: &mut String, time: DateTime) -> Result<(), Al
     push_fraction(text, time.precision, time.fraction)
 }
 
-pub(crate) fn push_time(text: &mut String, time: Time) -> Result<(), AllocError>
+fn push_time(text: &mut String, time: Time) -> Result<(), AllocError>
     ensures { OnOk result (string_bytes text.new ≡ string_bytes text.old ++ time_text time) }
 {
     push_sign(text, time.negative)?;
@@ -137,25 +107,63 @@ pub(crate) fn push_time(text: &mut String, time: Time) -> Result<(), AllocError>
     push_fraction(text, time.precision, time.fraction)
 }
 
-pub(crate) fn push_timestamp(text: &mut String, time: Timestamp) -> Result<(), AllocError>
+fn push_timestamp(text: &mut String, time: Timestamp) -> Result<(), AllocError>
     ensures { OnOk result (string_bytes text.new ≡ string_bytes text.old ++ timestamp_text time) }
 {
     push_number(text, u64::from(time.seconds))?;
     push_fraction(text, time.precision, time.fraction)
 }
 
-/// The text of a value that is written as a string of digits and signs: a decimal, a date or a time.
-pub(crate) fn push_cell(text: &mut String, cell: &Cell<'_>) -> Result<(), AllocError>
-    ensures { OnOk result (string_bytes text.new
-        ≡ string_bytes text.old ++ shown_text (cell_view cell.now)) }
+/// A decimal in quotes.
+pub(crate) fn append_decimal(out: &mut String, decimal: DecimalView<'_>) -> Result<(), AllocError>
+    ensures { OnOk result (string_bytes out.new ≡ string_bytes out.old ++ quoted (decimal_text (decimal_view decimal.entry))) }
 {
-    match cell {
-        Cell::Decimal(decimal) => push_decimal(text, *decimal),
-        Cell::Year(year) => push_padded(text, u32::from(*year), 4),
-        Cell::Date(date) => push_date(text, *date),
-        Cell::DateTime(time) => push_date_time(text, *time),
-        Cell::Time(time) => push_time(text, *time),
-        Cell::Timestamp(time) => push_timestamp(text, *time),
-        _ => Ok(()),
-    }
+    out.push('"')?;
+    push_decimal(out, decimal)?;
+    out.push('"')
+}
+
+/// A year in quotes.
+pub(crate) fn append_year(out: &mut String, year: u16) -> Result<(), AllocError>
+    ensures { OnOk result (string_bytes out.new ≡ string_bytes out.old ++ quoted (padded 4 year)) }
+{
+    out.push('"')?;
+    push_padded(out, u32::from(year), 4)?;
+    out.push('"')
+}
+
+/// A date in quotes.
+pub(crate) fn append_date(out: &mut String, date: Date) -> Result<(), AllocError>
+    ensures { OnOk result (string_bytes out.new ≡ string_bytes out.old ++ quoted (date_text date)) }
+{
+    out.push('"')?;
+    push_day(out, u32::from(date.year), date.month, date.day)?;
+    out.push('"')
+}
+
+/// A day and a time of day in quotes.
+pub(crate) fn append_date_time(out: &mut String, time: DateTime) -> Result<(), AllocError>
+    ensures { OnOk result (string_bytes out.new ≡ string_bytes out.old ++ quoted (date_time_text time)) }
+{
+    out.push('"')?;
+    push_date_time(out, time)?;
+    out.push('"')
+}
+
+/// A time in quotes.
+pub(crate) fn append_time(out: &mut String, time: Time) -> Result<(), AllocError>
+    ensures { OnOk result (string_bytes out.new ≡ string_bytes out.old ++ quoted (time_text time)) }
+{
+    out.push('"')?;
+    push_time(out, time)?;
+    out.push('"')
+}
+
+/// Seconds since 1970 in quotes.
+pub(crate) fn append_timestamp(out: &mut String, time: Timestamp) -> Result<(), AllocError>
+    ensures { OnOk result (string_bytes out.new ≡ string_bytes out.old ++ quoted (timestamp_text time)) }
+{
+    out.push('"')?;
+    push_timestamp(out, time)?;
+    out.push('"')
 }

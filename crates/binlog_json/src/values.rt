@@ -1,17 +1,20 @@
 //! Values of columns as JSON, at the end of a text.
-ghost use Rattle.std.specs.Prelude.{◌≡◌, ◌<◌, ◌++◌, ◌∷◌, [], length, OnOk, string_bytes};
+ghost use Rattle.std.specs.Prelude.{◌≡◌, ◌<◌, ◌++◌, ◌∷◌, [], codes, length, OnOk, string_bytes};
 ghost use Rattle.json.specs.Print.{quoted};
-ghost use Rattle.serde_json.specs.Data.{string, object, member, no_members};
+ghost use Rattle.base64.specs.Engines.{standard};
+ghost use Rattle.base64.specs.GeneralPurpose.{encode_of};
 ghost use Rattle.serde_json.specs.Written.{compact_text};
 ghost use Rattle.binlog_table.specs.Value.{view as cell_view};
 ghost use Rattle.binlog_table.specs.MapWords.{value_names_in};
-ghost use Rattle.binlog_json.specs.Values.{content_data, bytes_data, encoded_data, enum_data, set_data, shown_text};
+ghost use Rattle.binlog_json.specs.Values.{content_data, bytes_data, encoded_data, enum_data, set_data};
 
 use crate::append::{Quoter, append_integer, append_plain};
 use crate::names::{append_names, enum_name, is_named};
 use crate::plain::is_plain;
 use crate::room::Room;
-use crate::texts::push_cell;
+use crate::texts::{
+    append_date, append_date_time, append_decimal, append_time, append_timestamp, append_year,
+};
 use base64::engine::general_purpose::STANDARD;
 use binlog_select::push_number;
 use binlog_table::{Cell, RowView};
@@ -37,20 +40,14 @@ pub(crate) fn append_value(
         Cell::Enum(number) => append_enum(out, room, image, column, *number),
         Cell::Set(number) => append_set(out, room, image, column, *number),
         Cell::Bytes(bytes) => append_bytes(out, room, bytes),
-        Cell::Raw(bytes) => append_encoded(out, &mut room.quoter, &mut room.text, "raw", bytes),
-        shown => append_shown(out, room, shown),
+        Cell::Raw(bytes) => append_raw(out, &mut room.quoter, &mut room.text, bytes),
+        Cell::Decimal(decimal) => append_decimal(out, *decimal),
+        Cell::Year(year) => append_year(out, *year),
+        Cell::Date(date) => append_date(out, *date),
+        Cell::DateTime(time) => append_date_time(out, *time),
+        Cell::Time(time) => append_time(out, *time),
+        Cell::Timestamp(time) => append_timestamp(out, *time),
     }
-}
-
-/// A decimal, a date or a time.
-#[inline(always)]
-fn append_shown(out: &mut String, room: &mut Room, cell: &Cell<'_>) -> Result<(), AllocError>
-    ensures { OnOk result (string_bytes out.new
-        ≡ string_bytes out.old ++ compact_text (string (shown_text (cell_view cell.now)))) }
-{
-    room.text.clear();
-    push_cell(&mut room.text, cell)?;
-    room.quoter.append(out, room.text.as_str())
 }
 
 fn append_enum(
@@ -106,45 +103,58 @@ fn append_text(
 ) -> Result<(), AllocError>
     ensures { OnOk result (string_bytes out.new ≡ string_bytes out.old ++ compact_text (bytes_data bytes.now)) }
 {
-    if is_plain(bytes) {
+    if is_plain::<0x80>(bytes) {
         return append_plain(out, bytes);
     }
     match str::from_utf8(bytes) {
-        Ok(text) => quoter.append_escaped(out, text),
-        Err(_) => append_encoded(out, quoter, room, "base64", bytes),
+        Ok(text) => quoter.append(out, text),
+        Err(_) => append_encoded(out, quoter, room, bytes),
     }
 }
 
-/// An object of one member: the bytes in base64.
+/// An object whose member says that the bytes are as they are stored.
+fn append_raw(
+    out: &mut String,
+    quoter: &mut Quoter,
+    room: &mut String,
+    bytes: &[u8],
+) -> Result<(), AllocError>
+    ensures { OnOk result (string_bytes out.new
+        ≡ string_bytes out.old ++ compact_text (encoded_data (codes "raw") bytes.now)) }
+{
+    out.push_str("{\"raw\":")?;
+    append_base64(out, quoter, room, bytes)?;
+    out.push_str("}")
+}
+
+/// An object whose member says that the bytes are no text.
 fn append_encoded(
     out: &mut String,
     quoter: &mut Quoter,
     room: &mut String,
-    name: &str,
     bytes: &[u8],
 ) -> Result<(), AllocError>
     ensures { OnOk result (string_bytes out.new
-        ≡ string_bytes out.old ++ compact_text (encoded_data name.now bytes.now)) }
+        ≡ string_bytes out.old ++ compact_text (encoded_data (codes "base64") bytes.now)) }
+{
+    out.push_str("{\"base64\":")?;
+    append_base64(out, quoter, room, bytes)?;
+    out.push_str("}")
+}
+
+/// The bytes in base64, as a string.
+fn append_base64(
+    out: &mut String,
+    quoter: &mut Quoter,
+    room: &mut String,
+    bytes: &[u8],
+) -> Result<(), AllocError>
+    ensures { OnOk result (string_bytes out.new
+        ≡ string_bytes out.old ++ quoted (encode_of standard bytes.now)) }
 {
     room.clear();
     STANDARD.encode_string(bytes, room)?;
-    append_object(out, quoter, name, room.as_str())
-}
-
-/// An object of one member, which is a string.
-fn append_object(
-    out: &mut String,
-    quoter: &mut Quoter,
-    name: &str,
-    text: &str,
-) -> Result<(), AllocError>
-    ensures { OnOk result (string_bytes out.new
-        ≡ string_bytes out.old ++ compact_text (object (member name.now (string text.now) no_members))) }
-{
-    out.push('{')?;
-    append_member_name(out, quoter, name)?;
-    quoter.append(out, text)?;
-    out.push('}')
+    quoter.append(out, room.as_str())
 }
 
 /// The name of a member, with its colon.

@@ -3,4 +3,4 @@ use Rattle.binlog_json.proofs.PlainText.{from_lanes}
 use Rattle.binlog_json.proofs.plain.is_plain_8.Goals as goal
 
 pub returns : goal.returns
-returns c = from_lanes c.args.text.now c.args.at 8 c.requires (omega arith)
+returns g c = from_lanes g.row.LIMIT c.args.text.now c.args.at 8 c.requires (omega arith)

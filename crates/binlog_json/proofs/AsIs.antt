@@ -1,0 +1,133 @@
+-- Texts of digits and signs, which need no escape.
+use Rattle.std.proofs.Common.{◌≡◌, ◌∙◌, ℕ, zero, suc, ◌+◌, ◌-◌, ◌*◌, ◌%◌, ◌/◌, ◌<◌, ◌≤◌, ◌==◌, List, [], ◌∷◌, ◌++◌, Bool, true, false, cond, length, take, drop, replicate, decimal, lt-ltb, refl, ap, ap₂, arith}
+use Rattle.std.specs.Fmt.{digits, digits_onto, digit_glyph}
+use Rattle.std.specs.List.{All}
+use Rattle.std.proofs.lemmas.Grind.{flat_map-append, common_steps}
+use Rattle.json.specs.Print.{escape, escape_byte, quoted}
+use Rattle.json.proofs.Printed.Strings.{escape_byte_plain}
+use Rattle.binlog_table.specs.declared.cell.Date.{Date}
+use Rattle.binlog_table.specs.declared.cell.DateTime.{DateTime}
+use Rattle.binlog_table.specs.declared.cell.Time.{Time}
+use Rattle.binlog_table.specs.declared.cell.Timestamp.{Timestamp}
+use Rattle.binlog_table.specs.Decimal.{Decimal, digits_of}
+use Rattle.binlog_table.specs.Extent.{fraction_len}
+use Rattle.binlog_json.specs.Texts.{padded, digits_text, whole_text, point_text, sign_text, is_below_zero, whole_len, decimal_text, fraction_text, day_text, clock_text, date_text, date_time_text, time_text, timestamp_text}
+
+-- a text stands in a string as it is
+abbrev pub AsIs : List ℕ → Type 0
+AsIs text = escape text ≡ text
+
+byte : (x : ℕ) (rest : List ℕ) → 35 ≤ x → x ≤ 91 → AsIs rest → AsIs (x ∷ rest)
+byte x rest above below is =
+    ap₂ (λ (front back : List ℕ). front ++ back) (escape_byte_plain x (λ e. omega (arith, e)) (λ e. omega (arith, e)) (omega arith)) is
+
+both : (a b : List ℕ) → AsIs a → AsIs b → AsIs (a ++ b)
+both a b p q = flat_map-append escape_byte a b ∙ ap₂ (λ (front back : List ℕ). front ++ back) p q
+
+glyph : (d : ℕ) → d < 10 → digit_glyph false d ≡ 48 + d
+glyph d small = rw (lt-ltb d 10 small) refl
+
+onto_at : (b : Bool) (front more : List ℕ) → AsIs front → AsIs more → AsIs (cond b front more)
+onto_at true front more p q = p
+onto_at false front more p q = q
+
+onto : (k n : ℕ) (rest : List ℕ) → AsIs rest → AsIs (digits_onto k 10 false n rest)
+onto zero n rest is = is
+onto (suc k) n rest is =
+    let small : n % 10 < 10 = omega arith in
+    let front : AsIs (digit_glyph false (n % 10) ∷ rest) = rw (glyph (n % 10) small) (byte (48 + n % 10) rest (omega arith) (omega arith) is) in
+    onto_at (n / 10 == 0) (digit_glyph false (n % 10) ∷ rest) (digits_onto k 10 false (n / 10) (digit_glyph false (n % 10) ∷ rest)) front (onto k (n / 10) _ front)
+
+number : (n : ℕ) → AsIs (decimal n)
+unfolding digits
+number n = onto 64 n [] refl
+
+zeros : (k : ℕ) → AsIs (replicate k 48)
+zeros zero = refl
+zeros (suc k) = byte 48 (replicate k 48) (omega arith) (omega arith) (zeros k)
+
+padded_number : (width n : ℕ) → AsIs (padded width n)
+padded_number width n = both (replicate (width - length (decimal n)) 48) (decimal n) (zeros _) (number n)
+
+shown : (ds : List ℕ) → All (λ d. d < 10) ds → AsIs (digits_text ds)
+shown [] small = refl
+shown (d ∷ ds) small =
+    let first : d < 10 = small 0 0 (omega arith) in
+    byte (48 + d) (digits_text ds) (omega arith) (omega (arith, first)) (shown ds (λ k e l. small (suc k) e (omega (arith, l))))
+
+whole_at : (b : Bool) (skipped all : List ℕ) → AsIs skipped → AsIs all → AsIs (cond b skipped all)
+whole_at true skipped all p q = p
+whole_at false skipped all p q = q
+
+whole : (ds : List ℕ) → All (λ d. d < 10) ds → AsIs (whole_text ds)
+whole [] small = byte 48 [] (omega arith) (omega arith) refl
+whole (d ∷ ds) small =
+    whole_at (d == 0) (whole_text ds) (digits_text (d ∷ ds)) (whole ds (λ k e l. small (suc k) e (omega (arith, l)))) (shown (d ∷ ds) small)
+
+point : (ds : List ℕ) → All (λ d. d < 10) ds → AsIs (point_text ds)
+point [] small = refl
+point (d ∷ ds) small = byte 46 (digits_text (d ∷ ds)) (omega arith) (omega arith) (shown (d ∷ ds) small)
+
+sign : (b : Bool) → AsIs (sign_text b)
+sign true = byte 45 [] (omega arith) (omega arith) refl
+sign false = refl
+
+taken : (n : ℕ) (ds : List ℕ) → All (λ d. d < 10) ds → All (λ d. d < 10) (take n ds)
+taken n ds small = grind (arith, common_steps)
+
+dropped : (n : ℕ) (ds : List ℕ) → All (λ d. d < 10) ds → All (λ d. d < 10) (drop n ds)
+dropped n ds small = grind (arith, common_steps)
+
+digits_small : (width n : ℕ) → All (λ d. d < 10) (digits_of width n)
+digits_small zero n k d l = absurd (omega (arith, l))
+digits_small (suc width) n zero d l = omega arith
+digits_small (suc width) n (suc k) d l = digits_small width n k d (omega (arith, l))
+
+fraction : (precision n : ℕ) → AsIs (fraction_text precision n)
+fraction precision n = point _ (taken precision _ (digits_small (2 * fraction_len precision) n))
+
+date : (y m d : ℕ) → AsIs (day_text y m d)
+date y m d =
+    both (padded 4 y) _ (padded_number 4 y) (byte 45 _ (omega arith) (omega arith) (both (padded 2 m) _ (padded_number 2 m) (byte 45 _ (omega arith) (omega arith) (padded_number 2 d))))
+
+clock : (hour minute second : ℕ) → AsIs (clock_text hour minute second)
+clock hour minute second =
+    both (padded 2 hour) _ (padded_number 2 hour) (byte 58 _ (omega arith) (omega arith) (both (padded 2 minute) _ (padded_number 2 minute) (byte 58 _ (omega arith) (omega arith) (padded_number 2 second))))
+
+blank : (rest : List ℕ) → AsIs rest → AsIs (32 ∷ rest)
+blank rest is = ap₂ (λ (front back : List ℕ). front ++ back) (escape_byte_plain 32 (λ e. omega (arith, e)) (λ e. omega (arith, e)) (omega arith)) is
+
+-- a string of such a text
+pub quoted_as_is : (text : List ℕ) → AsIs text → quoted text ≡ 34 ∷ (text ++ 34 ∷ [])
+quoted_as_is text is = ap (λ (t : List ℕ). 34 ∷ (t ++ 34 ∷ [])) is
+
+pub quoted_number : (width n : ℕ) → quoted (padded width n) ≡ 34 ∷ (padded width n ++ 34 ∷ [])
+quoted_number width n = quoted_as_is _ (padded_number width n)
+
+pub quoted_decimal : (d : Decimal) → All (λ x. x < 10) d.digits → quoted (decimal_text d) ≡ 34 ∷ (decimal_text d ++ 34 ∷ [])
+quoted_decimal d small =
+    quoted_as_is _ (both (sign_text (is_below_zero d)) _ (sign (is_below_zero d)) (both (whole_text (take (whole_len d) d.digits)) _ (whole _ (taken (whole_len d) d.digits small)) (point _ (dropped (whole_len d) d.digits small))))
+
+pub quoted_date : (d : Date) → quoted (date_text d) ≡ 34 ∷ (date_text d ++ 34 ∷ [])
+quoted_date d = quoted_as_is _ (date d.year d.month d.day)
+
+pub quoted_date_time : (t : DateTime) → quoted (date_time_text t) ≡ 34 ∷ (date_time_text t ++ 34 ∷ [])
+quoted_date_time t =
+    quoted_as_is _ (both (day_text t.year t.month t.day) _ (date t.year t.month t.day) (blank _ (both (clock_text t.hour t.minute t.second) _ (clock t.hour t.minute t.second) (fraction t.precision t.fraction))))
+
+pub quoted_time : (t : Time) → quoted (time_text t) ≡ 34 ∷ (time_text t ++ 34 ∷ [])
+quoted_time t =
+    quoted_as_is _ (both (sign_text t.negative) _ (sign t.negative) (both (clock_text t.hour t.minute t.second) _ (clock t.hour t.minute t.second) (fraction t.precision t.fraction)))
+
+pub quoted_timestamp : (t : Timestamp) → quoted (timestamp_text t) ≡ 34 ∷ (timestamp_text t ++ 34 ∷ [])
+quoted_timestamp t = quoted_as_is _ (both (decimal t.seconds) _ (number t.seconds) (fraction t.precision t.fraction))
+
+-- what stands as it is in front of a text
+pub escape_behind : (front back : List ℕ) → AsIs front → escape (front ++ back) ≡ front ++ escape back
+escape_behind front back is = flat_map-append escape_byte front back ∙ ap (λ (text : List ℕ). text ++ escape back) is
+
+pub escape_at_sign : (text : List ℕ) → escape (64 ∷ text) ≡ 64 ∷ escape text
+escape_at_sign text = ap (λ (sign : List ℕ). sign ++ escape text) (escape_byte_plain 64 (λ e. omega (arith, e)) (λ e. omega (arith, e)) (omega arith))
+
+pub place_as_is : (position count : ℕ) → AsIs (decimal position ++ 46 ∷ decimal count)
+place_as_is position count = both (decimal position) (46 ∷ decimal count) (number position) (byte 46 (decimal count) (omega arith) (omega arith) (number count))
