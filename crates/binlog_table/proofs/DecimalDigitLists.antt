@@ -1,7 +1,11 @@
 -- The digits of decimals, one group after another.
-use Rattle.std.proofs.Common.{◌≡◌, ℕ, zero, suc, ◌+◌, ◌-◌, ◌*◌, ◌/◌, ◌%◌, ◌^◌, ◌<◌, ◌≤◌, true, leb, ltb, cond, List, [], ◌∷◌, ◌++◌, length, drop, Option, Some, None, is_some, refl, sym, ap, ◌∙◌, append_assoc, append-nil, arith}
+use Rattle.std.proofs.Common.{◌≡◌, ℕ, zero, suc, ◌+◌, ◌-◌, ◌*◌, ◌/◌, ◌%◌, ◌^◌, ◌<◌, ◌≤◌, true, leb, ltb, cond, List, [], ◌∷◌, ◌++◌, length, take, drop, set, Option, Some, None, is_some, refl, sym, ap, ◌∙◌, append_assoc, append-nil, arith}
 use Rattle.std.specs.Prelude.{unwrap_or}
-use Rattle.std.proofs.lemmas.List.{length-append}
+use Rattle.std.specs.List.{All}
+use Rattle.std.proofs.Math.Seq.{take-add}
+use Rattle.std.proofs.lemmas.List.{length-append, drop-set}
+use Rattle.std.proofs.lemmas.List.Elements.{All-cons}
+use native.Mathlib.Nat.{div-div-eq-div-mul, pow-suc}
 use Rattle.byteorder.specs.Endian.{big_number}
 use Rattle.binlog_table.specs.Decimal.{◌>>=◌, digits_of, group_len, group_at, nines_at, digits_at, appended}
 use Rattle.binlog_table.proofs.Extents.{guarded, some_is}
@@ -61,16 +65,35 @@ shown-length p s bytes le some = by_read (digits_at p s bytes) (λ ds e. digits_
     by_read None h some = absurd cc
     by_read (Some ds) h some = h ds refl
 
--- ---- one digit more
+-- ---- one digit more, in front of those that are written
 
-pub digits_of-more : (before all : List ℕ) (len place n d : ℕ) → place < len → d ≡ n / 10 ^ (len - 1 - place) % 10 → before ++ digits_of (len - place) n ≡ all
-    → (before ++ d ∷ []) ++ digits_of (len - (place + 1)) n ≡ all
-digits_of-more before all len place n d lt is so_far =
-    let k : len - place ≡ suc (len - (place + 1)) = omega arith in
-    let j : len - 1 - place ≡ len - (place + 1) = omega arith in
-    let first : d ≡ n / 10 ^ (len - (place + 1)) % 10 = is ∙ ap (λ e. n / 10 ^ e % 10) j in
-    let one : before ++ digits_of (len - place) n ≡ before ++ (d ∷ digits_of (len - (place + 1)) n) = rw (k, first) refl in
-    append_assoc before (d ∷ []) (digits_of (len - (place + 1)) n) ∙ sym one ∙ so_far
+module _ (digits : List ℕ) (start place len number left : ℕ) (some : 0 < place) (few : place ≤ len) (room : start + len ≤ length digits) (left_is : left ≡ number / 10 ^ (len - place)) where
+  pub left-next : left / 10 ≡ number / 10 ^ (len - (place - 1))
+  left-next =
+      let count : suc (len - place) ≡ len - (place - 1) = omega arith in
+      ap (λ (n : ℕ). n / 10) left_is ∙ div-div-eq-div-mul number (10 ^ (len - place)) 10 ∙ ap (λ (n : ℕ). number / n) (sym (pow-suc 10 (len - place))) ∙ ap (λ (e : ℕ). number / 10 ^ e) count
+
+  pub digit-before : take (len - place) (drop (start + place) digits) ≡ digits_of (len - place) number
+      → take (len - (place - 1)) (drop (start + (place - 1)) (set digits (start + (place - 1)) (left % 10))) ≡ digits_of (len - (place - 1)) number
+  digit-before written =
+      let i = start + (place - 1) in
+      let count : len - (place - 1) ≡ suc (len - place) = omega arith in
+      let next : i + 1 ≡ start + place = omega arith in
+      let here : drop i (set digits i (left % 10)) ≡ left % 10 ∷ drop (start + place) digits = drop-set digits i (left % 10) (omega arith) ∙ ap (λ (j : ℕ). left % 10 ∷ drop j digits) next in
+      let first : left % 10 ≡ number / 10 ^ (len - place) % 10 = ap (λ (n : ℕ). n % 10) left_is in
+      rw (count, here) (ap (λ (ds : List ℕ). left % 10 ∷ ds) written ∙ ap (λ (d : ℕ). d ∷ digits_of (len - place) number) first)
+
+pub digits-written : (digits old : List ℕ) (start place len number : ℕ) → place ≤ 0 → take start digits ≡ take start old → take (len - place) (drop (start + place) digits) ≡ digits_of (len - place) number
+    → take (start + len) digits ≡ take start old ++ digits_of len number
+digits-written digits old start place len number none before written =
+    let count : len - place ≡ len = omega arith in
+    let first : start + place ≡ start = omega arith in
+    let all : take len (drop start digits) ≡ digits_of len number = rw (count, first) at written in
+    take-add start len digits ∙ ap (λ (ds : List ℕ). ds ++ take len (drop start digits)) before ∙ ap (λ (ds : List ℕ). take start old ++ ds) all
+
+pub digits_of-small : (d n : ℕ) → All (λ x. x < 10) (digits_of d n)
+digits_of-small zero n = λ k e lt. absurd (omega arith)
+digits_of-small (suc d) n = All-cons (λ x. x < 10) (n / 10 ^ d % 10) (digits_of d n) (omega arith) (digits_of-small d n)
 
 -- ---- one group more
 

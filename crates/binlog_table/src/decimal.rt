@@ -1,9 +1,9 @@
 //! Decimals: groups of digits, the highest first.
-ghost use Rattle.std.specs.Prelude.{◌≡◌, ◌≤◌, ◌<◌, ◌^◌, ◌+◌, ◌-◌, ◌*◌, ◌%◌, ◌/◌, ◌++◌, length, take, map, option_map, is_some, true, Some, IfSome};
+ghost use Rattle.std.specs.Prelude.{◌≡◌, ◌≤◌, ◌<◌, ◌^◌, ◌+◌, ◌*◌, length, drop, option_map, is_some, true, Some, IfSome};
 ghost use Rattle.byteorder.specs.Endian.{big_number};
 ghost use Rattle.binlog_table.specs.DecimalShown.{decimal_view};
 ghost use Rattle.binlog_table.specs.Value.{view, decimal};
-ghost use Rattle.binlog_table.specs.Decimal.{plain, group_len, group_at, nines_at, digits_at, digits_of, after_group, after_nines, after_digits, plain_byte, appended, both, decimal_len, decimal_of};
+ghost use Rattle.binlog_table.specs.Decimal.{plain, group_len, group_at, nines_at, digits_at, digits_of, after_group, after_nines, after_digits, appended, both, decimal_len, decimal_of};
 
 use crate::cell::Cell;
 use crate::column::DecimalSize;
@@ -12,6 +12,7 @@ use crate::digits::Digits;
 use crate::number::big;
 
 /// How many bytes a group of digits takes.
+#[inline(always)]
 fn group_len(digits: usize) -> usize
     requires { digits ≤ 9 }
     ensures value { result ≡ group_len digits }
@@ -32,6 +33,7 @@ pub(crate) fn decimal_len(size: DecimalSize) -> usize
 }
 
 /// The first number that has more digits.
+#[inline(always)]
 fn limit(digits: usize) -> u64
     requires { digits ≤ 9 }
     ensures value { result ≡ 10 ^ digits }
@@ -51,93 +53,114 @@ fn limit(digits: usize) -> u64
     }
 }
 
-/// The number of the group at the front, and the bytes after it.
+/// How many numbers so many bytes spell.
+#[inline(always)]
+fn spelled(width: usize) -> u64
+    requires { width ≤ 4 }
+    ensures { result ≡ 256 ^ width }
+{
+    match width {
+        0 => 1,
+        1 => 0x100,
+        2 => 0x1_0000,
+        3 => 0x100_0000,
+        _ => 0x1_0000_0000,
+    }
+}
+
+/// The number that so many plain bytes spell at a place of a decimal's text.
+#[inline(always)]
+fn number_at(text: &[u8], at: usize, width: usize) -> u64
+    requires some { 1 ≤ width }
+    requires few { width ≤ 4 }
+    requires room { at + width ≤ length text.now }
+    ensures { result ≡ big_number width (drop at (plain text.now)) }
+{
+    let count = spelled(width);
+    let stored = big(&text[at..], width);
+    let number = if text[0] < 128 {
+        count - 1 - stored
+    } else {
+        stored
+    };
+    if at == 0 { number - count / 2 } else { number }
+}
+
+/// The number of the group at a place of a decimal's text.
+#[inline(always)]
 #[tactic(auto, unfolding(crate::specs::Decimal::group_at))]
-fn group_at(len: usize, bytes: &[u8]) -> Option<(u64, &[u8])>
-    requires { len ≤ 9 }
-    ensures { option_map (λ x. (digits_of len x.0, x.1.now)) result ≡ group_at len bytes.now }
+fn group_at(text: &[u8], at: usize, len: usize) -> Option<u64>
+    requires few { len ≤ 9 }
+    requires place { at ≤ length text.now }
+    ensures value { option_map (λ n. (digits_of len n, drop (at + group_len len) (plain text.now))) result ≡ group_at len (drop at (plain text.now)) }
+    ensures within { IfSome result (λ _. at + group_len len ≤ length text.now) }
 {
     let width = group_len(len);
-    if width > bytes.len() {
+    if width > text.len() - at {
         return None;
     }
     if width == 0 {
-        return Some((0, bytes));
+        return Some(0);
     }
-    let number = big(bytes, width);
-    if number >= limit(len) {
-        return None;
+    let number = number_at(text, at, width);
+    if number < limit(len) {
+        Some(number)
+    } else {
+        None
     }
-    Some((number, &bytes[width..]))
 }
 
-/// The bytes after a group.
+/// The place after a group.
+#[inline(always)]
 #[tactic(auto, unfolding(crate::specs::Decimal::after_group))]
-fn after_group(len: usize, bytes: &[u8]) -> Option<&[u8]>
-    requires { len ≤ 9 }
-    ensures { option_map (λ x. x.now) result ≡ after_group len bytes.now }
+fn after_group(text: &[u8], at: usize, len: usize) -> Option<usize>
+    requires few { len ≤ 9 }
+    requires place { at ≤ length text.now }
+    ensures value { option_map (λ end. drop end (plain text.now)) result ≡ after_group len (drop at (plain text.now)) }
+    ensures within { IfSome result (λ end. end ≤ length text.now) }
 {
-    let (_, rest) = group_at(len, bytes)?;
-    Some(rest)
+    let _number = group_at(text, at, len)?;
+    Some(at + group_len(len))
 }
 
-/// The bytes after so many groups of nine.
-fn after_nines(count: usize, bytes: &[u8]) -> Option<&[u8]>
-    ensures { option_map (λ x. x.now) result ≡ after_nines count bytes.now }
+/// The place after so many groups of nine.
+#[inline(always)]
+fn after_nines(text: &[u8], start: usize, count: usize) -> Option<usize>
+    requires { start ≤ length text.now }
+    ensures value { option_map (λ end. drop end (plain text.now)) result ≡ after_nines count (drop start (plain text.now)) }
+    ensures within { IfSome result (λ end. end ≤ length text.now) }
 {
-    let mut rest = bytes;
+    let mut at = start;
     for _ in 0..count {
-        rest = after_group(9, rest)?;
+        at = after_group(text, at, 9)?;
     }
-    Some(rest)
+    Some(at)
 }
 
-/// The bytes after all groups.
+/// The place after all groups.
 #[tactic(auto, unfolding(crate::specs::Decimal::after_digits))]
-fn after_digits(size: DecimalSize, bytes: &[u8]) -> Option<&[u8]>
-    ensures { option_map (λ x. x.now) result ≡ after_digits size.precision size.scale bytes.now }
+fn after_digits(size: DecimalSize, text: &[u8]) -> Option<usize>
+    ensures { option_map (λ end. drop end (plain text.now)) result ≡ after_digits size.precision size.scale (plain text.now) }
 {
     let scale = usize::from(size.scale);
     let whole = usize::from(size.precision) - scale;
-    let Some(rest) = after_group(whole % 9, bytes) else {
+    let Some(at) = after_group(text, 0, whole % 9) else {
         return None;
     };
-    let Some(rest) = after_nines(whole / 9, rest) else {
+    let Some(at) = after_nines(text, at, whole / 9) else {
         return None;
     };
-    let Some(rest) = after_nines(scale / 9, rest) else {
+    let Some(at) = after_nines(text, at, scale / 9) else {
         return None;
     };
-    after_group(scale % 9, rest)
+    after_group(text, at, scale % 9)
 }
 
-/// Whether plain bytes have all digits.
-fn has_digits(size: DecimalSize, bytes: &[u8]) -> bool
-    ensures { result ≡ is_some (digits_at size.precision size.scale bytes.now) }
+/// Whether a text has all digits.
+fn has_digits(size: DecimalSize, text: &[u8]) -> bool
+    ensures { result ≡ is_some (digits_at size.precision size.scale (plain text.now)) }
 {
-    after_digits(size, bytes).is_some()
-}
-
-/// A byte, complemented in a negative number.
-fn plain_byte(negative: bool, byte: u8) -> u8
-    ensures { result ≡ plain_byte negative byte }
-{
-    if negative { 255 - byte } else { byte }
-}
-
-/// The plain bytes of a decimal, at the front of a buffer.
-pub(crate) fn plain(text: &[u8]) -> [u8; 36]
-    requires some { 0 < length text.now }
-    requires room { length text.now ≤ 36 }
-    ensures { take (length text.now) result ≡ plain text.now }
-{
-    let mut bytes = [0; 36];
-    let negative = text[0] < 128;
-    bytes[0] = plain_byte(negative, text[0]) - 128;
-    for place in 1..text.len() {
-        bytes[place] = plain_byte(negative, text[place]);
-    }
-    bytes
+    after_digits(size, text).is_some()
 }
 
 /// The decimal that the bytes spell, where they spell one.
@@ -146,9 +169,7 @@ pub(crate) fn decimal_of(size: DecimalSize, text: &[u8]) -> Option<Cell<'_>>
     requires { length text.now ≡ decimal_len size.precision size.scale }
     ensures { option_map view result ≡ option_map decimal (decimal_of size.precision size.scale text.now) }
 {
-    let len = decimal_len(size);
-    let bytes = plain(text);
-    if has_digits(size, &bytes[..len]) {
+    if has_digits(size, text) {
         Some(Cell::Decimal(DecimalView {
             text,
             precision: size.precision,
@@ -173,63 +194,56 @@ pub(crate) fn known_decimal(size: DecimalSize, text: &[u8]) -> DecimalView<'_>
     }
 }
 
-/// Appends the digits of a group's number.
-fn push_group(digits: &mut Digits, len: usize, number: u64)
+/// Appends the digits of the group at a place of a decimal's text, and gives the place after it.
+#[inline(always)]
+fn push_group(digits: &mut Digits, text: &[u8], at: usize, len: usize) -> Option<usize>
     requires few { len ≤ 9 }
     requires room { length digits.old + len ≤ 65 }
-    ensures digits { digits.new ≡ digits.old ++ digits_of len number }
-    ensures len { length digits.new ≡ length digits.old + len }
-{
-    for place in 0..len {
-        let digit = number / limit(len - 1 - place) % 10;
-        digits.push(digit as u8);
-    }
-}
-
-/// Appends the digits of the group at the front, and gives the bytes after it.
-fn push_group_at<'a>(digits: &mut Digits, len: usize, bytes: &'a [u8]) -> Option<&'a [u8]>
-    requires few { len ≤ 9 }
-    requires room { length digits.old + len ≤ 65 }
-    ensures digits { option_map (λ r. both digits.new r.now) result ≡ appended digits.old (group_at len bytes.now) }
+    requires place { at ≤ length text.now }
+    ensures digits { option_map (λ end. both digits.new (drop end (plain text.now))) result ≡ appended digits.old (group_at len (drop at (plain text.now))) }
     ensures len { IfSome result (λ _. length digits.new ≡ length digits.old + len) }
+    ensures within { IfSome result (λ end. end ≤ length text.now) }
 {
-    let (number, rest) = group_at(len, bytes)?;
-    push_group(digits, len, number);
-    Some(rest)
+    let number = group_at(text, at, len)?;
+    digits.push_number(len, number);
+    Some(at + group_len(len))
 }
 
-/// Appends the digits of so many groups of nine, and gives the bytes after them.
-fn push_nines_at<'a>(digits: &mut Digits, count: usize, bytes: &'a [u8]) -> Option<&'a [u8]>
-    requires { length digits.old + 9 * count ≤ 65 }
-    ensures digits { option_map (λ r. both digits.new r.now) result ≡ appended digits.old (nines_at count bytes.now) }
+/// Appends the digits of so many groups of nine, and gives the place after them.
+#[inline(always)]
+fn push_nines(digits: &mut Digits, text: &[u8], start: usize, count: usize) -> Option<usize>
+    requires room { length digits.old + 9 * count ≤ 65 }
+    requires place { start ≤ length text.now }
+    ensures digits { option_map (λ end. both digits.new (drop end (plain text.now))) result ≡ appended digits.old (nines_at count (drop start (plain text.now))) }
     ensures len { IfSome result (λ _. length digits.new ≡ length digits.old + 9 * count) }
+    ensures within { IfSome result (λ end. end ≤ length text.now) }
 {
-    let mut rest = bytes;
+    let mut at = start;
     for _ in 0..count {
-        rest = push_group_at(digits, 9, rest)?;
+        at = push_group(digits, text, at, 9)?;
     }
-    Some(rest)
+    Some(at)
 }
 
-/// The digits of plain bytes.
+/// The digits of a decimal's text.
 #[tactic(auto, unfolding(crate::specs::Decimal::digits_at))]
-pub(crate) fn digits_of(size: DecimalSize, bytes: &[u8]) -> Option<Digits>
-    ensures digits { result ≡ digits_at size.precision size.scale bytes.now }
+pub(crate) fn digits_of(size: DecimalSize, text: &[u8]) -> Option<Digits>
+    ensures digits { result ≡ digits_at size.precision size.scale (plain text.now) }
     ensures count { IfSome result (λ d. length d ≡ size.precision) }
 {
     let scale = usize::from(size.scale);
     let whole = usize::from(size.precision) - scale;
     let mut digits = Digits::new();
-    let Some(rest) = push_group_at(&mut digits, whole % 9, bytes) else {
+    let Some(at) = push_group(&mut digits, text, 0, whole % 9) else {
         return None;
     };
-    let Some(rest) = push_nines_at(&mut digits, whole / 9, rest) else {
+    let Some(at) = push_nines(&mut digits, text, at, whole / 9) else {
         return None;
     };
-    let Some(rest) = push_nines_at(&mut digits, scale / 9, rest) else {
+    let Some(at) = push_nines(&mut digits, text, at, scale / 9) else {
         return None;
     };
-    match push_group_at(&mut digits, scale % 9, rest) {
+    match push_group(&mut digits, text, at, scale % 9) {
         Some(_) => Some(digits),
         None => None,
     }

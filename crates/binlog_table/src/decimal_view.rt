@@ -4,7 +4,7 @@ ghost use Rattle.binlog_table.specs.Decimal.{decimal_len, digits_at, plain};
 ghost use Rattle.binlog_table.specs.DecimalDigits.{IsInRange};
 
 use crate::column::DecimalSize;
-use crate::decimal::{digits_of, plain};
+use crate::decimal::digits_of;
 use crate::digits::Digits;
 
 /// A decimal where it lies in a body: its sign, its digits, and how many of them stand after the point.
@@ -40,11 +40,10 @@ impl<'a> DecimalView<'a> {
     pub fn digits(&self) -> Digits
         ensures { result ≡ (decimal_view self.now).digits }
     {
-        let bytes = plain(self.text);
         let size = DecimalSize {
             precision: self.precision,
             scale: self.scale,
         };
-        digits_of(size, &bytes[..self.text.len()]).unwrap()
+        digits_of(size, self.text).unwrap()
     }
 }

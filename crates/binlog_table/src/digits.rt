@@ -1,6 +1,7 @@
 //! The digits of a decimal.
-ghost use Rattle.std.specs.Prelude.{◌≡◌, ◌<◌, ◌≤◌, ◌+◌, ◌++◌, [], ◌∷◌, length};
+ghost use Rattle.std.specs.Prelude.{◌≡◌, ◌<◌, ◌≤◌, ◌+◌, ◌++◌, [], length, take};
 ghost use Rattle.std.specs.List.{All};
+ghost use Rattle.binlog_table.specs.Decimal.{digits_of};
 
 use std::marker::Model;
 
@@ -22,6 +23,21 @@ impl Model for Digits {
     ghost invariant = { λ d. (d.len ≤ 65) × All (λ x. x < 10) (take d.len d.digits) };
 }
 
+/// Writes the last digits of a number from a place on.
+#[inline(always)]
+fn write_digits(digits: &mut [u8; 65], start: usize, len: usize, number: u64)
+    requires { start + len ≤ 65 }
+    ensures { take (start + len) digits.new ≡ take start digits.old ++ digits_of len number }
+{
+    let mut left = number;
+    let mut place = len;
+    while place > 0 {
+        place -= 1;
+        digits[start + place] = (left % 10) as u8;
+        left /= 10;
+    }
+}
+
 impl Digits {
     /// No digits.
     pub(crate) fn new() -> Digits
@@ -33,14 +49,14 @@ impl Digits {
         }
     }
 
-    /// Appends a digit.
-    pub(crate) fn push(&mut self, digit: u8)
-        requires room { length self.old < 65 }
-        requires small { digit < 10 }
-        ensures { self.new ≡ self.old ++ digit ∷ [] }
+    /// Appends the last digits of a number.
+    #[inline(always)]
+    pub(crate) fn push_number(&mut self, len: usize, number: u64)
+        requires { length self.old + len ≤ 65 }
+        ensures { self.new ≡ self.old ++ digits_of len number }
     {
-        self.digits[self.len] = digit;
-        self.len += 1;
+        write_digits(&mut self.digits, self.len, len, number);
+        self.len += len;
     }
 
     /// The digits, the highest first.
