@@ -16,6 +16,7 @@ pub(crate) enum Extent {
 }
 
 /// How many bytes a fraction of a second takes.
+#[inline(always)]
 pub(crate) fn fraction_len(precision: Precision) -> usize
     ensures value { result ≡ fraction_len precision }
     ensures short { result ≤ 3 }
@@ -24,6 +25,7 @@ pub(crate) fn fraction_len(precision: Precision) -> usize
 }
 
 /// Where the values of a layout end.
+#[inline(always)]
 pub(crate) fn extent_of(layout: &Layout) -> Extent
     ensures { result ≡ extent_of layout.now }
 {
@@ -45,6 +47,7 @@ pub(crate) fn extent_of(layout: &Layout) -> Extent
 }
 
 /// How many of the bytes the text at the front takes.
+#[inline(always)]
 #[tactic(auto, unfolding(crate::specs::Extent::extent_len))]
 pub(crate) fn extent_len(extent: Extent, bytes: &[u8]) -> Option<usize>
     ensures value { result ≡ extent_len extent bytes.now }
