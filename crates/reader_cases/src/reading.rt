@@ -185,7 +185,7 @@ fn is_offered(layer: Layer, way: &str, options: &[String]) -> bool {
     let takes_options = matches!(layer, Layer::Feed | Layer::Looks);
     let has_way = match way {
         "back" => matches!(layer, Layer::Frames(_)),
-        "each-turn" | "opened" => matches!(layer, Layer::Feed),
+        "each-turn" | "each-turn-once" | "opened" => matches!(layer, Layer::Feed),
         "each-cut" => !matches!(layer, Layer::Looks),
         _ => true,
     };

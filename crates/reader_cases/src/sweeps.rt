@@ -39,7 +39,8 @@ fn sweep_from(
         "each-read" => each_read(alloc, case, reading, false),
         "each-short" => each_read(alloc, case, reading, true),
         "each-cut" => each_cut(alloc, case, reading, whole),
-        "each-turn" => each_turn(alloc, case, reading, whole),
+        "each-turn" => each_turn(alloc, case, reading, whole, true),
+        "each-turn-once" => each_turn(alloc, case, reading, whole, false),
         _ => Err(Refused::UnknownWord),
     }
 }
@@ -209,13 +210,14 @@ fn is_beginning(told: &Told, whole: &Told) -> bool {
         && (ends == "end\n" || ends.starts_with("log fault "))
 }
 
-/// Lets a feed's reads turn to other bytes, each in turn being the first that does. Some of those runs find that the source has
-/// changed.
+/// Lets a feed's reads turn to other bytes, each in turn being the first that does. Where something is read twice, some of those
+/// runs find that the source has changed, and else none.
 fn each_turn(
     alloc: Global,
     case: &Case,
     reading: Reading<'_>,
     whole: &Told,
+    reads_twice: bool,
 ) -> Result<Verdict, Refused> {
     let mut changed = 0u64;
     for true_reads in 0..MANY_READS {
@@ -232,19 +234,32 @@ fn each_turn(
             reads = told.reads;
         }
         if reads <= true_reads {
-            return turned(alloc, true_reads, changed);
+            return turned(alloc, true_reads, changed != 0, reads_twice);
         }
     }
     Err(Refused::BadPart)
 }
 
-/// So many reads turned; a sweep in which no change of the source was found differs.
-fn turned(alloc: Global, reads: u64, changed: u64) -> Result<Verdict, Refused> {
-    if changed == 0 {
-        let came = String::from_str(alloc, "no change of the source was found\n")?;
+/// So many reads turned. A sweep differs that finds no change of the source where one is wanted, or one where none is.
+fn turned(
+    alloc: Global,
+    reads: u64,
+    found_change: bool,
+    wants_change: bool,
+) -> Result<Verdict, Refused> {
+    if found_change != wants_change {
+        let came = String::from_str(alloc, found_text(found_change))?;
         return Ok(Verdict::Differs { came });
     }
     Ok(Verdict::Well {
         runs: reads.saturating_mul(2),
     })
+}
+
+fn found_text(found_change: bool) -> &'static str {
+    if found_change {
+        "a change of the source was found\n"
+    } else {
+        "no change of the source was found\n"
+    }
 }
