@@ -2,10 +2,10 @@
 use Rattle.std.specs.Prelude.{◌≡◌, ℕ, List, [], ◌∷◌, ◌++◌, take, map, Option, Some, None, Bool, true, codes}
 use Rattle.binlog_select.specs.declared.kind.ChangeKind.TheVariants.{Insert}
 use Rattle.binlog_select.specs.declared.token.Token.{Token}
-use Rattle.binlog_feed.specs.Story.{LogFile}
+use Rattle.binlog_feed.specs.Parsing.{LogFile}
 use Rattle.binlog_feed.specs.Changes.{RowChange}
 use Rattle.binlog_feed.specs.Continues.{Continues}
-use Rattle.binlog_feed.specs.FeedLaws.{fed_apart}
+use Rattle.binlog_feed.specs.FeedLaws.{changes_read_apart}
 use Rattle.binlog_feed.specs.Tokens.{Judgement, judge, rest, end_after}
 use Rattle.binlog_feed.specs.Tokens.Judgement.{NoFile, Fits, NoChange, Faulty, NoTransaction}
 use Rattle.binlog_feed.specs.declared.fault.LogFault.{LogFault}
@@ -170,7 +170,7 @@ FaultInEarlier =
 
 -- what files come to, each by itself
 abbrev pub ComeApartTo : List LogFile → List Brief → Option LogFault → Type 0
-ComeApartTo files those end = (map brief (fed_apart (λ change. true) 0 files).changes ≡ those) × ((fed_apart (λ change. true) 0 files).end ≡ end)
+ComeApartTo files those end = (map brief (changes_read_apart (λ change. true) 0 files).changes ≡ those) × ((changes_read_apart (λ change. true) 0 files).end ≡ end)
 
 -- a fault has the number of its file in the list, and ends what comes: also one of a ROTATE, by the next one's name
 abbrev pub FilesApart : Type 0

@@ -7,7 +7,7 @@ use Rattle.binlog_frame.specs.declared.files.FileLogs.{FileLogs}
 use Rattle.binlog_frame.specs.FileLogs.{names_of, contents_of, is_honest, failures_of}
 use Rattle.binlog_frame.specs.Files.{AreLastParts, RefusesOne}
 use Rattle.binlog_feed.specs.Starts.{judge_start}
-use Rattle.binlog_feed.specs.Story.{files_of}
+use Rattle.binlog_feed.specs.Parsing.{files_of}
 use Rattle.binlog_feed.specs.Tokens.{Judgement}
 use Rattle.binlog_feed.specs.Tokens.Judgement.{Fits}
 use Rattle.binlogfeed.specs.Faults.{status_of, IsNamed}
