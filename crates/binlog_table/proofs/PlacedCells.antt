@@ -1,12 +1,15 @@
 -- The places of an image's cells, one after another.
-use Rattle.std.proofs.Common.{◌≡◌, ℕ, zero, suc, ◌+◌, ◌-◌, ◌<◌, ◌≤◌, true, false, cond, List, [], ◌∷◌, length, length-drop, get_or, take, drop, Option, Some, None, slice_get, option_and_then, option_map, refl, sym, ap, subst, ◌∙◌, arith}
+use Rattle.std.proofs.Common.{◌≡◌, ℕ, zero, suc, ◌+◌, ◌-◌, ◌<◌, ◌≤◌, Bool, true, false, cond, leb, List, [], ◌∷◌, length, length-drop, get_or, take, drop, Option, Some, None, slice_get, option_and_then, option_map, refl, sym, ap, subst, ◌∙◌, arith}
 use Rattle.std.proofs.lemmas.List.{at_drop_more, at_drop_all, drop-drop}
 use Rattle.binlog_table.specs.declared.column.Column.{Column}
 use Rattle.binlog_table.specs.declared.cell_places.CellPlace.{CellPlace}
 use Rattle.binlog_table.specs.Extent.{HasExtent, extent_of, extent_len}
 use Rattle.binlog_table.specs.Value.{Content, absent, null, value_of}
-use Rattle.binlog_table.specs.Image.{bit, value_at, cell_at, cells_at, cells_of, after_cell, IsRead}
-use Rattle.binlog_table.specs.CellPlaces.{content_in, read_from, cells_from, IsPlace, ArePlaces, Fits}
+use Rattle.binlog_table.specs.declared.rows_head.Part.{Part}
+use Rattle.binlog_table.specs.Image.{bit, value_at, cell_at, cells_at, image_at, nulls_len, cells_of, after_cell, IsRead}
+use Rattle.binlog_table.specs.Rows.{image_in}
+use Rattle.binlog_table.specs.RowsBody.{part_of}
+use Rattle.binlog_table.specs.CellPlaces.{content_in, read_from, cells_from, IsPlace, ArePlaces, Fits, HasPlaces}
 use Rattle.binlog_table.proofs.CellWalk.{cells-turn}
 use Rattle.binlog_table.proofs.Extents.{some_is, extent_len-found}
 
@@ -130,3 +133,29 @@ absent_is column values place e = rw e refl
 pub null_is : (column : Column) (values : List ℕ) (place : CellPlace) → place.is_present ≡ true → place.is_null ≡ true → content_in (read_from column values place) ≡ null
 unfolding cell_at
 null_is column values place e n = rw (e, n) refl
+
+-- an image whose places were noted has the cells that stand there
+pub image_placed : (columns : List Column) (body : List ℕ) (bitmap : Part) (place : ℕ) (places : List CellPlace) → IsRead (image_in columns body bitmap place) → HasPlaces columns body bitmap place places
+    → cells_from columns body places ≡ cells_of (image_in columns body bitmap place)
+unfolding image_at
+image_placed columns body bitmap place places read h = by_test (leb n (length bytes)) refl read
+  where
+    bytes : List ℕ
+    bytes = drop place body
+
+    n : ℕ
+    n = nulls_len (part_of body bitmap) (length columns)
+
+    cells : Option (List Content × ℕ)
+    cells = cells_at columns (part_of body bitmap) (take n bytes) 0 0 (drop n bytes)
+
+    moved : cells_of cells ≡ cells_from columns body places
+    moved = ap (λ (b : List ℕ). cells_of (cells_at columns (part_of body bitmap) (take n bytes) 0 0 b)) (drop-drop n place body) ∙ h.same
+
+    mapped : (o : Option (List Content × ℕ)) → cells_of (option_map (λ x. (x.0, n + x.1)) o) ≡ cells_of o
+    mapped None = refl
+    mapped (Some x) = refl
+
+    by_test : (b : Bool) → b ≡ b → IsRead (cond b (option_map (λ x. (x.0, n + x.1)) cells) None) → cells_from columns body places ≡ cells_of (cond b (option_map (λ x. (x.0, n + x.1)) cells) None)
+    by_test true same r = sym (mapped cells ∙ moved)
+    by_test false same r = absurd cc

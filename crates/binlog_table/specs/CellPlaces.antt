@@ -1,9 +1,14 @@
 -- Where the cells of an image lie.
-use Rattle.std.specs.Prelude.{◌≡◌, ℕ, ◌+◌, ◌≤◌, List, [], ◌∷◌, length, drop, Option, Some, None, ⊤}
+use Rattle.std.specs.Prelude.{◌≡◌, ℕ, ◌+◌, ◌≤◌, List, [], ◌∷◌, length, take, drop, Option, Some, None, IfSome, ⊤}
 use Rattle.binlog_table.specs.declared.column.Column.{Column}
 use Rattle.binlog_table.specs.declared.cell_places.CellPlace.{CellPlace}
+use Rattle.binlog_table.specs.declared.placed_rows.RowPlaces.{RowPlaces}
+use Rattle.binlog_table.specs.declared.rows.RowSpan.{RowSpan}
+use Rattle.binlog_table.specs.declared.rows_head.Part.{Part}
+use Rattle.binlog_table.specs.declared.rows_head.RowsHead.{RowsHead}
+use Rattle.binlog_table.specs.RowsBody.{part_of}
 use Rattle.binlog_table.specs.Value.{Content, null}
-use Rattle.binlog_table.specs.Image.{cell_at, cells_at, cells_of}
+use Rattle.binlog_table.specs.Image.{cell_at, cells_at, cells_of, nulls_len}
 
 abbrev pub content_in : Option (Content × ℕ) → Content
 content_in None = null
@@ -36,3 +41,14 @@ ArePlaces (column ∷ columns) values (place ∷ places) = IsPlace column values
 pub record Fits (columns : List Column) (present nulls : List ℕ) (i k start : ℕ) (values : List ℕ) (places : List CellPlace) : Type 0 where
   pub are : ArePlaces columns values places
   pub same : cells_of (cells_at columns present nulls i k (drop start values)) ≡ cells_from columns values places
+
+-- the places are those of the cells of an image at a place of a body, under the bitmap of its present columns there
+abbrev pub HasPlaces : List Column → List ℕ → Part → ℕ → List CellPlace → Type 0
+HasPlaces columns body bitmap place places =
+    let n = nulls_len (part_of body bitmap) (length columns) in
+    Fits columns (part_of body bitmap) (take n (drop place body)) 0 0 (place + n) body places
+
+-- The places are those of the cells of a row at a span, image by image.
+pub record HavePlaces (head : RowsHead) (columns : List Column) (body : List ℕ) (span : RowSpan) (places : RowPlaces) : Type 0 where
+  pub before : IfSome head.before (λ p. HasPlaces columns body p span.before places.before.items)
+  pub after : IfSome head.after (λ p. HasPlaces columns body p span.after places.after.items)

@@ -1,5 +1,5 @@
 //! Where the cells of an image lie, found in one walk, so that they can be read in any order.
-ghost use Rattle.std.specs.Prelude.{◌≡◌, ◌≤◌, ◌+◌, ℕ, length, Some, IsSome, IfSome, OnOk};
+ghost use Rattle.std.specs.Prelude.{◌≡◌, ◌≤◌, ◌<◌, ◌+◌, ℕ, length, drop, slice_index_or, Some, IsSome, IfSome, OnOk};
 ghost use Rattle.binlog_table.specs.Value.{Content, view};
 ghost use Rattle.binlog_table.specs.Image.{cell_at, cells_at, IsRead};
 ghost use Rattle.binlog_table.specs.CellPlaces.{Fits, IsPlace, read_from, content_in};
@@ -7,8 +7,11 @@ ghost use Rattle.binlog_table.specs.CellPlaces.{Fits, IsPlace, read_from, conten
 use crate::cell::Cell;
 use crate::column::Column;
 use crate::extent::{extent_len, extent_of};
-use crate::image::{bit, set_bits};
-use crate::row_view::RowView;
+use crate::image::bit;
+use crate::placed_rows::RowPlaces;
+use crate::row_view::Side;
+use crate::rows::RowSpan;
+use crate::rows_head::{Part, RowsHead};
 use crate::table_map::TableMap;
 use crate::value::known_value;
 use std::alloc::AllocError;
@@ -38,19 +41,21 @@ fn len_of(column: &Column, is_present: bool, is_null: bool, bytes: &[u8]) -> Opt
     extent_len(extent_of(&column.layout), bytes)
 }
 
-/// Finds the places of these columns' cells, which can be read.
-fn find_places(
+/// Finds the places of these columns' cells, which can be read from a place of these bytes on.
+pub(crate) fn find_places(
     columns: &[Column],
     present: &[u8],
     nulls: &[u8],
     values: &[u8],
+    from: usize,
     places: &mut Vec<CellPlace>,
 ) -> Result<(), AllocError>
-    requires { IsRead (cells_at columns.now present.now nulls.now 0 0 values.now) }
-    ensures { OnOk result (Fits columns.now present.now nulls.now 0 0 0 values.now places.new.items) }
+    requires within { from ≤ length values.now }
+    requires read { IsRead (cells_at columns.now present.now nulls.now 0 0 (drop from values.now)) }
+    ensures { OnOk result (Fits columns.now present.now nulls.now 0 0 from values.now places.new.items) }
 {
     places.clear();
-    let mut start = 0;
+    let mut start = from;
     let mut null_place = 0;
     for (place, column) in columns.iter().enumerate() {
         let is_present = bit(present, place);
@@ -87,12 +92,21 @@ fn cell_in<'a>(column: &Column, place: CellPlace, values: &'a [u8]) -> Cell<'a>
     known_value(column, &values[place.start..place.end])
 }
 
-/// An image of a row whose cells are found without a walk. It owns the room of their places, and gives it back.
+/// The place of a column's cell among those of an image.
+#[inline(always)]
+fn place_in(places: &[CellPlace], column: usize) -> CellPlace
+    requires { column < length places.now }
+    ensures { result ≡ slice_index_or places.now column result }
+{
+    places[column]
+}
+
+/// An image of a row whose cells are found without a walk.
 #[derive(Drop)]
 pub struct PlacedRow<'a> {
     map: &'a TableMap,
-    values: &'a [u8],
-    places: Vec<CellPlace>,
+    body: &'a [u8],
+    places: &'a [CellPlace],
 }
 
 impl<'a> Model for PlacedRow<'a> {
@@ -101,30 +115,70 @@ impl<'a> Model for PlacedRow<'a> {
 
     ghost Value = { RowImage };
 
-    ghost view = { λ r. record { table = r.map.now; cells = cells_from r.map.now.columns r.values.now r.places.items } };
+    ghost view = { λ r. record { table = r.map.now; cells = cells_from r.map.now.columns r.body.now r.places.now } };
 
-    ghost invariant = { λ r. ArePlaces r.map.now.columns r.values.now r.places.items };
+    ghost invariant = { λ r. ArePlaces r.map.now.columns r.body.now r.places.now };
 }
 
 impl<'a> PlacedRow<'a> {
-    ghost use Rattle.std.specs.Prelude.{◌≡◌, ◌<◌, length, slice_get, Some, IfOk};
+    ghost use Rattle.std.specs.Prelude.{◌≡◌, ◌<◌, length, slice_get, option_map, Some};
     ghost use Rattle.binlog_table.specs.Value.{view};
+    ghost use Rattle.binlog_table.specs.Image.{cells_of, IsRead};
+    ghost use Rattle.binlog_table.specs.Rows.{image_in, row_of, IsSpan};
+    ghost use Rattle.binlog_table.specs.Side.{image_on};
+    ghost use Rattle.binlog_table.specs.CellPlaces.{HasPlaces, HavePlaces};
 
-    /// An image with the places of its cells, in the room that is given. The only error is a refused growth.
-    #[tactic(auto, unfolding(crate::specs::Image::image_at))]
-    pub fn of(image: &RowView<'a>, room: Vec<CellPlace>) -> Result<PlacedRow<'a>, AllocError>
-        ensures { IfOk result (λ row. row ≡ image.now) }
+    /// The image at a place of a body, under a bitmap that the body has, whose cells' places were noted.
+    #[inline(always)]
+    #[tactic(auto, using(crate::proofs::PlacedCells::image_placed))]
+    fn at(
+        map: &'a TableMap,
+        bitmap: Part,
+        body: &'a [u8],
+        place: usize,
+        places: &'a [CellPlace],
+    ) -> PlacedRow<'a>
+        requires image { IsRead (image_in map.now.columns body.now bitmap place) }
+        requires places { HasPlaces map.now.columns body.now bitmap place places.now }
+        ensures { result ≡ record { table = map.now; cells = cells_of (image_in map.now.columns body.now bitmap place) } }
     {
-        let mut places = room;
-        let columns = image.map.columns();
-        let len = set_bits(image.present, columns.len()).div_ceil(8);
-        let (nulls, values) = image.image.split_at(len);
-        find_places(columns, image.present, nulls, values, &mut places)?;
-        Ok(PlacedRow {
-            map: image.map,
-            values,
-            places,
-        })
+        let _ = (bitmap, place);
+        PlacedRow { map, body, places }
+    }
+
+    /// The image of a row on a side, where the event has one. The places are those that `next_placed_row` noted as it answered the span
+    /// over this map, head and body.
+    #[inline(always)]
+    pub fn of(
+        map: &'a TableMap,
+        head: &RowsHead,
+        body: &'a [u8],
+        span: RowSpan,
+        side: Side,
+        places: &'a RowPlaces,
+    ) -> Option<PlacedRow<'a>>
+        requires span { IsSpan head.now map.now.columns body.now span }
+        requires places { HavePlaces head.now map.now.columns body.now span places.now }
+        ensures { result ≡ option_map (λ cells. record { table = map.now; cells = cells }) (image_on side (row_of head.now map.now.columns body.now span)) }
+    {
+        match side {
+            Side::Before => match head.before {
+                None => None,
+                Some(part) => Some(PlacedRow::at(map, part, body, span.before, places.before.as_slice())),
+            },
+            Side::After => match head.after {
+                None => None,
+                Some(part) => Some(PlacedRow::at(map, part, body, span.after, places.after.as_slice())),
+            },
+        }
+    }
+
+    /// The map of its table.
+    #[inline(always)]
+    pub fn map(&self) -> &'a TableMap
+        ensures { result.now ≡ self.now.table }
+    {
+        self.map
     }
 
     /// The cell of a column, counted from 0.
@@ -133,14 +187,8 @@ impl<'a> PlacedRow<'a> {
         requires { column < length self.now.table.columns }
         ensures { slice_get self.now.cells column ≡ Some (view result) }
     {
-        let place = self.places[column];
+        let place = place_in(self.places, column);
         let columns = self.map.columns();
-        cell_in(&columns[column], place, self.values)
-    }
-
-    /// The room of the places, for the next image.
-    pub fn into_room(self) -> Vec<CellPlace> {
-        let PlacedRow { places, .. } = self;
-        places
+        cell_in(&columns[column], place, self.body)
     }
 }

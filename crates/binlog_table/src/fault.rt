@@ -38,6 +38,26 @@ impl<T: Drop> From<AllocFailed<T>> for MapFault {
     }
 }
 
+/// Why a row was not placed.
+#[derive(Clone, Copy, Debug, PartialEq, Eq, Error)]
+pub enum PlacedRowFault {
+    /// The body of the rows event has no reading under its table map.
+    #[error("the rows event has no reading")]
+    BadRows,
+    #[error("out of memory")]
+    OutOfMemory,
+}
+
+impl From<AllocError> for PlacedRowFault {
+    ghost use Rattle.binlog_table.specs.declared.fault.PlacedRowFault.TheVariants.{OutOfMemory};
+
+    ghost from_gives = { λ _ e. e ≡ OutOfMemory };
+
+    fn from(_e: AllocError) -> PlacedRowFault {
+        PlacedRowFault::OutOfMemory
+    }
+}
+
 /// What a step gave, or its fault as that of the caller. `?` would convert the fault, which is one already, and each
 /// early exit would have two calls more to prove.
 macro_rules! given {

@@ -19,6 +19,7 @@ mod lists;
 mod names;
 mod number;
 mod packed;
+mod placed_rows;
 mod row_view;
 mod rows;
 mod rows_head;
@@ -33,11 +34,12 @@ pub use cell_places::{CellPlace, PlacedRow};
 pub use column::{ByteCount, Column, DecimalSize, EnumSize, Layout, Precision};
 pub use decimal_view::DecimalView;
 pub use digits::Digits;
-pub use fault::{BadRows, MapFault};
+pub use fault::{BadRows, MapFault, PlacedRowFault};
 pub use laws::{
     images_are_read, map_bodies_have_one_reading, map_fields_are_read, rows_are_read,
     rows_bodies_have_one_reading, spellings_are_apart, value_names_are_read,
 };
+pub use placed_rows::{RowPlaces, next_placed_row};
 pub use row_view::{Cells, RowView, Side};
 pub use rows::{RowSpan, next_row};
 pub use rows_head::{Part, RowsHead, rows_table_id};

@@ -10,5 +10,5 @@ invariant-loop-place l = record {
   within : l.start ≤ length l.values;
   nulls : l.null_place ≤ l.place;
   read : IsRead (cells_at (drop l.place l.columns) l.present l.nulls l.place l.null_place (drop l.start l.values));
-  rest : (more : List CellPlace) → Fits (drop l.place l.columns) l.present l.nulls l.place l.null_place l.start l.values more → Fits l.columns l.present l.nulls 0 0 0 l.values (l.places.items ++ more);
+  rest : (more : List CellPlace) → Fits (drop l.place l.columns) l.present l.nulls l.place l.null_place l.start l.values more → Fits l.columns l.present l.nulls 0 0 l.from l.values (l.places.items ++ more);
 }
