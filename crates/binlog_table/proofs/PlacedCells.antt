@@ -9,7 +9,8 @@ use Rattle.binlog_table.specs.declared.rows_head.Part.{Part}
 use Rattle.binlog_table.specs.Image.{bit, value_at, cell_at, cells_at, image_at, nulls_len, cells_of, after_cell, IsRead}
 use Rattle.binlog_table.specs.Rows.{image_in}
 use Rattle.binlog_table.specs.RowsBody.{part_of}
-use Rattle.binlog_table.specs.CellPlaces.{content_in, read_from, cells_from, IsPlace, ArePlaces, Fits, HasPlaces}
+use Rattle.std.specs.Prelude.{IsSome, is_some}
+use Rattle.binlog_table.specs.CellPlaces.{content_in, len_of, read_from, cells_from, IsPlace, ArePlaces, Fits, HasPlaces}
 use Rattle.binlog_table.proofs.CellWalk.{cells-turn}
 use Rattle.binlog_table.proofs.Extents.{some_is, extent_len-found}
 
@@ -45,23 +46,49 @@ pub fits_more : (columns : List Column) (i k start n : ℕ) (present nulls value
     → Fits (drop (i + 1) columns) present nulls (i + 1) (cond (bit present i) (k + 1) k) (start + n) values more
     → Fits (drop i columns) present nulls i k start values (p ∷ more)
 fits_more columns i k start n present nulls values t p more lt is f e1 e2 e3 e4 within len h =
-    let next = cells_at (drop (i + 1) columns) present nulls (i + 1) (cond (bit present i) (k + 1) k) in
     let here : read_from t values p ≡ Some (f.cell, f.len) = rw (e1, e2, e3) f.is in
     let first : drop i columns ≡ t ∷ drop (i + 1) columns = at_drop_more (λ (ts : List Column). ts) columns i t lt ∙ ap (λ (u : Column). u ∷ drop (i + 1) columns) (sym is) in
-    let moved : next (drop f.len (drop start values)) ≡ next (drop (start + n) values) = ap next (drop-drop f.len start values ∙ ap (λ m. drop (start + m) values) (sym len)) in
-    let place : IsPlace t values p = record { cell = f.cell; len = f.len; is = here; ends = omega arith; within = omega arith } in
-    record {
-      are = subst (λ ts. ArePlaces ts values (p ∷ more)) (sym first) (place, h.are);
-      same = ap cells_of (cells-turn columns i present nulls i k t (drop start values) lt is) ∙ f.cells
-          ∙ ap (λ r. f.cell ∷ cells_of r) moved ∙ ap (λ cs. f.cell ∷ cs) h.same
-          ∙ sym (ap (λ r. content_in r ∷ cells_from (drop (i + 1) columns) values more) here) ∙ sym (ap (λ ts. cells_from ts values (p ∷ more)) first);
-    }
+    let len_is : len_of (read_from t values p) ≡ f.len = ap len_of here in
+    let place : IsPlace t values p = (ap is_some here, omega (arith, e3, e4, len, len_is), omega (arith, e4, within)) in
+    let rest = subst (λ m. Fits (drop (i + 1) columns) present nulls (i + 1) (cond (bit present i) (k + 1) k) m values more) (sym e4) h in
+    subst (λ ts. Fits ts present nulls i k start values (p ∷ more)) (sym first) (e1, e2, e3, place, rest)
 
 -- behind the last column nothing is left
 pub fits_none : (columns : List Column) (i k start : ℕ) (present nulls values : List ℕ) → length columns ≤ i → Fits (drop i columns) present nulls i k start values []
-unfolding cells_at
 fits_none columns i k start present nulls values le =
-    subst (λ ts. Fits ts present nulls i k start values []) (sym (at_drop_all (λ (ts : List Column). ts) columns i le)) (record { are = tt; same = refl })
+    subst (λ ts. Fits ts present nulls i k start values []) (sym (at_drop_all (λ (ts : List Column). ts) columns i le)) tt
+
+-- each of the places is one
+pub fits_are : (columns : List Column) (present nulls : List ℕ) (i k start : ℕ) (values : List ℕ) (places : List CellPlace) → Fits columns present nulls i k start values places → ArePlaces columns values places
+fits_are [] present nulls i k start values places h = tt
+fits_are (c ∷ cs) present nulls i k start values [] h = absurd h
+fits_are (c ∷ cs) present nulls i k start values (p ∷ ps) h = (h.3, fits_are cs present nulls (i + 1) (cond (bit present i) (k + 1) k) p.end values ps h.4)
+
+-- the cells at the places are those that are read one after another
+cells_first : (cell : Option (Content × ℕ)) (rest : ℕ → Option (List Content × ℕ)) → IsSome cell → IsRead (option_and_then (λ c. after_cell c (rest c.1)) cell)
+    → IsRead (rest (len_of cell)) × (cells_of (option_and_then (λ c. after_cell c (rest c.1)) cell) ≡ content_in cell ∷ cells_of (rest (len_of cell)))
+cells_first None rest h read = absurd cc
+cells_first (Some x) rest h read = after (rest x.1) read
+  where
+    after : (r : Option (List Content × ℕ)) → IsRead (after_cell x r) → IsRead r × (cells_of (after_cell x r) ≡ x.0 ∷ cells_of r)
+    after None g = absurd cc
+    after (Some l) g = (refl, refl)
+
+pub fits_same : (columns : List Column) (present nulls : List ℕ) (i k start : ℕ) (values : List ℕ) (places : List CellPlace) → IsRead (cells_at columns present nulls i k (drop start values)) → Fits columns present nulls i k start values places
+    → cells_of (cells_at columns present nulls i k (drop start values)) ≡ cells_from columns values places
+unfolding cells_at
+fits_same [] present nulls i k start values places read h = refl
+fits_same (c ∷ cs) present nulls i k start values [] read h = absurd h
+fits_same (c ∷ cs) present nulls i k start values (p ∷ ps) read h =
+    let next = cells_at cs present nulls (i + 1) (cond (bit present i) (k + 1) k) in
+    let here : cell_at c (bit present i) (bit nulls k) (drop start values) ≡ read_from c values p = rw (h.0, h.1, h.2) refl in
+    let both = cells_first (cell_at c (bit present i) (bit nulls k) (drop start values)) (λ n. next (drop n (drop start values))) (rw here h.3.0) read in
+    let moved : next (drop (len_of (cell_at c (bit present i) (bit nulls k) (drop start values))) (drop start values)) ≡ next (drop p.end values) =
+        ap next (drop-drop (len_of (cell_at c (bit present i) (bit nulls k) (drop start values))) start values
+        ∙ ap (λ m. drop m values) (ap (λ m. start + m) (ap len_of here) ∙ ap (λ m. m + len_of (read_from c values p)) (sym h.2) ∙ sym h.3.1)) in
+    both.1 ∙ ap (λ o. content_in o ∷ cells_of (next (drop (len_of (cell_at c (bit present i) (bit nulls k) (drop start values))) (drop start values)))) here
+    ∙ ap (λ r. content_in (read_from c values p) ∷ cells_of r) moved
+    ∙ ap (λ l. content_in (read_from c values p) ∷ l) (fits_same cs present nulls (i + 1) (cond (bit present i) (k + 1) k) p.end values ps (subst IsRead moved both.0) h.4)
 
 -- the place of a column, and its cell
 pub record At (columns : List Column) (values : List ℕ) (places : List CellPlace) (i : ℕ) (t : Column) (p : CellPlace) : Type 0 where
@@ -91,6 +118,21 @@ pub record IsText (column : Column) (values : List ℕ) (place : CellPlace) : Ty
   pub is : value_of column (take (place.end - place.start) (drop place.start values)) ≡ Some cell
   pub read : content_in (read_from column values place) ≡ cell
 
+-- what is read at a place
+record Reads (column : Column) (values : List ℕ) (place : CellPlace) : Type 0 where
+  pub cell : Content
+  pub len : ℕ
+  pub is : read_from column values place ≡ Some (cell, len)
+  pub ends : place.end ≡ place.start + len
+  pub within : place.end ≤ length values
+
+reads_at : (column : Column) (values : List ℕ) (place : CellPlace) → IsPlace column values place → Reads column values place
+reads_at column values place h = by (read_from column values place) refl h.0
+  where
+    by : (o : Option (Content × ℕ)) → read_from column values place ≡ o → IsSome o → Reads column values place
+    by None e some = absurd cc
+    by (Some x) e some = record { cell = x.0; len = x.1; is = e; ends = h.1 ∙ ap (λ o. place.start + len_of o) e; within = h.2 }
+
 value_found : (o : Option Content) (m : ℕ) (cell : Content) (len : ℕ) → option_map {U = Content × ℕ} (λ v. (v, m)) o ≡ Some (cell, len) → (o ≡ Some cell) × (m ≡ len)
 value_found None m cell len e = absurd cc
 value_found (Some v) m cell len e =
@@ -105,9 +147,9 @@ text_at column bytes (Some n) cell len e h =
     let v = value_found (value_of column (take n bytes)) n cell len h in
     (e ∙ ap Some v.1, ap (λ m. value_of column (take m bytes)) (sym v.1) ∙ v.0)
 
-pub text_is : (column : Column) (values : List ℕ) (place : CellPlace) → place.is_present ≡ true → place.is_null ≡ false → IsPlace column values place → IsText column values place
+text_from : (column : Column) (values : List ℕ) (place : CellPlace) → place.is_present ≡ true → place.is_null ≡ false → Reads column values place → IsText column values place
 unfolding cell_at value_at
-text_is column values place present some h =
+text_from column values place present some h =
     let bytes = drop place.start values in
     let at = rw (present, some) at h.is in
     let t = text_at column bytes (extent_len (extent_of column.layout) bytes) h.cell h.len refl at in
@@ -125,6 +167,9 @@ text_is column values place present some h =
       is = rw size t.1;
       read = ap content_in h.is;
     }
+
+pub text_is : (column : Column) (values : List ℕ) (place : CellPlace) → place.is_present ≡ true → place.is_null ≡ false → IsPlace column values place → IsText column values place
+text_is column values place present some h = text_from column values place present some (reads_at column values place h)
 
 pub absent_is : (column : Column) (values : List ℕ) (place : CellPlace) → place.is_present ≡ false → content_in (read_from column values place) ≡ absent
 unfolding cell_at
@@ -149,13 +194,19 @@ image_placed columns body bitmap place places read h = by_test (leb n (length by
     cells : Option (List Content × ℕ)
     cells = cells_at columns (part_of body bitmap) (take n bytes) 0 0 (drop n bytes)
 
-    moved : cells_of cells ≡ cells_from columns body places
-    moved = ap (λ (b : List ℕ). cells_of (cells_at columns (part_of body bitmap) (take n bytes) 0 0 b)) (drop-drop n place body) ∙ h.same
+    same : (o : Option (List Content × ℕ)) → cells ≡ o → IsRead o → cells_from columns body places ≡ cells_of cells
+    same o e r =
+        let moved : cells ≡ cells_at columns (part_of body bitmap) (take n bytes) 0 0 (drop (place + n) body) = ap (λ (b : List ℕ). cells_at columns (part_of body bitmap) (take n bytes) 0 0 b) (drop-drop n place body) in
+        sym (ap cells_of moved ∙ fits_same columns (part_of body bitmap) (take n bytes) 0 0 (place + n) body places (subst IsRead moved (subst IsRead (sym e) r)) h)
 
     mapped : (o : Option (List Content × ℕ)) → cells_of (option_map (λ x. (x.0, n + x.1)) o) ≡ cells_of o
     mapped None = refl
     mapped (Some x) = refl
 
+    read_too : (o : Option (List Content × ℕ)) → IsRead (option_map (λ x. (x.0, n + x.1)) o) → IsRead o
+    read_too None r = absurd cc
+    read_too (Some x) r = refl
+
     by_test : (b : Bool) → b ≡ b → IsRead (cond b (option_map (λ x. (x.0, n + x.1)) cells) None) → cells_from columns body places ≡ cells_of (cond b (option_map (λ x. (x.0, n + x.1)) cells) None)
-    by_test true same r = sym (mapped cells ∙ moved)
-    by_test false same r = absurd cc
+    by_test true e r = same cells refl (read_too cells r) ∙ sym (mapped cells)
+    by_test false e r = absurd cc

@@ -130,7 +130,7 @@ impl<'a> PlacedRow<'a> {
 
     /// The image at a place of a body, under a bitmap that the body has, whose cells' places were noted.
     #[inline(always)]
-    #[tactic(auto, using(crate::proofs::PlacedCells::image_placed))]
+    #[tactic(auto, using(crate::proofs::PlacedCells::image_placed, crate::proofs::PlacedCells::fits_are))]
     fn at(
         map: &'a TableMap,
         bitmap: Part,
