@@ -84,8 +84,8 @@ fits_same (c ∷ cs) present nulls i k start values (p ∷ ps) read h =
     let here : cell_at c (bit present i) (bit nulls k) (drop start values) ≡ read_from c values p = rw (h.0, h.1, h.2) refl in
     let both = cells_first (cell_at c (bit present i) (bit nulls k) (drop start values)) (λ n. next (drop n (drop start values))) (rw here h.3.0) read in
     let moved : next (drop (len_of (cell_at c (bit present i) (bit nulls k) (drop start values))) (drop start values)) ≡ next (drop p.end values) =
-        ap next (drop-drop (len_of (cell_at c (bit present i) (bit nulls k) (drop start values))) start values
-        ∙ ap (λ m. drop m values) (ap (λ m. start + m) (ap len_of here) ∙ ap (λ m. m + len_of (read_from c values p)) (sym h.2) ∙ sym h.3.1)) in
+    ap next (drop-drop (len_of (cell_at c (bit present i) (bit nulls k) (drop start values))) start values
+    ∙ ap (λ m. drop m values) (ap (λ m. start + m) (ap len_of here) ∙ ap (λ m. m + len_of (read_from c values p)) (sym h.2) ∙ sym h.3.1)) in
     both.1 ∙ ap (λ o. content_in o ∷ cells_of (next (drop (len_of (cell_at c (bit present i) (bit nulls k) (drop start values))) (drop start values)))) here
     ∙ ap (λ r. content_in (read_from c values p) ∷ cells_of r) moved
     ∙ ap (λ l. content_in (read_from c values p) ∷ l) (fits_same cs present nulls (i + 1) (cond (bit present i) (k + 1) k) p.end values ps (subst IsRead moved both.0) h.4)

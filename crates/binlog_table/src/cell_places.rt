@@ -164,11 +164,23 @@ impl<'a> PlacedRow<'a> {
         match side {
             Side::Before => match head.before {
                 None => None,
-                Some(part) => Some(PlacedRow::at(map, part, body, span.before, places.before.as_slice())),
+                Some(part) => Some(PlacedRow::at(
+                    map,
+                    part,
+                    body,
+                    span.before,
+                    places.before.as_slice(),
+                )),
             },
             Side::After => match head.after {
                 None => None,
-                Some(part) => Some(PlacedRow::at(map, part, body, span.after, places.after.as_slice())),
+                Some(part) => Some(PlacedRow::at(
+                    map,
+                    part,
+                    body,
+                    span.after,
+                    places.after.as_slice(),
+                )),
             },
         }
     }
