@@ -1,10 +1,10 @@
 -- Going over the cells of an image, as a loop does.
-use Rattle.std.proofs.Common.{◌≡◌, ℕ, ◌+◌, ◌-◌, ◌<◌, ◌≤◌, Bool, cond, List, [], ◌∷◌, length, get_or, take, drop, Option, Some, None, option_map, option_and_then, refl, sym, ap, subst, ◌∙◌, arith}
+use Rattle.std.proofs.Common.{◌≡◌, ℕ, ◌+◌, ◌-◌, ◌<◌, ◌≤◌, Bool, true, cond, List, [], ◌∷◌, length, get_or, take, drop, Option, Some, None, option_map, option_and_then, refl, sym, ap, subst, ◌∙◌, arith}
 use Rattle.std.proofs.lemmas.List.{at_drop_more, at_drop_all, drop-drop, take_rest}
 use Rattle.binlog_table.specs.declared.column.Column.{Column}
 use Rattle.binlog_table.specs.Value.{Content}
-use Rattle.binlog_table.proofs.SetBits.{bit-all_set, bit-none_set}
-use Rattle.binlog_table.specs.Image.{bit, set_bits, value_at, cell_at, cells_at, cells_of, after_cell, IsRead}
+use Rattle.binlog_table.proofs.SetBits.{bit-all_set}
+use Rattle.binlog_table.specs.Image.{bit, set_bits, cell_at, cells_at, cells_of, after_cell, IsRead}
 
 -- where the cells end, from a place on
 abbrev pub end_from : ℕ → Option (List Content × ℕ) → Option ℕ
@@ -63,27 +63,34 @@ walk-ends columns present nulls i k at bytes total le so_far =
     let e : cells_at (drop i columns) present nulls i k bytes ≡ Some ([], 0) = at_drop_all (λ (ts : List Column). cells_at ts present nulls i k bytes) columns i le in
     ap Some (omega arith) ∙ sym (ap (end_from at) e) ∙ so_far
 
--- ---- where each column is present, and none is null
+-- ---- where each column is present
 
-cell-whole : (t : Column) (present nulls : List ℕ) (n i : ℕ) (bytes : List ℕ) → i < n → set_bits present n ≡ n → set_bits nulls n ≡ 0
-    → value_at t bytes ≡ cell_at t (bit present i) (bit nulls i) bytes
-unfolding cell_at
-cell-whole t present nulls n i bytes lt all none = rw (bit-all_set present n i lt all, bit-none_set nulls n i lt none) refl
+cell-present : (t : Column) (present nulls : List ℕ) (n i : ℕ) (is_null : Bool) (bytes : List ℕ) → i < n → set_bits present n ≡ n → is_null ≡ bit nulls i
+    → cell_at t true is_null bytes ≡ cell_at t (bit present i) (bit nulls i) bytes
+cell-present t present nulls n i is_null bytes lt all null =
+    ap (λ (b : Bool). cell_at t b is_null bytes) (sym (bit-all_set present n i lt all)) ∙ ap (λ (b : Bool). cell_at t (bit present i) b bytes) null
 
-pub whole-stops : (columns : List Column) (present nulls : List ℕ) (i : ℕ) (t : Column) (at : ℕ) (bytes : List ℕ) (total : Option ℕ) → i < length columns → t ≡ get_or columns i t
-    → set_bits present (length columns) ≡ length columns → set_bits nulls (length columns) ≡ 0
-    → None ≡ len_in (value_at t bytes) → end_from at (cells_at (drop i columns) present nulls i i bytes) ≡ total → None ≡ total
-whole-stops columns present nulls i t at bytes total lt is all none no_value so_far =
-    walk-stops columns present nulls i i t at bytes total lt is (no_value ∙ ap len_in (cell-whole t present nulls (length columns) i bytes lt all none)) so_far
+pub present-stops : (columns : List Column) (present nulls : List ℕ) (i : ℕ) (t : Column) (is_null : Bool) (at : ℕ) (bytes : List ℕ) (total : Option ℕ) → i < length columns → t ≡ get_or columns i t
+    → set_bits present (length columns) ≡ length columns → is_null ≡ bit nulls i
+    → None ≡ len_in (cell_at t true is_null bytes) → end_from at (cells_at (drop i columns) present nulls i i bytes) ≡ total → None ≡ total
+present-stops columns present nulls i t is_null at bytes total lt is all null none so_far =
+    walk-stops columns present nulls i i t at bytes total lt is (none ∙ ap len_in (cell-present t present nulls (length columns) i is_null bytes lt all null)) so_far
 
-pub whole-goes : (columns : List Column) (present nulls : List ℕ) (i : ℕ) (t : Column) (n at : ℕ) (body : List ℕ) (total : Option ℕ) → i < length columns → t ≡ get_or columns i t
-    → set_bits present (length columns) ≡ length columns → set_bits nulls (length columns) ≡ 0
-    → Some n ≡ len_in (value_at t (drop at body)) → end_from at (cells_at (drop i columns) present nulls i i (drop at body)) ≡ total
+pub present-goes : (columns : List Column) (present nulls : List ℕ) (i : ℕ) (t : Column) (is_null : Bool) (n at : ℕ) (body : List ℕ) (total : Option ℕ) → i < length columns → t ≡ get_or columns i t
+    → set_bits present (length columns) ≡ length columns → is_null ≡ bit nulls i
+    → Some n ≡ len_in (cell_at t true is_null (drop at body)) → end_from at (cells_at (drop i columns) present nulls i i (drop at body)) ≡ total
     → end_from (at + n) (cells_at (drop (i + 1) columns) present nulls (i + 1) (i + 1) (drop (at + n) body)) ≡ total
-whole-goes columns present nulls i t n at body total lt is all none value so_far =
-    let cell = value ∙ ap len_in (cell-whole t present nulls (length columns) i (drop at body) lt all none) in
+present-goes columns present nulls i t is_null n at body total lt is all null value so_far =
+    let cell = value ∙ ap len_in (cell-present t present nulls (length columns) i is_null (drop at body) lt all null) in
     subst (λ (b : Bool). end_from (at + n) (cells_at (drop (i + 1) columns) present nulls (i + 1) (cond b (i + 1) i) (drop (at + n) body)) ≡ total) (bit-all_set present (length columns) i lt all)
     (walk-goes columns present nulls i i t n at body total lt is cell so_far)
+
+-- what is read of a cell by its length
+pub present-cell : (t : Column) (present nulls : List ℕ) (n i : ℕ) (is_null : Bool) (len : ℕ) (bytes : List ℕ) → i < n → set_bits present n ≡ n → is_null ≡ bit nulls i
+    → Some len ≡ len_in (cell_at t true is_null bytes) → (c : Content) × (cell_at t (bit present i) (bit nulls i) bytes ≡ Some (c, len))
+present-cell t present nulls n i is_null len bytes lt all null value =
+    let cell = some-by_len (cell_at t (bit present i) (bit nulls i) bytes) len (value ∙ ap len_in (cell-present t present nulls n i is_null bytes lt all null)) in
+    (cell.0, sym cell.1)
 
 -- ---- one cell at a time
 

@@ -6,12 +6,13 @@ use Rattle.binlog_table.specs.declared.cell_places.CellPlace.{CellPlace}
 use Rattle.binlog_table.specs.Extent.{HasExtent, extent_of, extent_len}
 use Rattle.binlog_table.specs.Value.{Content, absent, null, value_of}
 use Rattle.binlog_table.specs.declared.rows_head.Part.{Part}
-use Rattle.binlog_table.specs.Image.{bit, value_at, cell_at, cells_at, image_at, nulls_len, cells_of, after_cell, IsRead}
+use Rattle.binlog_table.specs.Image.{bit, set_bits, value_at, cell_at, cells_at, image_at, nulls_len, cells_of, after_cell, IsRead}
 use Rattle.binlog_table.specs.Rows.{image_in}
 use Rattle.binlog_table.specs.RowsBody.{part_of}
 use Rattle.std.specs.Prelude.{IsSome, is_some}
 use Rattle.binlog_table.specs.CellPlaces.{content_in, len_of, read_from, cells_from, IsPlace, ArePlaces, Fits, HasPlaces}
-use Rattle.binlog_table.proofs.CellWalk.{cells-turn}
+use Rattle.binlog_table.proofs.CellWalk.{cells-turn, len_in, present-cell}
+use Rattle.binlog_table.proofs.SetBits.{bit-all_set}
 use Rattle.binlog_table.proofs.Extents.{some_is, extent_len-found}
 
 -- what can be read begins with a cell that can be read
@@ -40,18 +41,30 @@ first_read columns i k present nulls t bytes lt is read =
     first_of_all (cell_at t (bit present i) (bit nulls k) bytes) (rest_from columns i present nulls k bytes) (subst IsRead (cells-turn columns i present nulls i k t bytes lt is) read)
 
 -- the places of the columns from i on, from those behind column i
-pub fits_more : (columns : List Column) (i k start n : ℕ) (present nulls values : List ℕ) (t : Column) (p : CellPlace) (more : List CellPlace) → i < length columns → t ≡ get_or columns i t
-    → (f : First (cell_at t (bit present i) (bit nulls k) (drop start values)) (rest_from columns i present nulls k (drop start values)))
-    → p.is_present ≡ bit present i → p.is_null ≡ bit nulls k → p.start ≡ start → p.end ≡ start + n → start + n ≤ length values → n ≡ f.len
+pub fits_more : (columns : List Column) (i k start n : ℕ) (present nulls values : List ℕ) (t : Column) (p : CellPlace) (more : List CellPlace) (c : Content) → i < length columns → t ≡ get_or columns i t
+    → cell_at t (bit present i) (bit nulls k) (drop start values) ≡ Some (c, n)
+    → p.is_present ≡ bit present i → p.is_null ≡ bit nulls k → p.start ≡ start → p.end ≡ start + n → start + n ≤ length values
     → Fits (drop (i + 1) columns) present nulls (i + 1) (cond (bit present i) (k + 1) k) (start + n) values more
     → Fits (drop i columns) present nulls i k start values (p ∷ more)
-fits_more columns i k start n present nulls values t p more lt is f e1 e2 e3 e4 within len h =
-    let here : read_from t values p ≡ Some (f.cell, f.len) = rw (e1, e2, e3) f.is in
+fits_more columns i k start n present nulls values t p more c lt is cell e1 e2 e3 e4 within h =
+    let here : read_from t values p ≡ Some (c, n) = rw (e1, e2, e3) cell in
     let first : drop i columns ≡ t ∷ drop (i + 1) columns = at_drop_more (λ (ts : List Column). ts) columns i t lt ∙ ap (λ (u : Column). u ∷ drop (i + 1) columns) (sym is) in
-    let len_is : len_of (read_from t values p) ≡ f.len = ap len_of here in
-    let place : IsPlace t values p = (ap is_some here, omega (arith, e3, e4, len, len_is), omega (arith, e4, within)) in
+    let len_is : len_of (read_from t values p) ≡ n = ap len_of here in
+    let place : IsPlace t values p = (ap is_some here, omega (arith, e3, e4, len_is), omega (arith, e4, within)) in
     let rest = subst (λ m. Fits (drop (i + 1) columns) present nulls (i + 1) (cond (bit present i) (k + 1) k) m values more) (sym e4) h in
     subst (λ ts. Fits ts present nulls i k start values (p ∷ more)) (sym first) (e1, e2, e3, place, rest)
+
+-- the same where each column is present
+pub present_more : (columns : List Column) (i start n : ℕ) (present nulls values : List ℕ) (t : Column) (p : CellPlace) (more : List CellPlace) (is_null : Bool) → i < length columns → t ≡ get_or columns i t
+    → set_bits present (length columns) ≡ length columns → is_null ≡ bit nulls i → Some n ≡ len_in (cell_at t true is_null (drop start values))
+    → p.is_present ≡ true → p.is_null ≡ is_null → p.start ≡ start → p.end ≡ start + n → start + n ≤ length values
+    → Fits (drop (i + 1) columns) present nulls (i + 1) (i + 1) (start + n) values more
+    → Fits (drop i columns) present nulls i i start values (p ∷ more)
+present_more columns i start n present nulls values t p more is_null lt is all same value e1 e2 e3 e4 within h =
+    let set : bit present i ≡ true = bit-all_set present (length columns) i lt all in
+    let cell = present-cell t present nulls (length columns) i is_null n (drop start values) lt all same value in
+    let rest = subst (λ (b : Bool). Fits (drop (i + 1) columns) present nulls (i + 1) (cond b (i + 1) i) (start + n) values more) (sym set) h in
+    fits_more columns i i start n present nulls values t p more cell.0 lt is cell.1 (e1 ∙ sym set) (e2 ∙ same) e3 e4 within rest
 
 -- behind the last column nothing is left
 pub fits_none : (columns : List Column) (i k start : ℕ) (present nulls values : List ℕ) → length columns ≤ i → Fits (drop i columns) present nulls i k start values []

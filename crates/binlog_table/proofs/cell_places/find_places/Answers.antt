@@ -25,7 +25,7 @@ loop-place-preserved c =
       read = rw next (subst (λ bytes. IsRead (cells_at (drop (c.loop-place.place + 1) c.args.columns.now) c.args.present.now c.args.nulls.now (c.loop-place.place + 1) (cond (bit c.args.present.now c.loop-place.place) (c.loop-place.null_place + 1) c.loop-place.null_place) bytes)) moved f.read);
       rest = λ more. λ h.
           let p : CellPlace = record { is_present = c.bit-is_present.result; is_null = c.bit-is_null.result; start = c.loop-place.start; end = c.loop-place.start + c.in-Some.len } in
-          let fits = fits_more c.args.columns.now c.loop-place.place c.loop-place.null_place c.loop-place.start c.in-Some.len c.args.present.now c.args.nulls.now c.args.values.now c.index-columns-place.result p more c.loop-place-test.true c.index-columns-place.is f c.bit-is_present.ensures c.bit-is_null.ensures refl refl (omega (arith, c.in-Some.ensures.within)) len (rw next at h) in
+          let fits = fits_more c.args.columns.now c.loop-place.place c.loop-place.null_place c.loop-place.start c.in-Some.len c.args.present.now c.args.nulls.now c.args.values.now c.index-columns-place.result p more f.cell c.loop-place-test.true c.index-columns-place.is (f.is ∙ ap (λ n. Some (f.cell, n)) (sym len)) c.bit-is_present.ensures c.bit-is_null.ensures refl refl (omega (arith, c.in-Some.ensures.within)) (rw next at h) in
           rw (c.in_ok-push.ensures.items, append_assoc) (c.loop-place.invariant.rest (p ∷ more) fits);
     }
 
