@@ -13,6 +13,7 @@ pub mod LabelTexts
 pub mod LineParts
 pub mod Visiting
 pub mod Pairs
+pub mod Halves
 pub mod Indexes
 pub mod Placing
 pub mod Absorbing

@@ -1,10 +1,11 @@
 //! Integers and strings of JSON, at the end of a text.
-ghost use Rattle.std.specs.Prelude.{◌≡◌, ◌++◌, OnOk, string_bytes};
+ghost use Rattle.std.specs.Prelude.{◌≡◌, ◌++◌, OnOk, decimal};
 ghost use Rattle.std.specs.Fmt.{signed_decimal};
 ghost use Rattle.json.specs.Print.{escape, quoted};
 ghost use Rattle.binlog_json.specs.Joining.{comma_if};
 ghost use Rattle.binlog_json.specs.PlainText.{IsPlain};
 
+use crate::lines::Line;
 use crate::plain::is_plain;
 use json::Writer;
 use std::alloc::{AllocError, Global};
@@ -12,39 +13,48 @@ use std::mem;
 
 /// The number in decimal digits, with its sign where it is below zero.
 #[inline(always)]
-pub(crate) fn append_integer(out: &mut String, number: i64) -> Result<(), AllocError>
-    ensures { OnOk result (string_bytes out.new ≡ string_bytes out.old ++ signed_decimal number) }
+pub(crate) fn append_integer(out: &mut Line, number: i64) -> Result<(), AllocError>
+    ensures { OnOk result (out.new.bytes.items ≡ out.old.bytes.items ++ signed_decimal number) }
 {
     let mut buffer = itoa::Buffer::new();
-    out.push_str(buffer.format(number))
+    out.push_short(buffer.format(number))
+}
+
+/// The number in decimal digits.
+#[inline(always)]
+pub(crate) fn append_number(out: &mut Line, number: u64) -> Result<(), AllocError>
+    ensures { OnOk result (out.new.bytes.items ≡ out.old.bytes.items ++ decimal number) }
+{
+    let mut buffer = itoa::Buffer::new();
+    out.push_short(buffer.format(number))
 }
 
 /// A comma, where something stands before it.
-pub(crate) fn append_comma(out: &mut String, later: bool) -> Result<(), AllocError>
-    ensures { OnOk result (string_bytes out.new ≡ string_bytes out.old ++ comma_if later) }
+pub(crate) fn append_comma(out: &mut Line, later: bool) -> Result<(), AllocError>
+    ensures { OnOk result (out.new.bytes.items ≡ out.old.bytes.items ++ comma_if later) }
 {
     if later {
-        out.push(',')?;
+        out.push(b',')?;
     }
     Ok(())
 }
 
 /// A text that needs no escape, in quotes.
 #[inline(always)]
-pub(crate) fn append_as_is(out: &mut String, text: &str) -> Result<(), AllocError>
+pub(crate) fn append_as_is(out: &mut Line, text: &str) -> Result<(), AllocError>
     requires { escape text.now ≡ text.now }
-    ensures { OnOk result (string_bytes out.new ≡ string_bytes out.old ++ quoted text.now) }
+    ensures { OnOk result (out.new.bytes.items ≡ out.old.bytes.items ++ quoted text.now) }
 {
-    out.push('"')?;
-    out.push_str(text)?;
-    out.push('"')
+    out.push(b'"')?;
+    out.push_short(text)?;
+    out.push(b'"')
 }
 
 /// A text of ASCII characters that need no escape, in quotes.
 #[inline(always)]
-pub(crate) fn append_plain(out: &mut String, text: &[u8]) -> Result<(), AllocError>
+pub(crate) fn append_plain(out: &mut Line, text: &[u8]) -> Result<(), AllocError>
     requires { IsPlain text.now }
-    ensures { OnOk result (string_bytes out.new ≡ string_bytes out.old ++ quoted text.now) }
+    ensures { OnOk result (out.new.bytes.items ≡ out.old.bytes.items ++ quoted text.now) }
 {
     append_as_is(out, unsafe { str::from_utf8_unchecked(text) })
 }
@@ -65,8 +75,8 @@ impl Quoter {
     }
 
     /// The text as a string, in quotes and escaped.
-    pub(crate) fn append(&mut self, out: &mut String, text: &str) -> Result<(), AllocError>
-        ensures { OnOk result (string_bytes out.new ≡ string_bytes out.old ++ quoted text.now) }
+    pub(crate) fn append(&mut self, out: &mut Line, text: &str) -> Result<(), AllocError>
+        ensures { OnOk result (out.new.bytes.items ≡ out.old.bytes.items ++ quoted text.now) }
     {
         if !is_plain::<0xff>(text.as_bytes()) {
             return self.append_escaped(out, text);
@@ -75,8 +85,8 @@ impl Quoter {
     }
 
     /// The text as a string, in quotes, each byte judged for itself.
-    fn append_escaped(&mut self, out: &mut String, text: &str) -> Result<(), AllocError>
-        ensures { OnOk result (string_bytes out.new ≡ string_bytes out.old ++ quoted text.now) }
+    fn append_escaped(&mut self, out: &mut Line, text: &str) -> Result<(), AllocError>
+        ensures { OnOk result (out.new.bytes.items ≡ out.old.bytes.items ++ quoted text.now) }
     {
         self.room.clear();
         let mut writer = Writer::new(mem::replace(&mut self.room, Vec::new(self.alloc)));

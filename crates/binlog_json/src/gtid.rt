@@ -3,6 +3,7 @@ ghost use Rattle.std.specs.Prelude.{◌≡◌, ◌++◌, OnOk, string_bytes};
 ghost use Rattle.serde_json.specs.Written.{compact_text};
 ghost use Rattle.binlog_json.specs.Line.{gtid_data, gtid_text};
 
+use crate::lines::Line;
 use crate::room::Room;
 use binlog_select::push_number;
 use std::alloc::AllocError;
@@ -10,11 +11,11 @@ use uuid::Uuid;
 
 /// Appends a GTID as a string, or `null` for none.
 pub(crate) fn append_gtid(
-    out: &mut String,
+    out: &mut Line,
     room: &mut Room,
     gtid: Option<(Uuid, u64)>,
 ) -> Result<(), AllocError>
-    ensures { OnOk result (string_bytes out.new ≡ string_bytes out.old ++ compact_text (gtid_data gtid)) }
+    ensures { OnOk result (out.new.bytes.items ≡ out.old.bytes.items ++ compact_text (gtid_data gtid)) }
 {
     match gtid {
         None => out.push_str("null"),

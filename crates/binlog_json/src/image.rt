@@ -1,5 +1,5 @@
 //! Images as objects, written in the order of the columns' names.
-ghost use Rattle.std.specs.Prelude.{◌≡◌, ◌<◌, ◌++◌, ◌||◌, not, length, drop, if◌then◌else◌, OnOk, IfOk, string_bytes};
+ghost use Rattle.std.specs.Prelude.{◌≡◌, ◌<◌, ◌++◌, ◌||◌, not, length, drop, if◌then◌else◌, OnOk, IfOk};
 ghost use Rattle.serde_json.specs.Data.{object};
 ghost use Rattle.serde_json.specs.Written.{compact_text};
 ghost use Rattle.binlog_json.specs.Images.{cell_in, image_members};
@@ -8,6 +8,7 @@ ghost use Rattle.binlog_json.specs.Values.{is_absent};
 ghost use Rattle.binlog_json.specs.Written.{column_text};
 
 use crate::labels::Labels;
+use crate::lines::Line;
 use crate::room::Room;
 use crate::values::append_value;
 use binlog_table::{Cell, PlacedRow, RowView};
@@ -16,14 +17,14 @@ use std::mem;
 
 /// Appends an image as an object: its present columns, in the order of their names.
 pub(crate) fn append_image(
-    out: &mut String,
+    out: &mut Line,
     room: &mut Room,
     labels: &Labels,
     image: &RowView<'_>,
 ) -> Result<(), AllocError>
-    requires { AreLabels image.now.table.names (string_bytes labels.now.text) labels.now.bounds.items }
-    ensures { OnOk result (string_bytes out.new
-        ≡ string_bytes out.old ++ compact_text (object (image_members image.now))) }
+    requires { AreLabels image.now.table.names (labels.now.text.bytes.items) labels.now.bounds.items }
+    ensures { OnOk result (out.new.bytes.items
+        ≡ out.old.bytes.items ++ compact_text (object (image_members image.now))) }
 {
     let places = mem::replace(&mut room.places, Vec::new(room.alloc));
     let row = PlacedRow::of(image, places)?;
@@ -34,16 +35,16 @@ pub(crate) fn append_image(
 
 /// Appends an image whose cells were found.
 fn append_columns(
-    out: &mut String,
+    out: &mut Line,
     room: &mut Room,
     labels: &Labels,
     image: &RowView<'_>,
     row: &PlacedRow<'_>,
 ) -> Result<(), AllocError>
     requires row { row.now ≡ image.now }
-    requires labels { AreLabels image.now.table.names (string_bytes labels.now.text) labels.now.bounds.items }
-    ensures { OnOk result (string_bytes out.new
-        ≡ string_bytes out.old ++ compact_text (object (image_members image.now))) }
+    requires labels { AreLabels image.now.table.names (labels.now.text.bytes.items) labels.now.bounds.items }
+    ensures { OnOk result (out.new.bytes.items
+        ≡ out.old.bytes.items ++ compact_text (object (image_members image.now))) }
 {
     out.push_str("{")?;
     let mut later = false;
@@ -57,7 +58,7 @@ fn append_columns(
 /// Appends the member of a column, behind a comma where a member stands before it, unless the column is absent. Whether a member
 /// stands there then.
 fn append_column(
-    out: &mut String,
+    out: &mut Line,
     room: &mut Room,
     labels: &Labels,
     image: &RowView<'_>,
@@ -66,8 +67,8 @@ fn append_column(
     later: bool,
 ) -> Result<bool, AllocError>
     requires row { row.now ≡ image.now }
-    requires labels { AreLabels image.now.table.names (string_bytes labels.now.text) labels.now.bounds.items }
-    ensures text { OnOk result (string_bytes out.new ≡ string_bytes out.old ++ column_text later image.now column) }
+    requires labels { AreLabels image.now.table.names (labels.now.text.bytes.items) labels.now.bounds.items }
+    ensures text { OnOk result (out.new.bytes.items ≡ out.old.bytes.items ++ column_text later image.now column) }
     ensures later { IfOk result (λ now. now ≡ (not (is_absent (cell_in image.now column)) || later)) }
 {
     if column >= image.column_count() {
@@ -78,7 +79,7 @@ fn append_column(
         Cell::Absent => Ok(later),
         present => {
             let label = joined(labels.label(column), later);
-            out.push_str(unsafe { str::from_utf8_unchecked(label) })?;
+            out.push_short(unsafe { str::from_utf8_unchecked(label) })?;
             append_value(out, room, image, column, present)?;
             Ok(true)
         }

@@ -6,6 +6,7 @@ ghost use Rattle.binlog_json.specs.Keys.{has_key as is_of_key, image_key as key_
 ghost use Rattle.binlog_json.specs.Written.{text_if};
 
 use crate::append::append_comma;
+use crate::lines::Line;
 use crate::room::Room;
 use crate::values::append_value;
 use binlog_feed::Change;
@@ -51,7 +52,7 @@ fn image_key(
         return Ok(None);
     }
     let mut room = Room::new(alloc);
-    let mut text = String::new(alloc);
+    let mut text = Line::new(alloc);
     text.push_str("[")?;
     let mut later = false;
     for column in columns {
@@ -62,12 +63,12 @@ fn image_key(
         }
     }
     text.push_str("]")?;
-    Ok(Some(text))
+    Ok(Some(text.into_string()))
 }
 
 /// Appends the value of a column in an image, or else in another one. Whether one of them has the column.
 fn append_of_either(
-    out: &mut String,
+    out: &mut Line,
     room: &mut Room,
     image: &RowView<'_>,
     other: &Option<RowView<'_>>,
@@ -75,8 +76,8 @@ fn append_of_either(
 ) -> Result<bool, AllocError>
     requires column { column < length image.now.table.columns }
     requires table { IfSome other.now (λ second. second.table ≡ image.now.table) }
-    ensures text { OnOk result (string_bytes out.new
-        ≡ string_bytes out.old ++ text_if (value_in_either image.now other.now column)) }
+    ensures text { OnOk result (out.new.bytes.items
+        ≡ out.old.bytes.items ++ text_if (value_in_either image.now other.now column)) }
     ensures has { IfOk result (λ has. has ≡ is_some (value_in_either image.now other.now column)) }
 {
     if append_of(out, room, image, column)? {
@@ -90,14 +91,14 @@ fn append_of_either(
 
 /// Appends the value of a column, where the image has the column. Whether it has.
 fn append_of(
-    out: &mut String,
+    out: &mut Line,
     room: &mut Room,
     image: &RowView<'_>,
     column: usize,
 ) -> Result<bool, AllocError>
     requires { column < length image.now.table.columns }
-    ensures text { OnOk result (string_bytes out.new
-        ≡ string_bytes out.old ++ text_if (value_in image.now column)) }
+    ensures text { OnOk result (out.new.bytes.items
+        ≡ out.old.bytes.items ++ text_if (value_in image.now column)) }
     ensures has { IfOk result (λ has. has ≡ is_some (value_in image.now column)) }
 {
     match image.value(column) {

@@ -1,11 +1,12 @@
 //! A table's names as lines have them, and those of its columns as they stand in front of members, each behind a comma; kept from image to image by the body of the table's map.
-ghost use Rattle.std.specs.Prelude.{◌≡◌, ◌<◌, ◌++◌, ℕ, List, length, true, Ok, OnOk, string_bytes};
+ghost use Rattle.std.specs.Prelude.{◌≡◌, ◌<◌, ◌++◌, ℕ, List, length, true, Ok, OnOk};
 ghost use Rattle.std.proofs.Props.{props};
 ghost use Rattle.binlog_table.specs.Map.{Map, map_at};
 ghost use Rattle.binlog_json.specs.Labels.{AreLabels, label_text};
 ghost use Rattle.binlog_json.specs.Written.{table_text};
 
 use crate::append::Quoter;
+use crate::lines::Line;
 use crate::values::append_member_name;
 use binlog_table::TableMap;
 use std::alloc::{AllocError, Global};
@@ -20,15 +21,15 @@ pub(crate) struct Labels {
     are_known: bool,
     body: Vec<u8>,
     /// The members of the schema and the table.
-    names: String,
-    text: String,
+    names: Line,
+    text: Line,
     bounds: Vec<(usize, usize)>,
-    ghost known: { are_known ≡ true → (map : Map) → map_at body.items ≡ Ok map → AreLabels map.names (string_bytes text) bounds.items } by { Prim.hlevel props },
-    ghost named: { are_known ≡ true → (map : Map) → map_at body.items ≡ Ok map → string_bytes names ≡ table_text map.schema map.table } by { Prim.hlevel props },
+    ghost known: { are_known ≡ true → (map : Map) → map_at body.items ≡ Ok map → AreLabels map.names text.bytes.items bounds.items } by { Prim.hlevel props },
+    ghost named: { are_known ≡ true → (map : Map) → map_at body.items ≡ Ok map → names.bytes.items ≡ table_text map.schema map.table } by { Prim.hlevel props },
 }
 
 impl Labels {
-    ghost use Rattle.std.specs.Prelude.{◌≡◌, ◌<◌, ℕ, List, length, true, Ok, OnOk, string_bytes};
+    ghost use Rattle.std.specs.Prelude.{◌≡◌, ◌<◌, ℕ, List, length, true, Ok, OnOk};
     ghost use Rattle.binlog_json.specs.Labels.{AreLabels, label_text};
     ghost use Rattle.binlog_json.specs.Written.{table_text};
 
@@ -36,16 +37,16 @@ impl Labels {
         Labels {
             are_known: false,
             body: Vec::new(alloc),
-            names: String::new(alloc),
-            text: String::new(alloc),
+            names: Line::new(alloc),
+            text: Line::new(alloc),
             bounds: Vec::new(alloc),
         }
     }
 
     /// Takes the labels of a map's columns in place of those that it held, unless it holds these.
     pub(crate) fn take(&mut self, map: &TableMap, quoter: &mut Quoter) -> Result<(), AllocError>
-        ensures labels { OnOk result (AreLabels map.now.names (string_bytes self.new.text) self.new.bounds.items) }
-        ensures names { OnOk result (string_bytes self.new.names ≡ table_text map.now.schema map.now.table) }
+        ensures labels { OnOk result (AreLabels map.now.names (self.new.text.bytes.items) self.new.bounds.items) }
+        ensures names { OnOk result (self.new.names.bytes.items ≡ table_text map.now.schema map.now.table) }
     {
         if self.are_known && map.spells(&self.body) {
             return Ok(());
@@ -62,7 +63,7 @@ impl Labels {
 
     /// The members of the schema and the table.
     pub(crate) fn names(&self) -> &str
-        ensures { result.now ≡ string_bytes self.now.names }
+        ensures { result.now ≡ self.now.names.bytes.items }
     {
         self.names.as_str()
     }
@@ -70,8 +71,8 @@ impl Labels {
     /// The label of a column, with the comma in front of it.
     #[inline(always)]
     pub(crate) fn label(&self, column: usize) -> &[u8]
-        requires { (names : List (List ℕ)) × (AreLabels names (string_bytes self.now.text) self.now.bounds.items × (column < length names)) }
-        ensures { (names : List (List ℕ)) → AreLabels names (string_bytes self.now.text) self.now.bounds.items → column < length names
+        requires { (names : List (List ℕ)) × (AreLabels names (self.now.text.bytes.items) self.now.bounds.items × (column < length names)) }
+        ensures { (names : List (List ℕ)) → AreLabels names (self.now.text.bytes.items) self.now.bounds.items → column < length names
             → result.now ≡ label_text names column }
     {
         let (start, end) = self.bounds[column];
@@ -81,12 +82,12 @@ impl Labels {
 
 /// The members of a schema and a table, with the comma before each.
 pub(crate) fn append_names(
-    out: &mut String,
+    out: &mut Line,
     quoter: &mut Quoter,
     schema: &str,
     table: &str,
 ) -> Result<(), AllocError>
-    ensures { OnOk result (string_bytes out.new ≡ string_bytes out.old ++ table_text schema.now table.now) }
+    ensures { OnOk result (out.new.bytes.items ≡ out.old.bytes.items ++ table_text schema.now table.now) }
 {
     out.push_str(",\"schema\":")?;
     quoter.append(out, schema)?;
@@ -96,12 +97,12 @@ pub(crate) fn append_names(
 
 /// Writes the labels of a map's columns in place of others.
 fn write_labels(
-    text: &mut String,
+    text: &mut Line,
     bounds: &mut Vec<(usize, usize)>,
     quoter: &mut Quoter,
     map: &TableMap,
 ) -> Result<(), AllocError>
-    ensures { OnOk result (AreLabels map.now.names (string_bytes text.new) bounds.new.items) }
+    ensures { OnOk result (AreLabels map.now.names (text.new.bytes.items) bounds.new.items) }
 {
     text.clear();
     bounds.clear();

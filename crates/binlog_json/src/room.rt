@@ -1,6 +1,7 @@
 //! Room to work in, kept from line to line.
 
 use crate::append::Quoter;
+use crate::lines::Line;
 use binlog_table::CellPlace;
 use std::alloc::Global;
 
@@ -11,6 +12,8 @@ pub(crate) struct Room {
     pub(crate) quoter: Quoter,
     /// A text before it is quoted.
     pub(crate) text: String,
+    /// The members of a schema and a table.
+    pub(crate) table: Line,
     /// The names of a SET's value.
     pub(crate) names: Vec<u8>,
     /// Where the cells of an image lie.
@@ -23,6 +26,7 @@ impl Room {
             alloc,
             quoter: Quoter::new(alloc),
             text: String::new(alloc),
+            table: Line::new(alloc),
             names: Vec::new(alloc),
             places: Vec::new(alloc),
         }

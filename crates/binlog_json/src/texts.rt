@@ -1,18 +1,19 @@
 //! Decimals, dates and times as strings of JSON, at the end of a text. None of their characters needs an escape.
-ghost use Rattle.std.specs.Prelude.{◌≡◌, ◌++◌, ◌∷◌, [], ◌==◌, OnOk, string_bytes};
+ghost use Rattle.std.specs.Prelude.{◌≡◌, ◌++◌, ◌∷◌, [], ◌==◌, OnOk};
 ghost use Rattle.std.specs.List.{list_all};
 ghost use Rattle.json.specs.Print.{quoted};
 ghost use Rattle.binlog_table.specs.DecimalShown.{decimal_view};
 ghost use Rattle.binlog_json.specs.Texts.{sign_text, padded, decimal_text, day_text, clock_text, date_text, date_time_text, time_text, timestamp_text};
 
+use crate::append::append_number;
 use crate::digits::{pair, push_fraction, push_padded, push_part, push_scaled};
-use binlog_select::push_number;
+use crate::lines::Line;
 use binlog_table::{Date, DateTime, DecimalView, Time, Timestamp};
 use std::alloc::AllocError;
 
-fn push_decimal(text: &mut String, decimal: DecimalView<'_>) -> Result<(), AllocError>
-    ensures text { OnOk result (string_bytes text.new
-        ≡ string_bytes text.old ++ decimal_text (decimal_view decimal.entry)) }
+fn push_decimal(text: &mut Line, decimal: DecimalView<'_>) -> Result<(), AllocError>
+    ensures text { OnOk result (text.new.bytes.items
+        ≡ text.old.bytes.items ++ decimal_text (decimal_view decimal.entry)) }
     ensures as_is { OnOk result (quoted (decimal_text (decimal_view decimal.entry))
         ≡ 34 ∷ (decimal_text (decimal_view decimal.entry) ++ 34 ∷ [])) }
 {
@@ -28,28 +29,28 @@ fn are_zeros(digits: &[u8]) -> bool
     digits.iter().all(|digit| *digit == 0)
 }
 
-fn push_sign(text: &mut String, is_negative: bool) -> Result<(), AllocError>
-    ensures { OnOk result (string_bytes text.new ≡ string_bytes text.old ++ sign_text is_negative) }
+fn push_sign(text: &mut Line, is_negative: bool) -> Result<(), AllocError>
+    ensures { OnOk result (text.new.bytes.items ≡ text.old.bytes.items ++ sign_text is_negative) }
 {
     if is_negative {
-        text.push('-')?;
+        text.push(b'-')?;
     }
     Ok(())
 }
 
 /// A day, of which a number may have more digits than its place.
-fn push_wide_day(text: &mut String, year: u32, month: u8, day: u8) -> Result<(), AllocError>
-    ensures { OnOk result (string_bytes text.new
-        ≡ string_bytes text.old ++ day_text year month day) }
+fn push_wide_day(text: &mut Line, year: u32, month: u8, day: u8) -> Result<(), AllocError>
+    ensures { OnOk result (text.new.bytes.items
+        ≡ text.old.bytes.items ++ day_text year month day) }
 {
     push_padded(text, year, 4)?;
     push_part(text, b'-', month)?;
     push_part(text, b'-', day)
 }
 
-fn push_day(text: &mut String, year: u32, month: u8, day: u8) -> Result<(), AllocError>
-    ensures { OnOk result (string_bytes text.new
-        ≡ string_bytes text.old ++ day_text year month day) }
+fn push_day(text: &mut Line, year: u32, month: u8, day: u8) -> Result<(), AllocError>
+    ensures { OnOk result (text.new.bytes.items
+        ≡ text.old.bytes.items ++ day_text year month day) }
 {
     if year >= 10_000 || month >= 100 || day >= 100 {
         return push_wide_day(text, year, month, day);
@@ -65,18 +66,18 @@ fn push_day(text: &mut String, year: u32, month: u8, day: u8) -> Result<(), Allo
 }
 
 /// A time of day, of which a number may have more digits than its place.
-fn push_wide_clock(text: &mut String, hour: u16, minute: u8, second: u8) -> Result<(), AllocError>
-    ensures { OnOk result (string_bytes text.new
-        ≡ string_bytes text.old ++ clock_text hour minute second) }
+fn push_wide_clock(text: &mut Line, hour: u16, minute: u8, second: u8) -> Result<(), AllocError>
+    ensures { OnOk result (text.new.bytes.items
+        ≡ text.old.bytes.items ++ clock_text hour minute second) }
 {
     push_padded(text, u32::from(hour), 2)?;
     push_part(text, b':', minute)?;
     push_part(text, b':', second)
 }
 
-fn push_clock(text: &mut String, hour: u16, minute: u8, second: u8) -> Result<(), AllocError>
-    ensures { OnOk result (string_bytes text.new
-        ≡ string_bytes text.old ++ clock_text hour minute second) }
+fn push_clock(text: &mut Line, hour: u16, minute: u8, second: u8) -> Result<(), AllocError>
+    ensures { OnOk result (text.new.bytes.items
+        ≡ text.old.bytes.items ++ clock_text hour minute second) }
 {
     if hour >= 100 || minute >= 100 || second >= 100 {
         return push_wide_clock(text, hour, minute, second);
@@ -90,80 +91,80 @@ fn push_clock(text: &mut String, hour: u16, minute: u8, second: u8) -> Result<()
     text.push_str(unsafe { str::from_utf8_unchecked(&shown) })
 }
 
-fn push_date_time(text: &mut String, time: DateTime) -> Result<(), AllocError>
-    ensures { OnOk result (string_bytes text.new ≡ string_bytes text.old ++ date_time_text time) }
+fn push_date_time(text: &mut Line, time: DateTime) -> Result<(), AllocError>
+    ensures { OnOk result (text.new.bytes.items ≡ text.old.bytes.items ++ date_time_text time) }
 {
     push_day(text, time.year, time.month, time.day)?;
-    text.push(' ')?;
+    text.push(b' ')?;
     push_clock(text, u16::from(time.hour), time.minute, time.second)?;
     push_fraction(text, time.precision, time.fraction)
 }
 
-fn push_time(text: &mut String, time: Time) -> Result<(), AllocError>
-    ensures { OnOk result (string_bytes text.new ≡ string_bytes text.old ++ time_text time) }
+fn push_time(text: &mut Line, time: Time) -> Result<(), AllocError>
+    ensures { OnOk result (text.new.bytes.items ≡ text.old.bytes.items ++ time_text time) }
 {
     push_sign(text, time.negative)?;
     push_clock(text, time.hour, time.minute, time.second)?;
     push_fraction(text, time.precision, time.fraction)
 }
 
-fn push_timestamp(text: &mut String, time: Timestamp) -> Result<(), AllocError>
-    ensures { OnOk result (string_bytes text.new ≡ string_bytes text.old ++ timestamp_text time) }
+fn push_timestamp(text: &mut Line, time: Timestamp) -> Result<(), AllocError>
+    ensures { OnOk result (text.new.bytes.items ≡ text.old.bytes.items ++ timestamp_text time) }
 {
-    push_number(text, u64::from(time.seconds))?;
+    append_number(text, u64::from(time.seconds))?;
     push_fraction(text, time.precision, time.fraction)
 }
 
 /// A decimal in quotes.
-pub(crate) fn append_decimal(out: &mut String, decimal: DecimalView<'_>) -> Result<(), AllocError>
-    ensures { OnOk result (string_bytes out.new ≡ string_bytes out.old ++ quoted (decimal_text (decimal_view decimal.entry))) }
+pub(crate) fn append_decimal(out: &mut Line, decimal: DecimalView<'_>) -> Result<(), AllocError>
+    ensures { OnOk result (out.new.bytes.items ≡ out.old.bytes.items ++ quoted (decimal_text (decimal_view decimal.entry))) }
 {
-    out.push('"')?;
+    out.push(b'"')?;
     push_decimal(out, decimal)?;
-    out.push('"')
+    out.push(b'"')
 }
 
 /// A year in quotes.
-pub(crate) fn append_year(out: &mut String, year: u16) -> Result<(), AllocError>
-    ensures { OnOk result (string_bytes out.new ≡ string_bytes out.old ++ quoted (padded 4 year)) }
+pub(crate) fn append_year(out: &mut Line, year: u16) -> Result<(), AllocError>
+    ensures { OnOk result (out.new.bytes.items ≡ out.old.bytes.items ++ quoted (padded 4 year)) }
 {
-    out.push('"')?;
+    out.push(b'"')?;
     push_padded(out, u32::from(year), 4)?;
-    out.push('"')
+    out.push(b'"')
 }
 
 /// A date in quotes.
-pub(crate) fn append_date(out: &mut String, date: Date) -> Result<(), AllocError>
-    ensures { OnOk result (string_bytes out.new ≡ string_bytes out.old ++ quoted (date_text date)) }
+pub(crate) fn append_date(out: &mut Line, date: Date) -> Result<(), AllocError>
+    ensures { OnOk result (out.new.bytes.items ≡ out.old.bytes.items ++ quoted (date_text date)) }
 {
-    out.push('"')?;
+    out.push(b'"')?;
     push_day(out, u32::from(date.year), date.month, date.day)?;
-    out.push('"')
+    out.push(b'"')
 }
 
 /// A day and a time of day in quotes.
-pub(crate) fn append_date_time(out: &mut String, time: DateTime) -> Result<(), AllocError>
-    ensures { OnOk result (string_bytes out.new ≡ string_bytes out.old ++ quoted (date_time_text time)) }
+pub(crate) fn append_date_time(out: &mut Line, time: DateTime) -> Result<(), AllocError>
+    ensures { OnOk result (out.new.bytes.items ≡ out.old.bytes.items ++ quoted (date_time_text time)) }
 {
-    out.push('"')?;
+    out.push(b'"')?;
     push_date_time(out, time)?;
-    out.push('"')
+    out.push(b'"')
 }
 
 /// A time in quotes.
-pub(crate) fn append_time(out: &mut String, time: Time) -> Result<(), AllocError>
-    ensures { OnOk result (string_bytes out.new ≡ string_bytes out.old ++ quoted (time_text time)) }
+pub(crate) fn append_time(out: &mut Line, time: Time) -> Result<(), AllocError>
+    ensures { OnOk result (out.new.bytes.items ≡ out.old.bytes.items ++ quoted (time_text time)) }
 {
-    out.push('"')?;
+    out.push(b'"')?;
     push_time(out, time)?;
-    out.push('"')
+    out.push(b'"')
 }
 
 /// Seconds since 1970 in quotes.
-pub(crate) fn append_timestamp(out: &mut String, time: Timestamp) -> Result<(), AllocError>
-    ensures { OnOk result (string_bytes out.new ≡ string_bytes out.old ++ quoted (timestamp_text time)) }
+pub(crate) fn append_timestamp(out: &mut Line, time: Timestamp) -> Result<(), AllocError>
+    ensures { OnOk result (out.new.bytes.items ≡ out.old.bytes.items ++ quoted (timestamp_text time)) }
 {
-    out.push('"')?;
+    out.push(b'"')?;
     push_timestamp(out, time)?;
-    out.push('"')
+    out.push(b'"')
 }

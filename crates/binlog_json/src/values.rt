@@ -1,5 +1,5 @@
 //! Values of columns as JSON, at the end of a text.
-ghost use Rattle.std.specs.Prelude.{◌≡◌, ◌<◌, ◌++◌, ◌∷◌, [], codes, length, OnOk, string_bytes};
+ghost use Rattle.std.specs.Prelude.{◌≡◌, ◌<◌, ◌++◌, ◌∷◌, [], codes, length, OnOk};
 ghost use Rattle.json.specs.Print.{quoted};
 ghost use Rattle.base64.specs.Engines.{standard};
 ghost use Rattle.base64.specs.GeneralPurpose.{encode_of};
@@ -8,7 +8,8 @@ ghost use Rattle.binlog_table.specs.Value.{view as cell_view};
 ghost use Rattle.binlog_table.specs.MapWords.{value_names_in};
 ghost use Rattle.binlog_json.specs.Values.{content_data, bytes_data, encoded_data, enum_data, set_data};
 
-use crate::append::{Quoter, append_integer, append_plain};
+use crate::append::{Quoter, append_integer, append_number, append_plain};
+use crate::lines::Line;
 use crate::names::{append_names, enum_name, is_named};
 use crate::plain::is_plain;
 use crate::room::Room;
@@ -16,27 +17,26 @@ use crate::texts::{
     append_date, append_date_time, append_decimal, append_time, append_timestamp, append_year,
 };
 use base64::engine::general_purpose::STANDARD;
-use binlog_select::push_number;
 use binlog_table::{Cell, RowView};
 use std::alloc::AllocError;
 
 /// The value of a column with this cell.
 #[inline(always)]
 pub(crate) fn append_value(
-    out: &mut String,
+    out: &mut Line,
     room: &mut Room,
     image: &RowView<'_>,
     column: usize,
     cell: &Cell<'_>,
 ) -> Result<(), AllocError>
     requires { column < length image.now.table.columns }
-    ensures { OnOk result (string_bytes out.new ≡ string_bytes out.old ++ compact_text
+    ensures { OnOk result (out.new.bytes.items ≡ out.old.bytes.items ++ compact_text
         (content_data (value_names_in image.now.table column) (cell_view cell.now))) }
 {
     match cell {
         Cell::Absent | Cell::Null => out.push_str("null"),
         Cell::Int(number) => append_integer(out, *number),
-        Cell::UInt(number) | Cell::Bits(number) => push_number(out, *number),
+        Cell::UInt(number) | Cell::Bits(number) => append_number(out, *number),
         Cell::Enum(number) => append_enum(out, room, image, column, *number),
         Cell::Set(number) => append_set(out, room, image, column, *number),
         Cell::Bytes(bytes) => append_bytes(out, room, bytes),
@@ -51,35 +51,35 @@ pub(crate) fn append_value(
 }
 
 fn append_enum(
-    out: &mut String,
+    out: &mut Line,
     room: &mut Room,
     image: &RowView<'_>,
     column: usize,
     number: u16,
 ) -> Result<(), AllocError>
     requires { column < length image.now.table.columns }
-    ensures { OnOk result (string_bytes out.new ≡ string_bytes out.old ++ compact_text
+    ensures { OnOk result (out.new.bytes.items ≡ out.old.bytes.items ++ compact_text
         (enum_data (value_names_in image.now.table column) number)) }
 {
     match enum_name(image, column, number) {
-        None => push_number(out, u64::from(number)),
+        None => append_number(out, u64::from(number)),
         Some(name) => append_bytes(out, room, name),
     }
 }
 
 fn append_set(
-    out: &mut String,
+    out: &mut Line,
     room: &mut Room,
     image: &RowView<'_>,
     column: usize,
     number: u64,
 ) -> Result<(), AllocError>
     requires { column < length image.now.table.columns }
-    ensures { OnOk result (string_bytes out.new ≡ string_bytes out.old ++ compact_text
+    ensures { OnOk result (out.new.bytes.items ≡ out.old.bytes.items ++ compact_text
         (set_data (value_names_in image.now.table column) number)) }
 {
     if !is_named(image, column, number) {
-        return push_number(out, number);
+        return append_number(out, number);
     }
     room.names.clear();
     append_names(&mut room.names, image, column, number)?;
@@ -87,8 +87,8 @@ fn append_set(
 }
 
 #[inline(always)]
-fn append_bytes(out: &mut String, room: &mut Room, bytes: &[u8]) -> Result<(), AllocError>
-    ensures { OnOk result (string_bytes out.new ≡ string_bytes out.old ++ compact_text (bytes_data bytes.now)) }
+fn append_bytes(out: &mut Line, room: &mut Room, bytes: &[u8]) -> Result<(), AllocError>
+    ensures { OnOk result (out.new.bytes.items ≡ out.old.bytes.items ++ compact_text (bytes_data bytes.now)) }
 {
     append_text(out, &mut room.quoter, &mut room.text, bytes)
 }
@@ -96,12 +96,12 @@ fn append_bytes(out: &mut String, room: &mut Room, bytes: &[u8]) -> Result<(), A
 /// A string where the bytes are UTF-8, else an object with the bytes in base64.
 #[inline(always)]
 fn append_text(
-    out: &mut String,
+    out: &mut Line,
     quoter: &mut Quoter,
     room: &mut String,
     bytes: &[u8],
 ) -> Result<(), AllocError>
-    ensures { OnOk result (string_bytes out.new ≡ string_bytes out.old ++ compact_text (bytes_data bytes.now)) }
+    ensures { OnOk result (out.new.bytes.items ≡ out.old.bytes.items ++ compact_text (bytes_data bytes.now)) }
 {
     if is_plain::<0x80>(bytes) {
         return append_plain(out, bytes);
@@ -114,13 +114,13 @@ fn append_text(
 
 /// An object whose member says that the bytes are as they are stored.
 fn append_raw(
-    out: &mut String,
+    out: &mut Line,
     quoter: &mut Quoter,
     room: &mut String,
     bytes: &[u8],
 ) -> Result<(), AllocError>
-    ensures { OnOk result (string_bytes out.new
-        ≡ string_bytes out.old ++ compact_text (encoded_data (codes "raw") bytes.now)) }
+    ensures { OnOk result (out.new.bytes.items
+        ≡ out.old.bytes.items ++ compact_text (encoded_data (codes "raw") bytes.now)) }
 {
     out.push_str("{\"raw\":")?;
     append_base64(out, quoter, room, bytes)?;
@@ -129,13 +129,13 @@ fn append_raw(
 
 /// An object whose member says that the bytes are no text.
 fn append_encoded(
-    out: &mut String,
+    out: &mut Line,
     quoter: &mut Quoter,
     room: &mut String,
     bytes: &[u8],
 ) -> Result<(), AllocError>
-    ensures { OnOk result (string_bytes out.new
-        ≡ string_bytes out.old ++ compact_text (encoded_data (codes "base64") bytes.now)) }
+    ensures { OnOk result (out.new.bytes.items
+        ≡ out.old.bytes.items ++ compact_text (encoded_data (codes "base64") bytes.now)) }
 {
     out.push_str("{\"base64\":")?;
     append_base64(out, quoter, room, bytes)?;
@@ -144,13 +144,13 @@ fn append_encoded(
 
 /// The bytes in base64, as a string.
 fn append_base64(
-    out: &mut String,
+    out: &mut Line,
     quoter: &mut Quoter,
     room: &mut String,
     bytes: &[u8],
 ) -> Result<(), AllocError>
-    ensures { OnOk result (string_bytes out.new
-        ≡ string_bytes out.old ++ quoted (encode_of standard bytes.now)) }
+    ensures { OnOk result (out.new.bytes.items
+        ≡ out.old.bytes.items ++ quoted (encode_of standard bytes.now)) }
 {
     room.clear();
     STANDARD.encode_string(bytes, room)?;
@@ -159,12 +159,12 @@ fn append_base64(
 
 /// The name of a member, with its colon.
 pub(crate) fn append_member_name(
-    out: &mut String,
+    out: &mut Line,
     quoter: &mut Quoter,
     name: &str,
 ) -> Result<(), AllocError>
-    ensures { OnOk result (string_bytes out.new ≡ string_bytes out.old ++ (quoted name.now ++ 58 ∷ [])) }
+    ensures { OnOk result (out.new.bytes.items ≡ out.old.bytes.items ++ (quoted name.now ++ 58 ∷ [])) }
 {
     quoter.append(out, name)?;
-    out.push(':')
+    out.push(b':')
 }

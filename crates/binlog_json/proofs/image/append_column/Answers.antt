@@ -1,4 +1,4 @@
-use Rattle.std.proofs.Common.{◌≡◌, ◌∙◌, ap, sym, refl, append-nil, ◌++◌, slice_get, Some, string_bytes, arith}
+use Rattle.std.proofs.Common.{◌≡◌, ◌∙◌, ap, sym, refl, append-nil, ◌++◌, slice_get, Some, arith}
 use Rattle.json.specs.Print.{quoted}
 use Rattle.binlog_table.specs.RowImage.{RowImage}
 use Rattle.binlog_table.specs.NameOrder.{name_of}
@@ -26,7 +26,7 @@ pub from_utf8_unchecked-requires : goal.from_utf8_unchecked-requires
 from_utf8_unchecked-requires c =
     let names = c.args.image.now.table.names in
     let below = c.column_count.ensures.names in
-    joined_utf8 names (string_bytes c.args.labels.now.text) c.args.labels.now.bounds.items c.args.column c.args.later c.label.result.now c.joined-label.result.now c.requires.labels (omega arith)
+    joined_utf8 names (c.args.labels.now.text.bytes.items) c.args.labels.now.bounds.items c.args.column c.args.later c.label.result.now c.joined-label.result.now c.requires.labels (omega arith)
     (c.label.ensures names c.requires.labels (omega arith)) c.joined-label.ensures
 
 pub returns-in_ok-append_value-in_default : goal.returns-in_ok-append_value-in_default
@@ -35,9 +35,9 @@ returns-in_ok-append_value-in_default c =
     let names = c.args.image.now.table.names in
     let below = c.column_count.ensures.names in
     let label = joined_is names c.args.column c.args.later c.label.result.now c.joined-label.result.now (c.label.ensures names c.requires.labels (omega arith)) c.joined-label.ensures in
-    let text = then_value (string_bytes c.args.out.now) (string_bytes c.push_str.new.self) (string_bytes c.append_value.new.out) _ (quoted (name_of names c.args.column)) _
-    (c.in_ok-push_str-in_default.ensures.bytes ∙ ap (λ l. string_bytes c.args.out.now ++ l) (c.from_utf8_unchecked.ensures ∙ label)) c.in_ok-append_value-in_default.ensures in
+    let text = then_value (c.args.out.now.bytes.items) (c.push_short.new.self.bytes.items) (c.append_value.new.out.bytes.items) _ (quoted (name_of names c.args.column)) _
+    (c.in_ok-push_short-in_default.ensures.bytes ∙ ap (λ l. c.args.out.now.bytes.items ++ l) (c.from_utf8_unchecked.ensures ∙ label)) c.in_ok-append_value-in_default.ensures in
     record {
-      text = text ∙ ap (λ t. string_bytes c.args.out.now ++ t) (sym (column_is c.args.later c.args.image.now c.args.column c.cell-cell.result at c.in_default.not-Absent));
+      text = text ∙ ap (λ t. c.args.out.now.bytes.items ++ t) (sym (column_is c.args.later c.args.image.now c.args.column c.cell-cell.result at c.in_default.not-Absent));
       later = rw (present_is c.args.image.now c.args.column c.cell-cell.result at c.in_default.not-Absent) refl;
     }

@@ -1,8 +1,8 @@
-use Rattle.std.proofs.Common.{◌≡◌, ◌++◌, drop, false, string_bytes}
+use Rattle.std.proofs.Common.{◌≡◌, ◌++◌, drop, false}
 use Rattle.serde_json.specs.Written.{members_text}
 use Rattle.binlog_json.specs.Listed.{listed}
 use Rattle.binlog_json.proofs.image.append_columns.Given as goal
 
 abbrev pub invariant-loop-column : goal.invariant-loop-column
 invariant-loop-column l =
-    string_bytes l.out ++ members_text l.later (listed l.image (drop l.column-index l.column-items)) ≡ string_bytes l.initial.out ++ members_text false (listed l.image l.column-items)
+    l.out.bytes.items ++ members_text l.later (listed l.image (drop l.column-index l.column-items)) ≡ l.initial.out.bytes.items ++ members_text false (listed l.image l.column-items)
