@@ -13,28 +13,9 @@ use crate::room::Room;
 use crate::values::append_value;
 use binlog_table::{Cell, PlacedRow, RowView};
 use std::alloc::AllocError;
-use std::mem;
 
-/// Appends an image as an object: its present columns, in the order of their names.
+/// Appends an image, whose cells lie where the row says, as an object: its present columns, in the order of their names.
 pub(crate) fn append_image(
-    out: &mut Line,
-    room: &mut Room,
-    labels: &Labels,
-    image: &RowView<'_>,
-) -> Result<(), AllocError>
-    requires { AreLabels image.now.table.names (labels.now.text.bytes.items) labels.now.bounds.items }
-    ensures { OnOk result (out.new.bytes.items
-        ≡ out.old.bytes.items ++ compact_text (object (image_members image.now))) }
-{
-    let places = mem::replace(&mut room.places, Vec::new(room.alloc));
-    let row = PlacedRow::of(image, places)?;
-    let written = append_columns(out, room, labels, image, &row);
-    room.places = row.into_room();
-    written
-}
-
-/// Appends an image whose cells were found.
-fn append_columns(
     out: &mut Line,
     room: &mut Room,
     labels: &Labels,

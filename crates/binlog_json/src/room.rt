@@ -2,13 +2,11 @@
 
 use crate::append::Quoter;
 use crate::lines::Line;
-use binlog_table::CellPlace;
 use std::alloc::Global;
 
 /// What a value is put together in.
 #[derive(Drop)]
 pub(crate) struct Room {
-    pub(crate) alloc: Global,
     pub(crate) quoter: Quoter,
     /// A text before it is quoted.
     pub(crate) text: String,
@@ -16,19 +14,15 @@ pub(crate) struct Room {
     pub(crate) table: Line,
     /// The names of a SET's value.
     pub(crate) names: Vec<u8>,
-    /// Where the cells of an image lie.
-    pub(crate) places: Vec<CellPlace>,
 }
 
 impl Room {
     pub(crate) fn new(alloc: Global) -> Room {
         Room {
-            alloc,
             quoter: Quoter::new(alloc),
             text: String::new(alloc),
             table: Line::new(alloc),
             names: Vec::new(alloc),
-            places: Vec::new(alloc),
         }
     }
 }

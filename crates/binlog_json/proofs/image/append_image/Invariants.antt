@@ -1,7 +1,7 @@
 use Rattle.std.proofs.Common.{◌≡◌, ◌++◌, drop, false}
 use Rattle.serde_json.specs.Written.{members_text}
 use Rattle.binlog_json.specs.Listed.{listed}
-use Rattle.binlog_json.proofs.image.append_columns.Given as goal
+use Rattle.binlog_json.proofs.image.append_image.Given as goal
 
 abbrev pub invariant-loop-column : goal.invariant-loop-column
 invariant-loop-column l =

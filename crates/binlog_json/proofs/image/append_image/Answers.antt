@@ -1,5 +1,5 @@
 use Rattle.binlog_json.proofs.ColumnTexts.{members_more, members_end}
-use Rattle.binlog_json.proofs.image.append_columns.Goals as goal
+use Rattle.binlog_json.proofs.image.append_image.Goals as goal
 
 pub loop-column-preserved : goal.loop-column-preserved
 loop-column-preserved c =
