@@ -1,7 +1,9 @@
 -- The set bits of a bitmap, counted a byte at a time.
-use Rattle.std.proofs.Common.{◌≡◌, ℕ, zero, suc, ◌+◌, ◌*◌, ◌/◌, ◌%◌, ◌^◌, ◌<◌, ◌≤◌, Bool, true, false, cond, nat_eq, List, length, get_or, refl, ap, subst, ◌∙◌, ◌⊎◌, inl, inr, arith}
+use Rattle.std.proofs.Common.{◌≡◌, ℕ, zero, suc, ◌+◌, ◌*◌, ◌/◌, ◌%◌, ◌^◌, ◌<◌, ◌≤◌, Bool, true, false, cond, nat_eq, List, [], ◌∷◌, length, get_or, ◌==◌, ◌&&◌, refl, ap, subst, ◌∙◌, ◌⊎◌, inl, inr, arith}
 use Rattle.std.specs.Int.RustNames.{count_ones}
-use Rattle.std.proofs.lemmas.Bool.{cases_lt}
+use Rattle.std.specs.List.{list_all}
+use Rattle.std.specs.Prelude.{slice_index}
+use Rattle.std.proofs.lemmas.Bool.{cases_lt, eqb-true}
 use Rattle.std.proofs.lemmas.List.{get_or_past}
 use Rattle.std.proofs.lemmas.Nat.{mod-pow-add, ones_cat, ones-le, pow_pos, shr_le}
 use Rattle.binlog_table.specs.Image.{bit, set_bits}
@@ -118,3 +120,21 @@ bit-none_set bytes (suc n) i within none = by (bit bytes n) refl (λ less before
     by : (b : Bool) → bit bytes n ≡ b → (i < n → set_bits bytes n ≡ 0 → bit bytes i ≡ false) → bit bytes i ≡ false
     by true e before = let ones : set_bits bytes n + 1 ≡ 0 = rw e at none in absurd (omega (arith, ones))
     by false e before = let ones : set_bits bytes n + 0 ≡ 0 = rw e at none in to_last (λ (k : ℕ). bit bytes k ≡ false) n i within (λ less. before less (omega (arith, ones))) e
+
+-- a bitmap of zeros has no bit that is set
+both-true : (x y : Bool) → (x && y) ≡ true → (x ≡ true) × (y ≡ true)
+both-true true y h = (refl, h)
+both-true false y h = absurd cc
+
+zeros-byte : (bytes : List ℕ) (k : ℕ) → list_all (λ byte. byte == 0) bytes ≡ true → slice_index bytes k ≡ 0
+zeros-byte [] k h = refl
+zeros-byte (b ∷ bytes) zero h = eqb-true b 0 (both-true (b == 0) (list_all (λ byte. byte == 0) bytes) h).0
+zeros-byte (b ∷ bytes) (suc k) h = zeros-byte bytes k (both-true (b == 0) (list_all (λ byte. byte == 0) bytes) h).1
+
+pub bit-zeros : (bytes : List ℕ) → list_all (λ byte. byte == 0) bytes ≡ true → (i : ℕ) → bit bytes i ≡ false
+bit-zeros bytes h i =
+    let byte : slice_index bytes (i / 8) ≡ 0 = zeros-byte bytes (i / 8) h in
+    rw byte (zero-bit (2 ^ (i % 8)))
+  where
+    zero-bit : (n : ℕ) → (0 / n % 2 == 1) ≡ false
+    zero-bit n = let none : 0 / n ≡ 0 = omega arith in rw none refl
