@@ -5,7 +5,7 @@ use Rattle.binlog_table.proofs.CellWalk.{end_from, present-stops, present-goes, 
 use Rattle.binlog_table.proofs.image.after_present.Goals as goal
 
 pub returns-in_err-len-clause-value : goal.returns-in_err-len-clause-value
-returns-in_err-len-clause-value c = λ present all.
+returns-in_err-len-clause-value g c = λ present all.
     let columns = c.args.columns.now in
     let nulls = c.args.nulls.now in
     let end = end_from c.args.start (cells_at columns present nulls 0 0 (drop c.args.start c.args.body.now)) in
@@ -13,7 +13,7 @@ returns-in_err-len-clause-value c = λ present all.
     rw c.from_residual.ensures (present-stops columns present nulls c.loop-place.place c.index-columns-place.result _ c.loop-place.at (drop c.loop-place.at c.args.body.now) end c.loop-place-test.true c.index-columns-place.is all null (rw (take_rest c.args.body.now c.loop-place.at) at c.in_err-len.ensures.value) (c.loop-place.invariant.ends present all))
 
 pub loop-place-preserved : goal.loop-place-preserved
-loop-place-preserved c = record {
+loop-place-preserved g c = record {
   within = omega (arith, c.in_ok-len.ensures.within);
   ends = λ present all.
       let columns = c.args.columns.now in
@@ -23,5 +23,5 @@ loop-place-preserved c = record {
 }
 
 pub returns-clause-value : goal.returns-clause-value
-returns-clause-value c = λ present all.
+returns-clause-value g c = λ present all.
     walk-ends c.args.columns.now present c.args.nulls.now c.loop-place.place c.loop-place.place c.loop-place.at (drop c.loop-place.at c.args.body.now) (end_from c.args.start (cells_at c.args.columns.now present c.args.nulls.now 0 0 (drop c.args.start c.args.body.now))) c.loop-place-test.false (c.loop-place.invariant.ends present all)

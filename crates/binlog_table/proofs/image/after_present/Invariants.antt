@@ -4,7 +4,7 @@ use Rattle.binlog_table.proofs.image.after_present.Given as goal
 
 -- what is still to be read ends where the whole does
 abbrev pub invariant-loop-place : goal.invariant-loop-place
-invariant-loop-place l = record {
+invariant-loop-place g l = record {
   within : l.at ≤ length l.body;
   ends : (present : List ℕ) → set_bits present (length l.columns) ≡ length l.columns
       → option_map (λ x. l.at + x.1) (cells_at (drop l.place l.columns) present l.nulls l.place l.place (drop l.at l.body)) ≡ option_map (λ x. l.start + x.1) (cells_at l.columns present l.nulls 0 0 (drop l.start l.body));
