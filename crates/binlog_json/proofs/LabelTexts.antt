@@ -1,6 +1,6 @@
 -- The labels of columns, kept behind one another.
 use Rattle.std.proofs.Common.{◌≡◌, ℕ, zero, suc, ◌+◌, ◌-◌, ◌<◌, ◌≤◌, nat_lt, List, [], ◌∷◌, ◌++◌, Bool, true, false, cond, length, take, drop, slice_get, slice_index_or, Some, ltb-true, ltb-false, length-append, append_assoc, refl, ap, sym, subst, ◌∙◌, arith}
-use Rattle.std.proofs.lemmas.List.{take-append-le, take_all}
+use Rattle.std.proofs.lemmas.List.{drop-take, take-append-le, take_all}
 use Rattle.std.proofs.lemmas.Str.{IsCharBoundary-before_ascii, IsUtf8-append, IsUtf8-drop, IsUtf8-from_is_utf8, is_utf8-from_IsUtf8}
 use Rattle.std.specs.Str.{IsUtf8, is_utf8}
 use Rattle.json.specs.Print.{quoted}
@@ -26,6 +26,10 @@ longer names text more new column b h is =
       is = rw is (slice_longer text more b.0 (b.1 - b.0) (omega arith) ∙ h.is);
       utf8 = h.utf8;
     }
+
+-- what stands behind labels leaves them
+pub longer_labels : (names : List (List ℕ)) (text more new : List ℕ) (bounds : List (ℕ × ℕ)) → AreWritten names text bounds → new ≡ text ++ more → AreWritten names new bounds
+longer_labels names text more new bounds each is column below = longer names text more new column (slice_index_or bounds column (0, 0)) (each column below) is
 
 at_end : (text more : List ℕ) → drop (length text) (text ++ more) ≡ more
 at_end [] more = refl
@@ -110,3 +114,26 @@ joined_at false names column = refl
 pub joined_is : (names : List (List ℕ)) (column : ℕ) (later : Bool) (label joined : List ℕ) → label ≡ label_text names column → joined ≡ cond later label (drop 1 label)
     → joined ≡ comma_if later ++ (quoted (name_of names column) ++ 58 ∷ [])
 joined_is names column later label joined is cut = cut ∙ ap (λ (l : List ℕ). cond later l (drop 1 l)) is ∙ joined_at later names column
+
+pub without_first : (label : List ℕ) (count : ℕ) → 0 < count → take (count - 1) (drop 1 label) ≡ drop 1 (take count label)
+without_first label count some =
+    let whole : 1 + (count - 1) ≡ count = omega (arith, some) in
+    sym (drop-take 1 (count - 1) label) ∙ ap (λ k. drop 1 (take k label)) whole
+
+-- a label has bytes
+pub some_label : (names : List (List ℕ)) (column count : ℕ) (text : List ℕ) → take count text ≡ label_text names column → 0 < count
+some_label names column zero text is = absurd (cc)
+some_label names column (suc count) text is = omega arith
+
+index_any : (bounds : List (ℕ × ℕ)) (i : ℕ) (d e : ℕ × ℕ) → i < length bounds → slice_index_or bounds i d ≡ slice_index_or bounds i e
+index_any [] i d e h = absurd (omega arith)
+index_any (b ∷ bounds) zero d e h = refl
+index_any (b ∷ bounds) (suc i) d e h = index_any bounds i d e (omega arith)
+
+-- a label ends behind its beginning
+pub bounds_ordered : (names : List (List ℕ)) (text : List ℕ) (bounds : List (ℕ × ℕ)) (column : ℕ) (b : ℕ × ℕ) → AreLabels names text bounds → column < length names → b ≡ slice_index_or bounds column b → b.0 ≤ b.1
+bounds_ordered names text bounds column b h below at =
+    let all = h.all in
+    let within : column < length bounds = omega arith in
+    let same : slice_index_or bounds column (0, 0) ≡ b = index_any bounds column (0, 0) b within ∙ sym at in
+    subst (λ (p : ℕ × ℕ). p.0 ≤ p.1) same (h.each column within).ordered

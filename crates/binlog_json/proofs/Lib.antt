@@ -13,7 +13,8 @@ pub mod LabelTexts
 pub mod LineParts
 pub mod Visiting
 pub mod Pairs
-pub mod Halves
+pub mod Places
+pub mod NumberTexts
 pub mod Indexes
 pub mod Placing
 pub mod Absorbing

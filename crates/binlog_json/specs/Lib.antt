@@ -2,6 +2,7 @@ pub mod Texts
 pub mod Values
 pub mod Images
 pub mod Line
+pub mod LineBytes
 pub mod Joining
 pub mod Listed
 pub mod Labels

@@ -4,6 +4,7 @@ ghost use Rattle.std.specs.Fmt.{signed_decimal};
 ghost use Rattle.json.specs.Print.{escape, quoted};
 ghost use Rattle.binlog_json.specs.Joining.{comma_if};
 ghost use Rattle.binlog_json.specs.PlainText.{IsPlain};
+ghost use Rattle.binlog_json.specs.LineBytes.{line_bytes};
 
 use crate::lines::Line;
 use crate::plain::is_plain;
@@ -14,24 +15,28 @@ use std::mem;
 /// The number in decimal digits, with its sign where it is below zero.
 #[inline(always)]
 pub(crate) fn append_integer(out: &mut Line, number: i64) -> Result<(), AllocError>
-    ensures { OnOk result (out.new.bytes.items ≡ out.old.bytes.items ++ signed_decimal number) }
+    ensures { OnOk result (line_bytes out.new ≡ line_bytes out.old ++ signed_decimal number) }
 {
-    let mut buffer = itoa::Buffer::new();
-    out.push_short(buffer.format(number))
+    if number >= 0 {
+        return append_number(out, number.unsigned_abs());
+    }
+    out.push(b'-')?;
+    append_number(out, number.unsigned_abs())
 }
 
 /// The number in decimal digits.
 #[inline(always)]
 pub(crate) fn append_number(out: &mut Line, number: u64) -> Result<(), AllocError>
-    ensures { OnOk result (out.new.bytes.items ≡ out.old.bytes.items ++ decimal number) }
+    ensures { OnOk result (line_bytes out.new ≡ line_bytes out.old ++ decimal number) }
 {
-    let mut buffer = itoa::Buffer::new();
-    out.push_short(buffer.format(number))
+    let mut shown = [b'0'; 40];
+    let start = itoa::write_digits(number, &mut shown, 20);
+    out.push_first(&shown[start..], 20 - start)
 }
 
 /// A comma, where something stands before it.
 pub(crate) fn append_comma(out: &mut Line, later: bool) -> Result<(), AllocError>
-    ensures { OnOk result (out.new.bytes.items ≡ out.old.bytes.items ++ comma_if later) }
+    ensures { OnOk result (line_bytes out.new ≡ line_bytes out.old ++ comma_if later) }
 {
     if later {
         out.push(b',')?;
@@ -43,10 +48,10 @@ pub(crate) fn append_comma(out: &mut Line, later: bool) -> Result<(), AllocError
 #[inline(always)]
 pub(crate) fn append_as_is(out: &mut Line, text: &str) -> Result<(), AllocError>
     requires { escape text.now ≡ text.now }
-    ensures { OnOk result (out.new.bytes.items ≡ out.old.bytes.items ++ quoted text.now) }
+    ensures { OnOk result (line_bytes out.new ≡ line_bytes out.old ++ quoted text.now) }
 {
     out.push(b'"')?;
-    out.push_short(text)?;
+    out.push_str(text)?;
     out.push(b'"')
 }
 
@@ -54,7 +59,7 @@ pub(crate) fn append_as_is(out: &mut Line, text: &str) -> Result<(), AllocError>
 #[inline(always)]
 pub(crate) fn append_plain(out: &mut Line, text: &[u8]) -> Result<(), AllocError>
     requires { IsPlain text.now }
-    ensures { OnOk result (out.new.bytes.items ≡ out.old.bytes.items ++ quoted text.now) }
+    ensures { OnOk result (line_bytes out.new ≡ line_bytes out.old ++ quoted text.now) }
 {
     append_as_is(out, unsafe { str::from_utf8_unchecked(text) })
 }
@@ -76,7 +81,7 @@ impl Quoter {
 
     /// The text as a string, in quotes and escaped.
     pub(crate) fn append(&mut self, out: &mut Line, text: &str) -> Result<(), AllocError>
-        ensures { OnOk result (out.new.bytes.items ≡ out.old.bytes.items ++ quoted text.now) }
+        ensures { OnOk result (line_bytes out.new ≡ line_bytes out.old ++ quoted text.now) }
     {
         if !is_plain::<0xff>(text.as_bytes()) {
             return self.append_escaped(out, text);
@@ -86,7 +91,7 @@ impl Quoter {
 
     /// The text as a string, in quotes, each byte judged for itself.
     fn append_escaped(&mut self, out: &mut Line, text: &str) -> Result<(), AllocError>
-        ensures { OnOk result (out.new.bytes.items ≡ out.old.bytes.items ++ quoted text.now) }
+        ensures { OnOk result (line_bytes out.new ≡ line_bytes out.old ++ quoted text.now) }
     {
         self.room.clear();
         let mut writer = Writer::new(mem::replace(&mut self.room, Vec::new(self.alloc)));

@@ -2,6 +2,7 @@
 ghost use Rattle.std.specs.Prelude.{◌≡◌, ◌+◌, ◌<◌, ◌≤◌, [], ◌∷◌, ◌++◌, ◌-◌, ◌/◌, ◌%◌, ◌^◌, ◌*◌, length, take, drop, replicate, OnOk, All};
 ghost use Rattle.binlog_table.specs.Decimal.{digits_of};
 ghost use Rattle.binlog_json.specs.Texts.{padded, digits_text, whole_text, point_text, fraction_text};
+ghost use Rattle.binlog_json.specs.LineBytes.{line_bytes};
 
 use crate::lines::Line;
 use std::alloc::AllocError;
@@ -23,25 +24,25 @@ pub(crate) fn pair(number: u8) -> (u8, u8)
 
 /// The number with zeros in front of it, up to the width.
 pub(crate) fn push_padded(text: &mut Line, number: u32, width: usize) -> Result<(), AllocError>
-    ensures { OnOk result (text.new.bytes.items ≡ text.old.bytes.items ++ padded width number) }
+    ensures { OnOk result (line_bytes text.new ≡ line_bytes text.old ++ padded width number) }
 {
     let mut buffer = itoa::Buffer::new();
     let digits = buffer.format(number);
     push_zeros(text, width.saturating_sub(digits.len()))?;
-    text.push_short(digits)
+    text.push_str(digits)
 }
 
 /// A mark, and a number in two digits behind it, or in more where it has more.
 pub(crate) fn push_part(text: &mut Line, mark: u8, number: u8) -> Result<(), AllocError>
     requires { mark < 128 }
-    ensures { OnOk result (text.new.bytes.items ≡ text.old.bytes.items ++ mark ∷ padded 2 number) }
+    ensures { OnOk result (line_bytes text.new ≡ line_bytes text.old ++ mark ∷ padded 2 number) }
 {
     text.push(mark)?;
     push_padded(text, u32::from(number), 2)
 }
 
 fn push_zeros(text: &mut Line, count: usize) -> Result<(), AllocError>
-    ensures { OnOk result (text.new.bytes.items ≡ text.old.bytes.items ++ replicate count 48) }
+    ensures { OnOk result (line_bytes text.new ≡ line_bytes text.old ++ replicate count 48) }
 {
     for _place in 0..count {
         text.push(b'0')?;
@@ -68,7 +69,7 @@ pub(crate) fn push_scaled(text: &mut Line, digits: &[u8], scale: usize) -> Resul
     requires digits { All (λ d. d < 10) digits.now }
     requires few { length digits.now ≤ 65 }
     requires scale { scale ≤ length digits.now }
-    ensures { OnOk result (text.new.bytes.items ≡ text.old.bytes.items
+    ensures { OnOk result (line_bytes text.new ≡ line_bytes text.old
         ++ (whole_text (take (length digits.now - scale) digits.now) ++ point_text (drop (length digits.now - scale) digits.now))) }
 {
     let shown = shown_digits(digits);
@@ -82,7 +83,7 @@ pub(crate) fn push_scaled(text: &mut Line, digits: &[u8], scale: usize) -> Resul
 fn push_whole(text: &mut Line, digits: &[u8], shown: &[u8]) -> Result<(), AllocError>
     requires digits { All (λ d. d < 10) digits.now }
     requires shown { shown.now ≡ digits_text digits.now }
-    ensures { OnOk result (text.new.bytes.items ≡ text.old.bytes.items ++ whole_text digits.now) }
+    ensures { OnOk result (line_bytes text.new ≡ line_bytes text.old ++ whole_text digits.now) }
 {
     let mut at = 0;
     while at < digits.len() && digits[at] == 0 {
@@ -91,20 +92,20 @@ fn push_whole(text: &mut Line, digits: &[u8], shown: &[u8]) -> Result<(), AllocE
     if at == digits.len() {
         return text.push(b'0');
     }
-    text.push_short(unsafe { str::from_utf8_unchecked(&shown[at..]) })
+    text.push_str(unsafe { str::from_utf8_unchecked(&shown[at..]) })
 }
 
 /// The digits behind a point, with the point. They are given as characters too.
 fn push_point(text: &mut Line, digits: &[u8], shown: &[u8]) -> Result<(), AllocError>
     requires digits { All (λ d. d < 10) digits.now }
     requires shown { shown.now ≡ digits_text digits.now }
-    ensures { OnOk result (text.new.bytes.items ≡ text.old.bytes.items ++ point_text digits.now) }
+    ensures { OnOk result (line_bytes text.new ≡ line_bytes text.old ++ point_text digits.now) }
 {
     if digits.is_empty() {
         return Ok(());
     }
     text.push(b'.')?;
-    text.push_short(unsafe { str::from_utf8_unchecked(shown) })
+    text.push_str(unsafe { str::from_utf8_unchecked(shown) })
 }
 
 /// The digit of a number at a place, counted from the last digit.
@@ -127,8 +128,8 @@ fn push_first_digits(
     number: u32,
 ) -> Result<(), AllocError>
     requires { count ≤ width }
-    ensures { OnOk result (text.new.bytes.items
-        ≡ text.old.bytes.items ++ digits_text (take count (digits_of width number))) }
+    ensures { OnOk result ((line_bytes text.new)
+        ≡ line_bytes text.old ++ digits_text (take count (digits_of width number))) }
 {
     for place in 0..count {
         let digit = digit_at(number, width - 1 - place);
@@ -139,8 +140,8 @@ fn push_first_digits(
 
 /// The stored fraction of a second of a column with a precision, with its point.
 pub(crate) fn push_fraction(text: &mut Line, precision: u8, fraction: u32) -> Result<(), AllocError>
-    ensures { OnOk result (text.new.bytes.items
-        ≡ text.old.bytes.items ++ fraction_text precision fraction) }
+    ensures { OnOk result ((line_bytes text.new)
+        ≡ line_bytes text.old ++ fraction_text precision fraction) }
 {
     if precision == 0 {
         return Ok(());

@@ -2,6 +2,7 @@
 ghost use Rattle.std.specs.Prelude.{◌≡◌, ◌++◌, OnOk, string_bytes};
 ghost use Rattle.serde_json.specs.Written.{compact_text};
 ghost use Rattle.binlog_json.specs.Line.{gtid_data, gtid_text};
+ghost use Rattle.binlog_json.specs.LineBytes.{line_bytes};
 
 use crate::lines::Line;
 use crate::room::Room;
@@ -15,7 +16,7 @@ pub(crate) fn append_gtid(
     room: &mut Room,
     gtid: Option<(Uuid, u64)>,
 ) -> Result<(), AllocError>
-    ensures { OnOk result (out.new.bytes.items ≡ out.old.bytes.items ++ compact_text (gtid_data gtid)) }
+    ensures { OnOk result (line_bytes out.new ≡ line_bytes out.old ++ compact_text (gtid_data gtid)) }
 {
     match gtid {
         None => out.push_str("null"),

@@ -1,11 +1,12 @@
 //! Images as objects, written in the order of the columns' names.
-ghost use Rattle.std.specs.Prelude.{◌≡◌, ◌<◌, ◌++◌, ◌||◌, not, length, drop, if◌then◌else◌, OnOk, IfOk};
+ghost use Rattle.std.specs.Prelude.{◌≡◌, ◌<◌, ◌≤◌, ◌++◌, ◌||◌, not, length, take, drop, if◌then◌else◌, OnOk, IfOk};
 ghost use Rattle.serde_json.specs.Data.{object};
 ghost use Rattle.serde_json.specs.Written.{compact_text};
 ghost use Rattle.binlog_json.specs.Images.{cell_in, image_members};
 ghost use Rattle.binlog_json.specs.Labels.{AreLabels};
 ghost use Rattle.binlog_json.specs.Values.{is_absent};
 ghost use Rattle.binlog_json.specs.Written.{column_text};
+ghost use Rattle.binlog_json.specs.LineBytes.{line_bytes};
 
 use crate::labels::Labels;
 use crate::lines::Line;
@@ -23,9 +24,9 @@ pub(crate) fn append_image(
     row: &PlacedRow<'_>,
 ) -> Result<(), AllocError>
     requires row { row.now ≡ image.now }
-    requires labels { AreLabels image.now.table.names (labels.now.text.bytes.items) labels.now.bounds.items }
-    ensures { OnOk result (out.new.bytes.items
-        ≡ out.old.bytes.items ++ compact_text (object (image_members image.now))) }
+    requires labels { AreLabels image.now.table.names (line_bytes labels.now.text) labels.now.bounds.items }
+    ensures { OnOk result ((line_bytes out.new)
+        ≡ line_bytes out.old ++ compact_text (object (image_members image.now))) }
 {
     out.push_str("{")?;
     let mut later = false;
@@ -48,8 +49,8 @@ fn append_column(
     later: bool,
 ) -> Result<bool, AllocError>
     requires row { row.now ≡ image.now }
-    requires labels { AreLabels image.now.table.names (labels.now.text.bytes.items) labels.now.bounds.items }
-    ensures text { OnOk result (out.new.bytes.items ≡ out.old.bytes.items ++ column_text later image.now column) }
+    requires labels { AreLabels image.now.table.names (line_bytes labels.now.text) labels.now.bounds.items }
+    ensures text { OnOk result (line_bytes out.new ≡ line_bytes out.old ++ column_text later image.now column) }
     ensures later { IfOk result (λ now. now ≡ (not (is_absent (cell_in image.now column)) || later)) }
 {
     if column >= image.column_count() {
@@ -59,19 +60,26 @@ fn append_column(
     match &cell {
         Cell::Absent => Ok(later),
         present => {
-            let label = joined(labels.label(column), later);
-            out.push_short(unsafe { str::from_utf8_unchecked(label) })?;
+            let (label, count) = labels.label(column);
+            let (label, count) = joined(label, count, later);
+            out.push_first(label, count)?;
             append_value(out, room, image, column, present)?;
             Ok(true)
         }
     }
 }
 
-/// A label without the comma in front of it, unless a member stands before it.
+/// A label of so many bytes, without the comma in front of it unless a member stands before it.
 #[inline(always)]
-fn joined(label: &[u8], later: bool) -> &[u8]
-    requires { 0 < length label.now }
-    ensures { result.now ≡ (if later then label.now else drop 1 label.now) }
+fn joined(label: &[u8], count: usize, later: bool) -> (&[u8], usize)
+    requires some { 0 < count }
+    requires count { count ≤ length label.now }
+    ensures label { take result.1 result.0.now ≡ (if later then take count label.now else drop 1 (take count label.now)) }
+    ensures count { result.1 ≤ length result.0.now }
 {
-    if later { label } else { &label[1..] }
+    if later {
+        (label, count)
+    } else {
+        (&label[1..], count - 1)
+    }
 }

@@ -4,6 +4,7 @@ ghost use Rattle.serde_json.specs.Written.{compact_text};
 ghost use Rattle.binlog_feed.specs.Changes.{view};
 ghost use Rattle.binlog_json.specs.Keys.{has_key as is_of_key, image_key as key_of_image, is_text, key_text_of, value_in, value_in_either};
 ghost use Rattle.binlog_json.specs.Written.{text_if};
+ghost use Rattle.binlog_json.specs.LineBytes.{line_bytes};
 
 use crate::append::append_comma;
 use crate::lines::Line;
@@ -76,8 +77,8 @@ fn append_of_either(
 ) -> Result<bool, AllocError>
     requires column { column < length image.now.table.columns }
     requires table { IfSome other.now (λ second. second.table ≡ image.now.table) }
-    ensures text { OnOk result (out.new.bytes.items
-        ≡ out.old.bytes.items ++ text_if (value_in_either image.now other.now column)) }
+    ensures text { OnOk result ((line_bytes out.new)
+        ≡ line_bytes out.old ++ text_if (value_in_either image.now other.now column)) }
     ensures has { IfOk result (λ has. has ≡ is_some (value_in_either image.now other.now column)) }
 {
     if append_of(out, room, image, column)? {
@@ -97,8 +98,8 @@ fn append_of(
     column: usize,
 ) -> Result<bool, AllocError>
     requires { column < length image.now.table.columns }
-    ensures text { OnOk result (out.new.bytes.items
-        ≡ out.old.bytes.items ++ text_if (value_in image.now column)) }
+    ensures text { OnOk result ((line_bytes out.new)
+        ≡ line_bytes out.old ++ text_if (value_in image.now column)) }
     ensures has { IfOk result (λ has. has ≡ is_some (value_in image.now column)) }
 {
     match image.value(column) {

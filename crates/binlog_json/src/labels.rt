@@ -4,6 +4,7 @@ ghost use Rattle.std.proofs.Props.{props};
 ghost use Rattle.binlog_table.specs.Map.{Map, map_at};
 ghost use Rattle.binlog_json.specs.Labels.{AreLabels, label_text};
 ghost use Rattle.binlog_json.specs.Written.{table_text};
+ghost use Rattle.binlog_json.specs.LineBytes.{line_bytes};
 
 use crate::append::Quoter;
 use crate::lines::Line;
@@ -13,6 +14,9 @@ use std::alloc::{AllocError, Global};
 
 /// How many tables' labels are kept.
 const TABLES: usize = 16;
+
+/// What stands behind the last label, so that each can be copied by sixteen bytes.
+const PADDING: &str = "                ";
 
 /// The labels of a table's columns, one behind another, where each begins and ends, and the body of the map that has the names.
 #[derive(Drop)]
@@ -24,12 +28,13 @@ pub(crate) struct Labels {
     names: Line,
     text: Line,
     bounds: Vec<(usize, usize)>,
-    ghost known: { are_known ≡ true → (map : Map) → map_at body.items ≡ Ok map → AreLabels map.names text.bytes.items bounds.items } by { Prim.hlevel props },
-    ghost named: { are_known ≡ true → (map : Map) → map_at body.items ≡ Ok map → names.bytes.items ≡ table_text map.schema map.table } by { Prim.hlevel props },
+    ghost known: { are_known ≡ true → (map : Map) → map_at body.items ≡ Ok map → AreLabels map.names (line_bytes text) bounds.items } by { Prim.hlevel props },
+    ghost named: { are_known ≡ true → (map : Map) → map_at body.items ≡ Ok map → line_bytes names ≡ table_text map.schema map.table } by { Prim.hlevel props },
 }
 
 impl Labels {
-    ghost use Rattle.std.specs.Prelude.{◌≡◌, ◌<◌, ℕ, List, length, true, Ok, OnOk};
+    ghost use Rattle.binlog_json.specs.LineBytes.{line_bytes};
+    ghost use Rattle.std.specs.Prelude.{◌≡◌, ◌<◌, ◌≤◌, ℕ, List, length, take, true, Ok, OnOk};
     ghost use Rattle.binlog_json.specs.Labels.{AreLabels, label_text};
     ghost use Rattle.binlog_json.specs.Written.{table_text};
 
@@ -45,8 +50,8 @@ impl Labels {
 
     /// Takes the labels of a map's columns in place of those that it held, unless it holds these.
     pub(crate) fn take(&mut self, map: &TableMap, quoter: &mut Quoter) -> Result<(), AllocError>
-        ensures labels { OnOk result (AreLabels map.now.names (self.new.text.bytes.items) self.new.bounds.items) }
-        ensures names { OnOk result (self.new.names.bytes.items ≡ table_text map.now.schema map.now.table) }
+        ensures labels { OnOk result (AreLabels map.now.names (line_bytes self.new.text) self.new.bounds.items) }
+        ensures names { OnOk result (line_bytes self.new.names ≡ table_text map.now.schema map.now.table) }
     {
         if self.are_known && map.spells(&self.body) {
             return Ok(());
@@ -63,20 +68,21 @@ impl Labels {
 
     /// The members of the schema and the table.
     pub(crate) fn names(&self) -> &str
-        ensures { result.now ≡ self.now.names.bytes.items }
+        ensures { result.now ≡ line_bytes self.now.names }
     {
         self.names.as_str()
     }
 
-    /// The label of a column, with the comma in front of it.
+    /// The label of a column, with the comma in front of it: so many bytes of what is answered.
     #[inline(always)]
-    pub(crate) fn label(&self, column: usize) -> &[u8]
-        requires { (names : List (List ℕ)) × (AreLabels names (self.now.text.bytes.items) self.now.bounds.items × (column < length names)) }
-        ensures { (names : List (List ℕ)) → AreLabels names (self.now.text.bytes.items) self.now.bounds.items → column < length names
-            → result.now ≡ label_text names column }
+    pub(crate) fn label(&self, column: usize) -> (&[u8], usize)
+        requires { (names : List (List ℕ)) × (AreLabels names (line_bytes self.now.text) self.now.bounds.items × (column < length names)) }
+        ensures label { (names : List (List ℕ)) → AreLabels names (line_bytes self.now.text) self.now.bounds.items → column < length names
+            → take result.1 result.0.now ≡ label_text names column }
+        ensures count { result.1 ≤ length result.0.now }
     {
         let (start, end) = self.bounds[column];
-        &self.text.as_bytes()[start..end]
+        (&self.text.as_bytes()[start..], end - start)
     }
 }
 
@@ -87,7 +93,7 @@ pub(crate) fn append_names(
     schema: &str,
     table: &str,
 ) -> Result<(), AllocError>
-    ensures { OnOk result (out.new.bytes.items ≡ out.old.bytes.items ++ table_text schema.now table.now) }
+    ensures { OnOk result (line_bytes out.new ≡ line_bytes out.old ++ table_text schema.now table.now) }
 {
     out.push_str(",\"schema\":")?;
     quoter.append(out, schema)?;
@@ -102,7 +108,7 @@ fn write_labels(
     quoter: &mut Quoter,
     map: &TableMap,
 ) -> Result<(), AllocError>
-    ensures { OnOk result (AreLabels map.now.names (text.new.bytes.items) bounds.new.items) }
+    ensures { OnOk result (AreLabels map.now.names (line_bytes text.new) bounds.new.items) }
 {
     text.clear();
     bounds.clear();
@@ -112,6 +118,7 @@ fn write_labels(
         append_member_name(text, quoter, map.column_name(column))?;
         bounds.push((start, text.len()))?;
     }
+    text.push_str(PADDING)?;
     Ok(())
 }
 

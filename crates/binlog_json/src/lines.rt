@@ -1,83 +1,132 @@
 //! Text that grows at its end by pieces that are mostly short.
-ghost use Rattle.std.specs.Prelude.{◌≡◌, ◌<◌, ◌++◌, ◌∷◌, [], length, is_ok, if◌then◌else◌, string_bytes};
+ghost use Rattle.std.specs.Prelude.{◌≡◌, ◌≤◌, length, take};
 ghost use Rattle.std.specs.Str.{IsUtf8};
 
-use crate::pieces::put_text;
+use crate::pieces::{put_byte, put_first, put_text};
 use std::alloc::{AllocError, Global};
 
-/// A text like a `String`, to which short pieces are copied without a call.
+/// A text like a `String`, whose room is written before, so that a short piece is stored into it without a call.
 #[derive(Drop)]
 pub(crate) struct Line {
+    /// What is written, and the room behind it.
     bytes: Vec<u8>,
-    ghost utf8: { ∥ IsUtf8 bytes.items ∥₁ },
+    len: usize,
+    ghost within: { len ≤ length bytes.items },
+    ghost utf8: { ∥ IsUtf8 (take len bytes.items) ∥₁ },
 }
 
 impl Line {
+    ghost use Rattle.std.specs.Prelude.{◌≡◌, ◌+◌, ◌<◌, ◌≤◌, ◌++◌, ◌∷◌, [], length, take, is_ok, if◌then◌else◌, OnOk, string_bytes};
+    ghost use Rattle.std.specs.Str.{IsUtf8};
+    ghost use Rattle.binlog_json.specs.LineBytes.{line_bytes};
+
     /// An empty text. It takes no memory.
     pub(crate) fn new(alloc: Global) -> Line
-        ensures bytes { result.bytes.items ≡ [] }
+        ensures bytes { line_bytes result ≡ [] }
     {
         Line {
             bytes: Vec::new(alloc),
+            len: 0,
         }
     }
 
     pub(crate) fn clear(&mut self)
-        ensures bytes { self.new.bytes.items ≡ [] }
+        ensures bytes { line_bytes self.new ≡ [] }
     {
-        self.bytes.clear()
+        self.len = 0;
     }
 
     #[inline(always)]
     pub(crate) fn len(&self) -> usize
-        ensures { result ≡ length self.now.bytes.items }
+        ensures { result ≡ length (line_bytes self.now) }
     {
-        self.bytes.len()
+        self.len
     }
 
     #[inline(always)]
     pub(crate) fn as_bytes(&self) -> &[u8]
-        ensures value { result.now ≡ self.now.bytes.items }
+        ensures value { result.now ≡ line_bytes self.now }
     {
-        self.bytes.as_slice()
+        &self.bytes[..self.len]
     }
 
     #[inline(always)]
     pub(crate) fn as_str(&self) -> &str
-        ensures value { result.now ≡ self.now.bytes.items }
+        ensures value { result.now ≡ line_bytes self.now }
     {
-        unsafe { str::from_utf8_unchecked(self.bytes.as_slice()) }
+        unsafe { str::from_utf8_unchecked(self.as_bytes()) }
     }
 
     pub(crate) fn into_string(self) -> String
-        ensures value { string_bytes result ≡ self.bytes.items }
+        ensures value { string_bytes result ≡ line_bytes self }
     {
-        let Line { bytes, .. } = self;
+        let Line { bytes, len } = self;
+        let mut bytes = bytes;
+        bytes.truncate(len);
         unsafe { String::from_utf8_unchecked(bytes) }
+    }
+
+    /// Sees to room for so many bytes.
+    #[inline(always)]
+    fn make_room(&mut self, more: usize) -> Result<(), AllocError>
+        ensures bytes { line_bytes self.new ≡ line_bytes self.old }
+        ensures len { self.new.len ≡ self.old.len }
+        ensures room { OnOk result (self.new.len + more ≤ length self.new.bytes.items) }
+    {
+        if more <= self.bytes.len() - self.len {
+            return Ok(());
+        }
+        self.grow(more)
+    }
+
+    #[cold]
+    fn grow(&mut self, more: usize) -> Result<(), AllocError>
+        ensures bytes { line_bytes self.new ≡ line_bytes self.old }
+        ensures len { self.new.len ≡ self.old.len }
+        ensures room { OnOk result (self.new.len + more ≤ length self.new.bytes.items) }
+    {
+        let room = self.bytes.len();
+        match room.checked_add(more) {
+            None => Err(AllocError),
+            Some(least) => self.bytes.resize(least.saturating_add(room), 0),
+        }
     }
 
     /// Appends an ASCII character: it, or nothing where a growth was refused.
     #[inline(always)]
     pub(crate) fn push(&mut self, byte: u8) -> Result<(), AllocError>
         requires { byte < 128 }
-        ensures bytes { self.new.bytes.items ≡ (if is_ok result then self.old.bytes.items ++ byte ∷ [] else self.old.bytes.items) }
+        ensures bytes { line_bytes self.new ≡ (if is_ok result then line_bytes self.old ++ byte ∷ [] else line_bytes self.old) }
     {
-        self.bytes.extend_from_slice(&[byte])
+        self.make_room(1)?;
+        self.len = put_byte(self.bytes.as_mut_slice(), self.len, byte);
+        Ok(())
     }
 
-    /// Appends a text whose length is constant, or that may be long: all of it, or nothing where a growth was refused.
+    /// Appends a text: all of it, or nothing where a growth was refused.
     #[inline(always)]
     pub(crate) fn push_str(&mut self, text: &str) -> Result<(), AllocError>
-        ensures bytes { self.new.bytes.items ≡ (if is_ok result then self.old.bytes.items ++ text.now else self.old.bytes.items) }
+        ensures bytes { line_bytes self.new ≡ (if is_ok result then line_bytes self.old ++ text.now else line_bytes self.old) }
     {
-        self.bytes.extend_from_slice(text.as_bytes())
+        let text = text.as_bytes();
+        self.make_room(text.len())?;
+        self.len = put_text(self.bytes.as_mut_slice(), self.len, text);
+        Ok(())
     }
 
-    /// Appends a text that is mostly short: all of it, or nothing where a growth was refused.
+    /// Appends the first bytes of others, which are text: all of them, or nothing where a growth was refused. They take one copy where
+    /// they are few and others stand behind them.
     #[inline(always)]
-    pub(crate) fn push_short(&mut self, text: &str) -> Result<(), AllocError>
-        ensures bytes { self.new.bytes.items ≡ (if is_ok result then self.old.bytes.items ++ text.now else self.old.bytes.items) }
+    pub(crate) fn push_first(&mut self, text: &[u8], count: usize) -> Result<(), AllocError>
+        requires count { count ≤ length text.now }
+        requires utf8 { IsUtf8 (take count text.now) }
+        ensures bytes { line_bytes self.new ≡ (if is_ok result then line_bytes self.old ++ take count text.now else line_bytes self.old) }
     {
-        put_text(&mut self.bytes, text.as_bytes())
+        if count > 16 || text.len() < 16 {
+            return self.push_str(unsafe { str::from_utf8_unchecked(&text[..count]) });
+        }
+        self.make_room(16)?;
+        self.len = put_first(self.bytes.as_mut_slice(), self.len, text, count);
+        Ok(())
     }
 }

@@ -1,56 +1,84 @@
-//! Texts that are mostly short, at the end of bytes: by copies of constant width, which need no call.
-ghost use Rattle.std.specs.Prelude.{◌≡◌, ◌+◌, ◌≤◌, ◌++◌, length, is_ok, if◌then◌else◌};
+//! Texts that are mostly short, put to places of bytes that have room for them: by copies of constant width, which need no call.
+ghost use Rattle.std.specs.Prelude.{◌≡◌, ◌+◌, ◌<◌, ◌≤◌, ◌∷◌, [], length, take};
+ghost use Rattle.json.specs.Filled.{Placed};
 
-use std::alloc::AllocError;
+use std::simd::Simd;
 
-/// Appends a text: all of it, or nothing where a growth was refused.
+/// Puts a byte to a place. Where it ends.
 #[inline(always)]
-pub(crate) fn put_text(bytes: &mut Vec<u8>, text: &[u8]) -> Result<(), AllocError>
-    ensures { bytes.new.items ≡ (if is_ok result then bytes.old.items ++ text.now else bytes.old.items) }
+pub(crate) fn put_byte(bytes: &mut [u8], at: usize, byte: u8) -> usize
+    requires { at < length bytes.old }
+    ensures { Placed bytes.old bytes.new at (byte ∷ []) result }
+{
+    bytes[at] = byte;
+    at + 1
+}
+
+/// Puts a text to a place. Where it ends.
+#[inline(always)]
+pub(crate) fn put_text(bytes: &mut [u8], at: usize, text: &[u8]) -> usize
+    requires { at + length text.now ≤ length bytes.old }
+    ensures { Placed bytes.old bytes.new at text.now result }
 {
     let len = text.len();
     if len > 32 {
-        bytes.extend_from_slice(text)
+        put_long(bytes, at, text)
     } else if len >= 16 {
-        put_halves::<16>(bytes, text)
+        put_ends::<16>(bytes, at, text)
     } else if len >= 8 {
-        put_halves::<8>(bytes, text)
+        put_ends::<8>(bytes, at, text)
     } else if len >= 4 {
-        put_halves::<4>(bytes, text)
+        put_ends::<4>(bytes, at, text)
+    } else if len >= 2 {
+        put_ends::<2>(bytes, at, text)
+    } else if len == 1 {
+        put_front::<1>(bytes, at, text)
     } else {
-        put_few(bytes, text)
+        at
     }
 }
 
-/// Appends at most three bytes.
 #[inline(always)]
-fn put_few(bytes: &mut Vec<u8>, text: &[u8]) -> Result<(), AllocError>
-    requires { length text.now ≤ 3 }
-    ensures { bytes.new.items ≡ (if is_ok result then bytes.old.items ++ text.now else bytes.old.items) }
+fn put_long(bytes: &mut [u8], at: usize, text: &[u8]) -> usize
+    requires { at + length text.now ≤ length bytes.old }
+    ensures { Placed bytes.old bytes.new at text.now result }
 {
-    if text.len() >= 2 {
-        put_halves::<2>(bytes, text)
-    } else if text.len() == 1 {
-        put_halves::<1>(bytes, text)
-    } else {
-        Ok(())
-    }
+    let end = at + text.len();
+    bytes[at..end].copy_from_slice(text);
+    end
 }
 
-/// Appends a text by its first bytes and its last ones. The last ones overwrite what both have.
+/// Puts the first bytes of sixteen or more to a place, by one copy. Where they end.
 #[inline(always)]
-fn put_halves<const WIDTH: usize>(bytes: &mut Vec<u8>, text: &[u8]) -> Result<(), AllocError>
+pub(crate) fn put_first(bytes: &mut [u8], at: usize, text: &[u8], count: usize) -> usize
+    requires count { count ≤ 16 }
+    requires text { 16 ≤ length text.now }
+    requires room { at + 16 ≤ length bytes.old }
+    ensures { Placed bytes.old bytes.new at (take count text.now) result }
+{
+    put_front::<16>(bytes, at, text);
+    at + count
+}
+
+#[inline(always)]
+fn put_front<const WIDTH: usize>(bytes: &mut [u8], at: usize, text: &[u8]) -> usize
+    requires text { WIDTH ≤ length text.now }
+    requires room { at + WIDTH ≤ length bytes.old }
+    ensures { Placed bytes.old bytes.new at (take WIDTH text.now) result }
+{
+    Simd::<u8, WIDTH>::from_slice(text).copy_to_slice(&mut bytes[at..]);
+    at + WIDTH
+}
+
+/// Puts a text to a place by its first bytes and its last ones, which may overlap.
+#[inline(always)]
+fn put_ends<const WIDTH: usize>(bytes: &mut [u8], at: usize, text: &[u8]) -> usize
+    requires room { at + length text.now ≤ length bytes.old }
     requires enough { WIDTH ≤ length text.now }
     requires few { length text.now ≤ WIDTH + WIDTH }
-    ensures { bytes.new.items ≡ (if is_ok result then bytes.old.items ++ text.now else bytes.old.items) }
+    ensures { Placed bytes.old bytes.new at text.now result }
 {
-    let old = bytes.len();
     let last = text.len() - WIDTH;
-    bytes.extend_from_slice(&text[..WIDTH])?;
-    bytes.truncate(old + last);
-    let written = bytes.extend_from_slice(&text[last..last + WIDTH]);
-    if written.is_err() {
-        bytes.truncate(old);
-    }
-    written
+    put_front::<WIDTH>(bytes, at, text);
+    put_front::<WIDTH>(bytes, at + last, &text[last..])
 }

@@ -7,6 +7,7 @@ ghost use Rattle.serde_json.specs.Written.{compact_text};
 ghost use Rattle.binlog_table.specs.Value.{view as cell_view};
 ghost use Rattle.binlog_table.specs.MapWords.{value_names_in};
 ghost use Rattle.binlog_json.specs.Values.{content_data, bytes_data, encoded_data, enum_data, set_data};
+ghost use Rattle.binlog_json.specs.LineBytes.{line_bytes};
 
 use crate::append::{Quoter, append_integer, append_number, append_plain};
 use crate::lines::Line;
@@ -30,7 +31,7 @@ pub(crate) fn append_value(
     cell: &Cell<'_>,
 ) -> Result<(), AllocError>
     requires { column < length image.now.table.columns }
-    ensures { OnOk result (out.new.bytes.items ≡ out.old.bytes.items ++ compact_text
+    ensures { OnOk result (line_bytes out.new ≡ line_bytes out.old ++ compact_text
         (content_data (value_names_in image.now.table column) (cell_view cell.now))) }
 {
     match cell {
@@ -58,7 +59,7 @@ fn append_enum(
     number: u16,
 ) -> Result<(), AllocError>
     requires { column < length image.now.table.columns }
-    ensures { OnOk result (out.new.bytes.items ≡ out.old.bytes.items ++ compact_text
+    ensures { OnOk result (line_bytes out.new ≡ line_bytes out.old ++ compact_text
         (enum_data (value_names_in image.now.table column) number)) }
 {
     match enum_name(image, column, number) {
@@ -75,7 +76,7 @@ fn append_set(
     number: u64,
 ) -> Result<(), AllocError>
     requires { column < length image.now.table.columns }
-    ensures { OnOk result (out.new.bytes.items ≡ out.old.bytes.items ++ compact_text
+    ensures { OnOk result (line_bytes out.new ≡ line_bytes out.old ++ compact_text
         (set_data (value_names_in image.now.table column) number)) }
 {
     if !is_named(image, column, number) {
@@ -88,7 +89,7 @@ fn append_set(
 
 #[inline(always)]
 fn append_bytes(out: &mut Line, room: &mut Room, bytes: &[u8]) -> Result<(), AllocError>
-    ensures { OnOk result (out.new.bytes.items ≡ out.old.bytes.items ++ compact_text (bytes_data bytes.now)) }
+    ensures { OnOk result (line_bytes out.new ≡ line_bytes out.old ++ compact_text (bytes_data bytes.now)) }
 {
     append_text(out, &mut room.quoter, &mut room.text, bytes)
 }
@@ -101,7 +102,7 @@ fn append_text(
     room: &mut String,
     bytes: &[u8],
 ) -> Result<(), AllocError>
-    ensures { OnOk result (out.new.bytes.items ≡ out.old.bytes.items ++ compact_text (bytes_data bytes.now)) }
+    ensures { OnOk result (line_bytes out.new ≡ line_bytes out.old ++ compact_text (bytes_data bytes.now)) }
 {
     if is_plain::<0x80>(bytes) {
         return append_plain(out, bytes);
@@ -119,8 +120,8 @@ fn append_raw(
     room: &mut String,
     bytes: &[u8],
 ) -> Result<(), AllocError>
-    ensures { OnOk result (out.new.bytes.items
-        ≡ out.old.bytes.items ++ compact_text (encoded_data (codes "raw") bytes.now)) }
+    ensures { OnOk result ((line_bytes out.new)
+        ≡ line_bytes out.old ++ compact_text (encoded_data (codes "raw") bytes.now)) }
 {
     out.push_str("{\"raw\":")?;
     append_base64(out, quoter, room, bytes)?;
@@ -134,8 +135,8 @@ fn append_encoded(
     room: &mut String,
     bytes: &[u8],
 ) -> Result<(), AllocError>
-    ensures { OnOk result (out.new.bytes.items
-        ≡ out.old.bytes.items ++ compact_text (encoded_data (codes "base64") bytes.now)) }
+    ensures { OnOk result ((line_bytes out.new)
+        ≡ line_bytes out.old ++ compact_text (encoded_data (codes "base64") bytes.now)) }
 {
     out.push_str("{\"base64\":")?;
     append_base64(out, quoter, room, bytes)?;
@@ -149,8 +150,8 @@ fn append_base64(
     room: &mut String,
     bytes: &[u8],
 ) -> Result<(), AllocError>
-    ensures { OnOk result (out.new.bytes.items
-        ≡ out.old.bytes.items ++ quoted (encode_of standard bytes.now)) }
+    ensures { OnOk result ((line_bytes out.new)
+        ≡ line_bytes out.old ++ quoted (encode_of standard bytes.now)) }
 {
     room.clear();
     STANDARD.encode_string(bytes, room)?;
@@ -163,7 +164,7 @@ pub(crate) fn append_member_name(
     quoter: &mut Quoter,
     name: &str,
 ) -> Result<(), AllocError>
-    ensures { OnOk result (out.new.bytes.items ≡ out.old.bytes.items ++ (quoted name.now ++ 58 ∷ [])) }
+    ensures { OnOk result (line_bytes out.new ≡ line_bytes out.old ++ (quoted name.now ++ 58 ∷ [])) }
 {
     quoter.append(out, name)?;
     out.push(b':')

@@ -1,10 +1,11 @@
-use Rattle.std.proofs.Common.{◌≡◌, ◌∙◌, ap, sym, refl, append-nil, ◌++◌, slice_get, Some, arith}
+use Rattle.binlog_json.specs.LineBytes.{line_bytes}
+use Rattle.std.proofs.Common.{◌≡◌, ◌∙◌, ap, sym, refl, append-nil, ◌++◌, slice_get, Some, take, arith}
 use Rattle.json.specs.Print.{quoted}
 use Rattle.binlog_table.specs.RowImage.{RowImage}
 use Rattle.binlog_table.specs.NameOrder.{name_of}
 use Rattle.binlog_table.specs.Value.{view}
 use Rattle.binlog_json.proofs.ColumnTexts.{past_is_absent, absent_is, present_is, column_is, then_value}
-use Rattle.binlog_json.proofs.LabelTexts.{joined_is, joined_utf8}
+use Rattle.binlog_json.proofs.LabelTexts.{joined_is, joined_utf8, some_label}
 use Rattle.binlog_json.proofs.image.append_column.Goals as goal
 
 pub returns-then-column-column_count : goal.returns-then-column-column_count
@@ -16,28 +17,36 @@ returns-in-Absent c =
     let at : slice_get c.args.image.now.cells c.args.column ≡ Some (view c.cell-cell.result) = ap (λ (r : RowImage). slice_get r.cells c.args.column) (sym c.requires.row) ∙ c.cell-cell.ensures in
     rw (absent_is c.args.image.now c.args.column c.cell-cell.result at c.in-Absent.is) (record { text = sym (append-nil _); later = refl })
 
-pub joined-label-requires : goal.joined-label-requires
-joined-label-requires c =
+pub joined-count-requires : goal.joined-count-requires
+joined-count-requires c =
     let below = c.column_count.ensures.names in
-    let label = c.label.ensures c.args.image.now.table.names c.requires.labels (omega arith) in
-    rw label (omega arith)
+    let names = c.args.image.now.table.names in
+    let label = c.label-count.ensures.label names c.requires.labels (omega arith) in
+    record { some = some_label names c.args.column c.label-count.result.1 c.label-count.result.0.now label; count = c.label-count.ensures.count }
 
-pub from_utf8_unchecked-requires : goal.from_utf8_unchecked-requires
-from_utf8_unchecked-requires c =
+pub push_first-requires : goal.push_first-requires
+push_first-requires c =
     let names = c.args.image.now.table.names in
     let below = c.column_count.ensures.names in
-    joined_utf8 names (c.args.labels.now.text.bytes.items) c.args.labels.now.bounds.items c.args.column c.args.later c.label.result.now c.joined-label.result.now c.requires.labels (omega arith)
-    (c.label.ensures names c.requires.labels (omega arith)) c.joined-label.ensures
+    let label = take c.label-count.result.1 c.label-count.result.0.now in
+    let joined = take c.joined-count.result.1 c.joined-count.result.0.now in
+    record {
+      count = c.joined-count.ensures.count;
+      utf8 = joined_utf8 names (line_bytes c.args.labels.now.text) c.args.labels.now.bounds.items c.args.column c.args.later label joined c.requires.labels (omega arith)
+          (c.label-count.ensures.label names c.requires.labels (omega arith)) c.joined-count.ensures.label;
+    }
 
 pub returns-in_ok-append_value-in_default : goal.returns-in_ok-append_value-in_default
 returns-in_ok-append_value-in_default c =
     let at : slice_get c.args.image.now.cells c.args.column ≡ Some (view c.cell-cell.result) = ap (λ (r : RowImage). slice_get r.cells c.args.column) (sym c.requires.row) ∙ c.cell-cell.ensures in
     let names = c.args.image.now.table.names in
     let below = c.column_count.ensures.names in
-    let label = joined_is names c.args.column c.args.later c.label.result.now c.joined-label.result.now (c.label.ensures names c.requires.labels (omega arith)) c.joined-label.ensures in
-    let text = then_value (c.args.out.now.bytes.items) (c.push_short.new.self.bytes.items) (c.append_value.new.out.bytes.items) _ (quoted (name_of names c.args.column)) _
-    (c.in_ok-push_short-in_default.ensures.bytes ∙ ap (λ l. c.args.out.now.bytes.items ++ l) (c.from_utf8_unchecked.ensures ∙ label)) c.in_ok-append_value-in_default.ensures in
+    let label = take c.label-count.result.1 c.label-count.result.0.now in
+    let joined = take c.joined-count.result.1 c.joined-count.result.0.now in
+    let is = joined_is names c.args.column c.args.later label joined (c.label-count.ensures.label names c.requires.labels (omega arith)) c.joined-count.ensures.label in
+    let text = then_value (line_bytes c.args.out.now) (line_bytes c.push_first.new.self) (line_bytes c.append_value.new.out) _ (quoted (name_of names c.args.column)) _
+    (c.in_ok-push_first-in_default.ensures.bytes ∙ ap (λ l. line_bytes c.args.out.now ++ l) is) c.in_ok-append_value-in_default.ensures in
     record {
-      text = text ∙ ap (λ t. c.args.out.now.bytes.items ++ t) (sym (column_is c.args.later c.args.image.now c.args.column c.cell-cell.result at c.in_default.not-Absent));
+      text = text ∙ ap (λ t. line_bytes c.args.out.now ++ t) (sym (column_is c.args.later c.args.image.now c.args.column c.cell-cell.result at c.in_default.not-Absent));
       later = rw (present_is c.args.image.now c.args.column c.cell-cell.result at c.in_default.not-Absent) refl;
     }

@@ -1,3 +1,4 @@
+use Rattle.binlog_json.specs.LineBytes.{line_bytes}
 use Rattle.std.proofs.Common.{◌∙◌, ◌++◌, Option, ap, sym}
 use Rattle.std.specs.Prelude.{is_some}
 use Rattle.serde_json.specs.Data.{Data}
@@ -9,13 +10,13 @@ pub returns-then-branch : goal.returns-then-branch
 returns-then-branch c =
     let is = first_is c.args.image.now c.args.other.now c.args.column _ c.in_ok-append_of.ensures.has c.if-branch.true in
     record {
-      text = c.in_ok-append_of.ensures.text ∙ ap (λ (value : Option Data). c.args.out.now.bytes.items ++ text_if value) (sym is);
+      text = c.in_ok-append_of.ensures.text ∙ ap (λ (value : Option Data). (line_bytes c.args.out.now) ++ text_if value) (sym is);
       has = sym c.if-branch.true ∙ c.in_ok-append_of.ensures.has ∙ ap is_some (sym is);
     }
 
 pub returns-in-Some : goal.returns-in-Some
 returns-in-Some c = record {
-  text = second_text c.append_of-in-Some.result c.args.image.now c.args.other.now _ c.args.column _ (c.args.out.now.bytes.items) (c.append_of.new.out.bytes.items) (c.append_of-in-Some.new.out.bytes.items)
+  text = second_text c.append_of-in-Some.result c.args.image.now c.args.other.now _ c.args.column _ (line_bytes c.args.out.now) (line_bytes c.append_of.new.out) (line_bytes c.append_of-in-Some.new.out)
       c.in_ok-append_of.ensures.has c.if-branch.false c.in_ok-append_of.ensures.text c.in-Some.is c.append_of-in-Some.ensures.text;
   has = second_has c.append_of-in-Some.result c.args.image.now c.args.other.now _ c.args.column _ c.in_ok-append_of.ensures.has c.if-branch.false c.in-Some.is c.append_of-in-Some.ensures.has;
 }

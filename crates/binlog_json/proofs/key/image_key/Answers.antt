@@ -1,3 +1,4 @@
+use Rattle.binlog_json.specs.LineBytes.{line_bytes}
 use Rattle.std.proofs.Common.{◌∙◌, ap, Some}
 use Rattle.binlog_json.proofs.KeyTexts.{key_more, key_empty, key_lacks, key_ends}
 use Rattle.binlog_json.proofs.key.image_key.Goals as goal
@@ -5,7 +6,7 @@ use Rattle.binlog_json.proofs.key.image_key.Goals as goal
 pub loop-column-preserved : goal.loop-column-preserved
 loop-column-preserved c =
     key_more c.args.image.now c.args.other c.key-columns.result.now c.loop-column.column-index
-    (c.loop-column.text.bytes.items) (c.append_comma.new.out.bytes.items) (c.append_of_either.new.out.bytes.items) c.loop-column.later c.in_ok-later.later _
+    (line_bytes c.loop-column.text) (line_bytes c.append_comma.new.out) (line_bytes c.append_of_either.new.out) c.loop-column.later c.in_ok-later.later _
     c.loop-column-test.true c.in_ok-append_comma.ensures c.in_ok-later.ensures.text c.in_ok-later.ensures.has c.if-not-later.false c.loop-column.invariant
 
 pub returns-then-is_empty : goal.returns-then-is_empty
@@ -13,11 +14,11 @@ returns-then-is_empty c = key_empty c.args.image.now c.args.other c.key-columns.
 
 pub returns-then-not-later : goal.returns-then-not-later
 returns-then-not-later c =
-    key_lacks c.args.image.now c.args.other c.key-columns.result.now c.loop-column.column-index (c.push_str.new.self.bytes.items) (c.loop-column.text.bytes.items) c.loop-column.later
+    key_lacks c.args.image.now c.args.other c.key-columns.result.now c.loop-column.column-index (line_bytes c.push_str.new.self) (line_bytes c.loop-column.text) c.loop-column.later
     c.in_ok-later.later c.key-columns.ensures.value c.loop-column-test.true c.in_ok-later.ensures.has c.if-not-later.true c.loop-column.invariant
 
 pub returns : goal.returns
 returns c =
-    ap Some c.into_string.ensures.value ∙ key_ends c.args.image.now c.args.other c.key-columns.result.now c.loop-column.column-index (c.new-text.result.bytes.items) (c.push_str.new.self.bytes.items) (c.loop-column.text.bytes.items)
-    (c.push_str-2.new.self.bytes.items) c.loop-column.later c.key-columns.ensures.value c.if-is_empty.ensures c.loop-column-test.false c.new-text.ensures.bytes
+    ap Some c.into_string.ensures.value ∙ key_ends c.args.image.now c.args.other c.key-columns.result.now c.loop-column.column-index (line_bytes c.new-text.result) (line_bytes c.push_str.new.self) (line_bytes c.loop-column.text)
+    (line_bytes c.push_str-2.new.self) c.loop-column.later c.key-columns.ensures.value c.if-is_empty.ensures c.loop-column-test.false c.new-text.ensures.bytes
     c.in_ok-push_str.ensures.bytes c.in_ok-push_str-2.ensures.bytes c.loop-column.invariant

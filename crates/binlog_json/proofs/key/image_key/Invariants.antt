@@ -1,3 +1,4 @@
+use Rattle.binlog_json.specs.LineBytes.{line_bytes}
 use Rattle.std.proofs.Common.{◌≡◌, ◌++◌, drop, false, option_map}
 use Rattle.serde_json.specs.View.{items_of}
 use Rattle.serde_json.specs.Written.{items_text}
@@ -6,5 +7,5 @@ use Rattle.binlog_json.proofs.key.image_key.Given as goal
 
 abbrev pub invariant-loop-column : goal.invariant-loop-column
 invariant-loop-column l =
-    option_map (λ values. l.text.bytes.items ++ items_text l.later (items_of values)) (values_in l.image l.other (drop l.column-index l.columns))
-    ≡ option_map (λ values. l.initial.text.bytes.items ++ items_text false (items_of values)) (values_in l.image l.other l.columns)
+    option_map (λ values. (line_bytes l.text) ++ items_text l.later (items_of values)) (values_in l.image l.other (drop l.column-index l.columns))
+    ≡ option_map (λ values. (line_bytes l.initial.text) ++ items_text false (items_of values)) (values_in l.image l.other l.columns)

@@ -1,9 +1,16 @@
-use Rattle.std.proofs.Common.{[], ◌∷◌, is_ok}
-use Rattle.binlog_json.proofs.Utf8.{utf8_grown, utf8_byte}
+use Rattle.std.proofs.Common.{◌≡◌, ◌∙◌, ℕ, ◌+◌, ◌≤◌, List, length, take, length-take-le, sym, subst, arith}
+use Rattle.std.specs.Str.{IsUtf8}
+use Rattle.std.proofs.lemmas.List.{with_items_is}
+use Rattle.binlog_json.proofs.Places.{placed_utf8, placed_within}
+use Rattle.binlog_json.proofs.Utf8.{utf8_byte}
 use Rattle.binlog_json.proofs.lines.Line.push.Goals as goal
 
 pub invariant_of-self : goal.invariant_of-self
 invariant_of-self c =
-    let old = c.args.self.now in
-    let grown = c.extend_from_slice in
-    record { utf8 = utf8_grown (is_ok grown.result) grown.new.self.items old.bytes.items (c.args.byte ∷ []) grown.ensures.items old.utf8 (utf8_byte c.args.byte c.requires) }
+    let items = c.as_mut_slice.ensures.value in
+    let put = c.put_byte-self.ensures in
+    let same = with_items_is c.make_room.new.self.bytes c.put_byte-self.new.bytes (put.len ∙ c.as_mut_slice.ensures.len) in
+    record {
+      within = subst (λ (l : List ℕ). c.put_byte-self.result ≤ length l) (sym same) (placed_within put items c.in_ok-make_room.ensures.room);
+      utf8 = subst (λ (l : List ℕ). ∥ IsUtf8 (take c.put_byte-self.result l) ∥₁) (sym same) (placed_utf8 put items c.make_room.new.self.utf8 (utf8_byte c.args.byte c.requires));
+    }
