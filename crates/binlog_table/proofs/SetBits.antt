@@ -122,19 +122,19 @@ bit-none_set bytes (suc n) i within none = by (bit bytes n) refl (λ less before
     by false e before = let ones : set_bits bytes n + 0 ≡ 0 = rw e at none in to_last (λ (k : ℕ). bit bytes k ≡ false) n i within (λ less. before less (omega (arith, ones))) e
 
 -- a bitmap of zeros has no bit that is set
-both-true : (x y : Bool) → (x && y) ≡ true → (x ≡ true) × (y ≡ true)
-both-true true y h = (refl, h)
-both-true false y h = absurd cc
+past-end : (bytes : List ℕ) (k : ℕ) → length bytes ≤ k → slice_index bytes k ≡ 0
+past-end [] k h = refl
+past-end (b ∷ bytes) zero h = absurd (omega arith)
+past-end (b ∷ bytes) (suc k) h = past-end bytes k (omega arith)
 
-zeros-byte : (bytes : List ℕ) (k : ℕ) → list_all (λ byte. byte == 0) bytes ≡ true → slice_index bytes k ≡ 0
-zeros-byte [] k h = refl
-zeros-byte (b ∷ bytes) zero h = eqb-true b 0 (both-true (b == 0) (list_all (λ byte. byte == 0) bytes) h).0
-zeros-byte (b ∷ bytes) (suc k) h = zeros-byte bytes k (both-true (b == 0) (list_all (λ byte. byte == 0) bytes) h).1
-
-pub bit-zeros : (bytes : List ℕ) → list_all (λ byte. byte == 0) bytes ≡ true → (i : ℕ) → bit bytes i ≡ false
+pub bit-zeros : (bytes : List ℕ) → ((k : ℕ) → k < length bytes → slice_index bytes k ≡ 0) → (i : ℕ) → bit bytes i ≡ false
 bit-zeros bytes h i =
-    let byte : slice_index bytes (i / 8) ≡ 0 = zeros-byte bytes (i / 8) h in
+    let byte : slice_index bytes (i / 8) ≡ 0 = by (cases_lt (i / 8) (length bytes)) in
     rw byte (zero-bit (2 ^ (i % 8)))
   where
     zero-bit : (n : ℕ) → (0 / n % 2 == 1) ≡ false
     zero-bit n = let none : 0 / n ≡ 0 = omega arith in rw none refl
+
+    by : (i / 8 < length bytes) ⊎ (length bytes ≤ i / 8) → slice_index bytes (i / 8) ≡ 0
+    by (inl less) = h (i / 8) less
+    by (inr past) = past-end bytes (i / 8) past
