@@ -1,5 +1,5 @@
 //! Decimals: groups of digits, the highest first.
-ghost use Rattle.std.specs.Prelude.{◌≡◌, ◌≤◌, ◌<◌, ◌^◌, ◌+◌, ◌*◌, length, drop, option_map, is_some, true, Some, IfSome};
+ghost use Rattle.std.specs.Prelude.{◌≡◌, ◌≤◌, ◌<◌, ◌^◌, ◌+◌, ◌*◌, length, drop, option_map, is_some, true, false, [], Some, None, IfSome};
 ghost use Rattle.byteorder.specs.Endian.{big_number};
 ghost use Rattle.binlog_table.specs.DecimalShown.{decimal_view};
 ghost use Rattle.binlog_table.specs.Value.{view, decimal};
@@ -22,6 +22,7 @@ fn group_len(digits: usize) -> usize
 }
 
 /// How many bytes a decimal takes.
+#[inline(always)]
 pub(crate) fn decimal_len(size: DecimalSize) -> usize
     ensures value { result ≡ decimal_len size.precision size.scale }
     ensures some { 1 ≤ result }
@@ -138,6 +139,7 @@ fn after_nines(text: &[u8], start: usize, count: usize) -> Option<usize>
 }
 
 /// The place after all groups.
+#[inline(always)]
 #[tactic(auto, unfolding(crate::specs::Decimal::after_digits))]
 fn after_digits(size: DecimalSize, text: &[u8]) -> Option<usize>
     ensures { option_map (λ end. drop end (plain text.now)) result ≡ after_digits size.precision size.scale (plain text.now) }
@@ -157,6 +159,7 @@ fn after_digits(size: DecimalSize, text: &[u8]) -> Option<usize>
 }
 
 /// Whether a text has all digits.
+#[inline(always)]
 fn has_digits(size: DecimalSize, text: &[u8]) -> bool
     ensures { result ≡ is_some (digits_at size.precision size.scale (plain text.now)) }
 {
@@ -225,26 +228,24 @@ fn push_nines(digits: &mut Digits, text: &[u8], start: usize, count: usize) -> O
     Some(at)
 }
 
-/// The digits of a decimal's text.
+/// Puts the digits of a decimal's text to where none stand, and tells whether it has all.
+#[inline(always)]
 #[tactic(auto, unfolding(crate::specs::Decimal::digits_at))]
-pub(crate) fn digits_of(size: DecimalSize, text: &[u8]) -> Option<Digits>
-    ensures digits { result ≡ digits_at size.precision size.scale (plain text.now) }
-    ensures count { IfSome result (λ d. length d ≡ size.precision) }
+pub(crate) fn put_digits(size: DecimalSize, text: &[u8], digits: &mut Digits) -> bool
+    requires { digits.old ≡ [] }
+    ensures digits { result ≡ true → digits_at size.precision size.scale (plain text.now) ≡ Some digits.new }
+    ensures none { result ≡ false → digits_at size.precision size.scale (plain text.now) ≡ None }
 {
     let scale = usize::from(size.scale);
     let whole = usize::from(size.precision) - scale;
-    let mut digits = Digits::new();
-    let Some(at) = push_group(&mut digits, text, 0, whole % 9) else {
-        return None;
+    let Some(at) = push_group(digits, text, 0, whole % 9) else {
+        return false;
     };
-    let Some(at) = push_nines(&mut digits, text, at, whole / 9) else {
-        return None;
+    let Some(at) = push_nines(digits, text, at, whole / 9) else {
+        return false;
     };
-    let Some(at) = push_nines(&mut digits, text, at, scale / 9) else {
-        return None;
+    let Some(at) = push_nines(digits, text, at, scale / 9) else {
+        return false;
     };
-    match push_group(&mut digits, text, at, scale % 9) {
-        Some(_) => Some(digits),
-        None => None,
-    }
+    push_group(digits, text, at, scale % 9).is_some()
 }

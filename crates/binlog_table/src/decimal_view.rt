@@ -4,7 +4,7 @@ ghost use Rattle.binlog_table.specs.Decimal.{decimal_len, digits_at, plain};
 ghost use Rattle.binlog_table.specs.DecimalDigits.{IsInRange};
 
 use crate::column::DecimalSize;
-use crate::decimal::digits_of;
+use crate::decimal::put_digits;
 use crate::digits::Digits;
 
 /// A decimal where it lies in a body: its sign, its digits, and how many of them stand after the point.
@@ -37,6 +37,7 @@ impl<'a> DecimalView<'a> {
     }
 
     /// All digits, the highest first: those in front of the point, with leading zeros, then those after it.
+    #[inline(always)]
     pub fn digits(&self) -> Digits
         ensures { result ≡ (decimal_view self.now).digits }
     {
@@ -44,6 +45,8 @@ impl<'a> DecimalView<'a> {
             precision: self.precision,
             scale: self.scale,
         };
-        digits_of(size, self.text).unwrap()
+        let mut digits = Digits::new();
+        let _whole = put_digits(size, self.text, &mut digits);
+        digits
     }
 }

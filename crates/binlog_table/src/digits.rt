@@ -40,6 +40,7 @@ fn write_digits(digits: &mut [u8; 65], start: usize, len: usize, number: u64)
 
 impl Digits {
     /// No digits.
+    #[inline(always)]
     pub(crate) fn new() -> Digits
         ensures { result ≡ [] }
     {
@@ -60,6 +61,7 @@ impl Digits {
     }
 
     /// The digits, the highest first.
+    #[inline(always)]
     pub fn as_slice(&self) -> &[u8]
         ensures value { result.now ≡ self.now }
         ensures small { All (λ x. x < 10) result.now }
