@@ -143,14 +143,34 @@ fn append_encoded(
     out.push_str("}")
 }
 
-/// The bytes in base64, as a string.
+/// The bytes in base64, as a string. That of few bytes is put together beside the line.
 fn append_base64(
     out: &mut Line,
     quoter: &mut Quoter,
     room: &mut String,
     bytes: &[u8],
 ) -> Result<(), AllocError>
-    ensures { OnOk result ((line_bytes out.new)
+    ensures { OnOk result (line_bytes out.new
+        ≡ line_bytes out.old ++ quoted (encode_of standard bytes.now)) }
+{
+    let mut shown = [0u8; 64];
+    match STANDARD.encode_slice(bytes, &mut shown) {
+        Err(_) => append_long_base64(out, quoter, room, bytes),
+        Ok(len) => match str::from_utf8(&shown[..len]) {
+            Err(_) => append_long_base64(out, quoter, room, bytes),
+            Ok(text) => quoter.append(out, text),
+        },
+    }
+}
+
+/// The bytes in base64, as a string, by way of a text of any length.
+fn append_long_base64(
+    out: &mut Line,
+    quoter: &mut Quoter,
+    room: &mut String,
+    bytes: &[u8],
+) -> Result<(), AllocError>
+    ensures { OnOk result (line_bytes out.new
         ≡ line_bytes out.old ++ quoted (encode_of standard bytes.now)) }
 {
     room.clear();
