@@ -1,6 +1,6 @@
 -- The places of an image's cells, one after another.
-use Rattle.std.proofs.Common.{◌≡◌, ℕ, zero, suc, ◌+◌, ◌-◌, ◌<◌, ◌≤◌, Bool, true, false, cond, leb, List, [], ◌∷◌, length, length-drop, get_or, take, drop, Option, Some, None, slice_get, option_and_then, option_map, refl, sym, ap, subst, ◌∙◌, arith}
-use Rattle.std.proofs.lemmas.List.{at_drop_more, at_drop_all, drop-drop}
+use Rattle.std.proofs.Common.{◌≡◌, ℕ, zero, suc, ◌+◌, ◌-◌, ◌<◌, ◌≤◌, Bool, true, false, cond, leb, List, [], ◌∷◌, ◌++◌, length, length-drop, get_or, take, drop, set, append_assoc, append-nil, Option, Some, None, slice_get, option_and_then, option_map, refl, sym, ap, subst, ◌∙◌, arith}
+use Rattle.std.proofs.lemmas.List.{at_drop_more, at_drop_all, drop-drop, take_all, take_more_set}
 use Rattle.binlog_table.specs.declared.column.Column.{Column}
 use Rattle.binlog_table.specs.declared.cell_places.CellPlace.{CellPlace}
 use Rattle.binlog_table.specs.Extent.{HasExtent, extent_of, extent_len}
@@ -65,6 +65,16 @@ present_more columns i start n present nulls values t p more is_null lt is all s
     let cell = present-cell t present nulls (length columns) i is_null n (drop start values) lt all same value in
     let rest = subst (λ (b : Bool). Fits (drop (i + 1) columns) present nulls (i + 1) (cond b (i + 1) i) (start + n) values more) (sym set) h in
     fits_more columns i i start n present nulls values t p more cell.0 lt is cell.1 (e1 ∙ sym set) (e2 ∙ same) e3 e4 within rest
+
+-- a place that is written where the next one stands, before others
+pub put_next : (places : List CellPlace) (i : ℕ) (p : CellPlace) (more : List CellPlace) → i < length places → take (i + 1) (set places i p) ++ more ≡ take i places ++ (p ∷ more)
+put_next places i p more lt = ap (λ (l : List CellPlace). l ++ more) (take_more_set places i p lt) ∙ append_assoc (take i places) (p ∷ []) more
+
+-- behind the last column all places are written
+pub put_all : (columns : List Column) (present nulls : List ℕ) (start : ℕ) (values : List ℕ) (places : List CellPlace) (i : ℕ) → length places ≤ i → Fits columns present nulls 0 0 start values (take i places ++ [])
+    → Fits columns present nulls 0 0 start values places
+put_all columns present nulls start values places i le h =
+    subst (λ (l : List CellPlace). Fits columns present nulls 0 0 start values l) (append-nil (take i places) ∙ take_all i places le) h
 
 -- behind the last column nothing is left
 pub fits_none : (columns : List Column) (i k start : ℕ) (present nulls values : List ℕ) → length columns ≤ i → Fits (drop i columns) present nulls i k start values []
