@@ -22,7 +22,6 @@ fn group_len(digits: usize) -> usize
 }
 
 /// How many bytes a decimal takes.
-#[inline(always)]
 pub(crate) fn decimal_len(size: DecimalSize) -> usize
     ensures value { result ≡ decimal_len size.precision size.scale }
     ensures some { 1 ≤ result }
@@ -139,7 +138,6 @@ fn after_nines(text: &[u8], start: usize, count: usize) -> Option<usize>
 }
 
 /// The place after all groups.
-#[inline(always)]
 #[tactic(auto, unfolding(crate::specs::Decimal::after_digits))]
 fn after_digits(size: DecimalSize, text: &[u8]) -> Option<usize>
     ensures { option_map (λ end. drop end (plain text.now)) result ≡ after_digits size.precision size.scale (plain text.now) }
@@ -159,7 +157,6 @@ fn after_digits(size: DecimalSize, text: &[u8]) -> Option<usize>
 }
 
 /// Whether a text has all digits.
-#[inline(always)]
 fn has_digits(size: DecimalSize, text: &[u8]) -> bool
     ensures { result ≡ is_some (digits_at size.precision size.scale (plain text.now)) }
 {
