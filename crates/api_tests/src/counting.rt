@@ -127,10 +127,10 @@ fn reads_taken(rt: &HostRuntime, path: &str) -> Result<u64, Fail> {
 }
 
 #[test]
-fn takes_one_read_for_each_mebibyte(rt: HostRuntime) -> Result<(), Fail> {
+fn takes_four_reads_for_each_mebibyte(rt: HostRuntime) -> Result<(), Fail> {
     let folder = new_folder(&rt, "counting")?;
     let path = put_zeros(&rt, &folder, "log", 3 << 20)?;
-    assert_eq!(rt; reads_taken(&rt, &path)?, 3);
+    assert_eq!(rt; reads_taken(&rt, &path)?, 12);
     fs::remove_dir_all(&rt, &folder)?;
     Ok(())
 }
