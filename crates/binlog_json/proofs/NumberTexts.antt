@@ -1,17 +1,43 @@
--- Numbers in decimal digits, in front of others.
-use Rattle.std.proofs.Common.{◌≡◌, ◌∙◌, ℕ, suc, ◌+◌, ◌-◌, ◌<◌, ◌≤◌, ◌^◌, List, ◌++◌, length, take, drop, decimal, ap, sym, subst, arith}
+-- Numbers in decimal digits: how many these are, and that they are text.
+use Rattle.std.proofs.Common.{◌≡◌, ◌∙◌, ℕ, zero, suc, ◌+◌, ◌*◌, ◌/◌, ◌%◌, ◌<◌, ◌≤◌, ◌^◌, List, [], ◌∷◌, ◌++◌, Bool, true, false, nat_lt, ltb-true, ltb-false, max, length, decimal, length-append, refl, ap, arith}
+use Rattle.std.specs.Fmt.{digits}
+use Rattle.std.proofs.Math.Nat.{pow-le-pow_right}
 use Rattle.std.specs.Str.{IsUtf8}
-use Rattle.std.proofs.Math.Seq.{take-append_seam}
+use Rattle.std.proofs.lemmas.Grind.{pow_more}
 use Rattle.std.proofs.lemmas.Str.{IsUtf8-from_ascii}
-use Rattle.std.proofs.lemmas.Fmt.{length-decimal-le, IsAscii-decimal}
+use Rattle.std.proofs.lemmas.Fmt.{decimal_by_steps, length-decimal-le, IsAscii-decimal}
 
-pub decimal_room : (n : ℕ) → n < 2 ^ 64 → length (decimal n) ≤ 20
-decimal_room n small = length-decimal-le 20 n (omega arith) (omega arith) small
+more : (m k count : ℕ) → m / 10 < 10 ^ k → count ≡ k + 1 → m < 10 ^ count
+more m k count below is =
+    let wider : 10 ^ count ≡ 10 ^ k * 10 = rw is (pow_more 10 k) in
+    omega (arith, below, wider)
 
-pub number_shown : (n start end : ℕ) (front behind : List ℕ) → start + length (decimal n) ≡ end → front ≡ decimal n ++ behind → take (end - start) front ≡ decimal n
-number_shown n start end front behind ends is =
-    let count : end - start ≡ length (decimal n) = omega (arith, ends) in
-    ap (λ k. take k front) count ∙ ap (take (length (decimal n))) is ∙ take-append_seam (decimal n) behind
+-- a number is below the power of ten with as many zeros as it has digits
+below_power : (n : ℕ) → n < 2 ^ 64 → n < 10 ^ length (decimal n)
+below_power =
+    decimal_by_steps (λ m ds. m < 10 ^ length ds) (λ m l. omega (arith, l)) (λ m ds l h. more m (length ds) (length (ds ++ (48 + m % 10) ∷ [])) h (length-append ds ((48 + m % 10) ∷ [])))
+
+above : (b : Bool) (k count n : ℕ) → nat_lt k count ≡ b → 10 ^ k ≤ n → n < 10 ^ count → k < count
+above true k count n test low high = ltb-true k count test
+above false k count n test low high =
+    let grows : 10 ^ count ≤ 10 ^ k = pow-le-pow_right {n = 10} (omega arith) (ltb-false k count test) in
+    absurd (omega (arith, low, high, grows))
+
+-- how many digits a number has, by its logarithm
+digits_by_log : (k n : ℕ) → 10 ^ k ≤ n → n < 10 * 10 ^ k → n < 2 ^ 64 → k + 1 ≡ length (decimal n)
+digits_by_log k n low high small =
+    let most : length (decimal n) ≤ k + 1 = length-decimal-le (k + 1) n (omega arith) (omega (arith, high, pow_more 10 k)) small in
+    let least : k < length (decimal n) = above (nat_lt k (length (decimal n))) k (length (decimal n)) n refl low (below_power n small) in
+    omega (arith, most, least)
+
+-- zero has as many as one
+at_least_one : (n : ℕ) → length (decimal (max n 1)) ≡ length (decimal n)
+unfolding digits
+at_least_one zero = refl
+at_least_one (suc n) = let same : max (suc n) 1 ≡ suc n = omega arith in ap (λ m. length (decimal m)) same
+
+pub digits_counted : (k n m : ℕ) → m ≡ max n 1 → 10 ^ k ≤ m → m < 10 * 10 ^ k → n < 2 ^ 64 → k + 1 ≡ length (decimal n)
+digits_counted k n m is low high small = digits_by_log k m low high (omega (arith, is)) ∙ ap (λ l. length (decimal l)) is ∙ at_least_one n
 
 pub decimal_utf8 : (n : ℕ) → n < 2 ^ 64 → IsUtf8 (decimal n)
 decimal_utf8 n small = IsUtf8-from_ascii (decimal n) (IsAscii-decimal n small)

@@ -29,9 +29,7 @@ pub(crate) fn append_integer(out: &mut Line, number: i64) -> Result<(), AllocErr
 pub(crate) fn append_number(out: &mut Line, number: u64) -> Result<(), AllocError>
     ensures { OnOk result (line_bytes out.new ≡ line_bytes out.old ++ decimal number) }
 {
-    let mut shown = [b'0'; 40];
-    let start = itoa::write_digits(number, &mut shown, 20);
-    out.push_first(&shown[start..], 20 - start)
+    out.push_number(number)
 }
 
 /// A comma, where something stands before it.

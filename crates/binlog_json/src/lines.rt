@@ -2,7 +2,7 @@
 ghost use Rattle.std.specs.Prelude.{◌≡◌, ◌≤◌, length, take};
 ghost use Rattle.std.specs.Str.{IsUtf8};
 
-use crate::pieces::{put_byte, put_first, put_text};
+use crate::pieces::{count_digits, put_at_once, put_byte, put_first, put_number, put_text};
 use std::alloc::{AllocError, Global};
 
 /// A text like a `String`, whose room is written before, so that a short piece is stored into it without a call.
@@ -16,7 +16,7 @@ pub(crate) struct Line {
 }
 
 impl Line {
-    ghost use Rattle.std.specs.Prelude.{◌≡◌, ◌+◌, ◌<◌, ◌≤◌, ◌++◌, ◌∷◌, [], length, take, is_ok, if◌then◌else◌, OnOk, string_bytes};
+    ghost use Rattle.std.specs.Prelude.{◌≡◌, ◌+◌, ◌<◌, ◌≤◌, ◌++◌, ◌∷◌, [], length, take, is_ok, if◌then◌else◌, OnOk, decimal, string_bytes};
     ghost use Rattle.std.specs.Str.{IsUtf8};
     ghost use Rattle.binlog_json.specs.LineBytes.{line_bytes};
 
@@ -111,6 +111,29 @@ impl Line {
         let text = text.as_bytes();
         self.make_room(text.len())?;
         self.len = put_text(self.bytes.as_mut_slice(), self.len, text);
+        Ok(())
+    }
+
+    /// Appends a text whose length is known where it is put together: all of it, or nothing where a growth was refused. It takes no look at
+    /// the length.
+    #[inline(always)]
+    pub(crate) fn push_array<const LEN: usize>(&mut self, text: &[u8; LEN]) -> Result<(), AllocError>
+        requires { IsUtf8 text.now }
+        ensures bytes { line_bytes self.new ≡ (if is_ok result then line_bytes self.old ++ text.now else line_bytes self.old) }
+    {
+        self.make_room(LEN)?;
+        self.len = put_at_once(self.bytes.as_mut_slice(), self.len, text);
+        Ok(())
+    }
+
+    /// Appends a number in decimal digits: all of them, or nothing where a growth was refused. They are written where they stand.
+    #[inline(always)]
+    pub(crate) fn push_number(&mut self, number: u64) -> Result<(), AllocError>
+        ensures bytes { line_bytes self.new ≡ (if is_ok result then line_bytes self.old ++ decimal number else line_bytes self.old) }
+    {
+        let count = count_digits(number);
+        self.make_room(count)?;
+        self.len = put_number(self.bytes.as_mut_slice(), self.len, number, count);
         Ok(())
     }
 

@@ -1,5 +1,5 @@
 //! Texts that are mostly short, put to places of bytes that have room for them: by copies of constant width, which need no call.
-ghost use Rattle.std.specs.Prelude.{◌≡◌, ◌+◌, ◌<◌, ◌≤◌, ◌∷◌, [], length, take};
+ghost use Rattle.std.specs.Prelude.{◌≡◌, ◌+◌, ◌<◌, ◌≤◌, ◌∷◌, [], length, take, decimal};
 ghost use Rattle.json.specs.Filled.{Placed};
 
 use std::simd::Simd;
@@ -21,8 +21,10 @@ pub(crate) fn put_text(bytes: &mut [u8], at: usize, text: &[u8]) -> usize
     ensures { Placed bytes.old bytes.new at text.now result }
 {
     let len = text.len();
-    if len > 32 {
-        put_long(bytes, at, text)
+    if len > 64 {
+        put_at_once(bytes, at, text)
+    } else if len > 32 {
+        put_ends::<32>(bytes, at, text)
     } else if len >= 16 {
         put_ends::<16>(bytes, at, text)
     } else if len >= 8 {
@@ -38,13 +40,34 @@ pub(crate) fn put_text(bytes: &mut [u8], at: usize, text: &[u8]) -> usize
     }
 }
 
+/// Puts a text to a place by one copy. Where it ends.
 #[inline(always)]
-fn put_long(bytes: &mut [u8], at: usize, text: &[u8]) -> usize
+pub(crate) fn put_at_once(bytes: &mut [u8], at: usize, text: &[u8]) -> usize
     requires { at + length text.now ≤ length bytes.old }
     ensures { Placed bytes.old bytes.new at text.now result }
 {
     let end = at + text.len();
     bytes[at..end].copy_from_slice(text);
+    end
+}
+
+/// How many digits a number has.
+#[inline(always)]
+pub(crate) fn count_digits(number: u64) -> usize
+    ensures { result ≡ length (decimal number) }
+{
+    number.max(1).ilog10() as usize + 1
+}
+
+/// Puts a number in decimal digits, as many as it has, to a place. Where they end.
+#[inline(always)]
+pub(crate) fn put_number(bytes: &mut [u8], at: usize, number: u64, count: usize) -> usize
+    requires count { count ≡ length (decimal number) }
+    requires room { at + count ≤ length bytes.old }
+    ensures { Placed bytes.old bytes.new at (decimal number) result }
+{
+    let end = at + count;
+    itoa::write_digits(number, bytes, end);
     end
 }
 

@@ -63,7 +63,7 @@ fn push_day(text: &mut Line, year: u32, month: u8, day: u8) -> Result<(), AllocE
     let shown = [
         century.0, century.1, later.0, later.1, b'-', month.0, month.1, b'-', day.0, day.1,
     ];
-    text.push_str(unsafe { str::from_utf8_unchecked(&shown) })
+    text.push_array(&shown)
 }
 
 /// A time of day, of which a number may have more digits than its place.
@@ -89,7 +89,7 @@ fn push_clock(text: &mut Line, hour: u16, minute: u8, second: u8) -> Result<(), 
     let shown = [
         hour.0, hour.1, b':', minute.0, minute.1, b':', second.0, second.1,
     ];
-    text.push_str(unsafe { str::from_utf8_unchecked(&shown) })
+    text.push_array(&shown)
 }
 
 fn push_date_time(text: &mut Line, time: DateTime) -> Result<(), AllocError>
@@ -117,6 +117,7 @@ fn push_timestamp(text: &mut Line, time: Timestamp) -> Result<(), AllocError>
 }
 
 /// A decimal in quotes.
+#[inline(never)]
 pub(crate) fn append_decimal(out: &mut Line, decimal: DecimalView<'_>) -> Result<(), AllocError>
     ensures { OnOk result (line_bytes out.new ≡ line_bytes out.old ++ quoted (decimal_text (decimal_view decimal.entry))) }
 {
@@ -126,6 +127,7 @@ pub(crate) fn append_decimal(out: &mut Line, decimal: DecimalView<'_>) -> Result
 }
 
 /// A year in quotes.
+#[inline(never)]
 pub(crate) fn append_year(out: &mut Line, year: u16) -> Result<(), AllocError>
     ensures { OnOk result (line_bytes out.new ≡ line_bytes out.old ++ quoted (padded 4 year)) }
 {
@@ -135,6 +137,7 @@ pub(crate) fn append_year(out: &mut Line, year: u16) -> Result<(), AllocError>
 }
 
 /// A date in quotes.
+#[inline(never)]
 pub(crate) fn append_date(out: &mut Line, date: Date) -> Result<(), AllocError>
     ensures { OnOk result (line_bytes out.new ≡ line_bytes out.old ++ quoted (date_text date)) }
 {
@@ -144,6 +147,7 @@ pub(crate) fn append_date(out: &mut Line, date: Date) -> Result<(), AllocError>
 }
 
 /// A day and a time of day in quotes.
+#[inline(never)]
 pub(crate) fn append_date_time(out: &mut Line, time: DateTime) -> Result<(), AllocError>
     ensures { OnOk result (line_bytes out.new ≡ line_bytes out.old ++ quoted (date_time_text time)) }
 {
@@ -153,6 +157,7 @@ pub(crate) fn append_date_time(out: &mut Line, time: DateTime) -> Result<(), All
 }
 
 /// A time in quotes.
+#[inline(never)]
 pub(crate) fn append_time(out: &mut Line, time: Time) -> Result<(), AllocError>
     ensures { OnOk result (line_bytes out.new ≡ line_bytes out.old ++ quoted (time_text time)) }
 {
@@ -162,6 +167,7 @@ pub(crate) fn append_time(out: &mut Line, time: Time) -> Result<(), AllocError>
 }
 
 /// Seconds since 1970 in quotes.
+#[inline(never)]
 pub(crate) fn append_timestamp(out: &mut Line, time: Timestamp) -> Result<(), AllocError>
     ensures { OnOk result (line_bytes out.new ≡ line_bytes out.old ++ quoted (timestamp_text time)) }
 {

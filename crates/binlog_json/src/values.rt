@@ -51,6 +51,7 @@ pub(crate) fn append_value(
     }
 }
 
+#[inline(never)]
 fn append_enum(
     out: &mut Line,
     room: &mut Room,
@@ -68,6 +69,7 @@ fn append_enum(
     }
 }
 
+#[inline(never)]
 fn append_set(
     out: &mut Line,
     room: &mut Room,
@@ -107,6 +109,19 @@ fn append_text(
     if is_plain::<0x80>(bytes) {
         return append_plain(out, bytes);
     }
+    append_any_text(out, quoter, room, bytes)
+}
+
+/// The same, whatever the bytes are.
+#[inline(never)]
+fn append_any_text(
+    out: &mut Line,
+    quoter: &mut Quoter,
+    room: &mut String,
+    bytes: &[u8],
+) -> Result<(), AllocError>
+    ensures { OnOk result (line_bytes out.new ≡ line_bytes out.old ++ compact_text (bytes_data bytes.now)) }
+{
     match str::from_utf8(bytes) {
         Ok(text) => quoter.append(out, text),
         Err(_) => append_encoded(out, quoter, room, bytes),
@@ -114,6 +129,7 @@ fn append_text(
 }
 
 /// An object whose member says that the bytes are as they are stored.
+#[inline(never)]
 fn append_raw(
     out: &mut Line,
     quoter: &mut Quoter,
@@ -144,6 +160,7 @@ fn append_encoded(
 }
 
 /// The bytes in base64, as a string. That of few bytes is put together beside the line.
+#[inline(never)]
 fn append_base64(
     out: &mut Line,
     quoter: &mut Quoter,
