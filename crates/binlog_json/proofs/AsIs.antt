@@ -1,5 +1,5 @@
 -- Texts of digits and signs, which need no escape.
-use Rattle.std.proofs.Common.{◌≡◌, ◌∙◌, ℕ, zero, suc, ◌+◌, ◌-◌, ◌*◌, ◌%◌, ◌/◌, ◌<◌, ◌≤◌, ◌==◌, List, [], ◌∷◌, ◌++◌, Bool, true, false, cond, length, take, drop, replicate, decimal, lt-ltb, refl, ap, ap₂, arith}
+use Rattle.std.proofs.Common.{◌≡◌, ◌∙◌, ℕ, zero, suc, ◌+◌, ◌-◌, ◌*◌, ◌%◌, ◌/◌, ◌<◌, ◌≤◌, ◌==◌, List, [], ◌∷◌, ◌++◌, Bool, true, false, cond, if◌then◌else◌, nat_lt, ltb-true, ltb-false, length, take, drop, replicate, decimal, lt-ltb, refl, ap, ap₂, arith}
 use Rattle.std.specs.Fmt.{digits, digits_onto, digit_glyph}
 use Rattle.std.specs.List.{All}
 use Rattle.std.proofs.lemmas.Grind.{flat_map-append, common_steps}
@@ -11,6 +11,8 @@ use Rattle.binlog_table.specs.declared.cell.Time.{Time}
 use Rattle.binlog_table.specs.declared.cell.Timestamp.{Timestamp}
 use Rattle.binlog_table.specs.Decimal.{Decimal, digits_of}
 use Rattle.binlog_table.specs.Extent.{fraction_len}
+use Rattle.uuid.specs.Text.{by_index, digit_place, hex_digit, hyphen, hyphenated_text, is_hyphen_place, lower, nibble}
+use Rattle.binlog_json.specs.Line.{gtid_text}
 use Rattle.binlog_json.specs.Texts.{padded, digits_text, whole_text, point_text, sign_text, is_below_zero, whole_len, decimal_text, fraction_text, day_text, clock_text, date_text, date_time_text, time_text, timestamp_text}
 
 -- a text stands in a string as it is
@@ -128,6 +130,30 @@ escape_behind front back is = flat_map-append escape_byte front back ∙ ap (λ 
 
 pub escape_at_sign : (text : List ℕ) → escape (64 ∷ text) ≡ 64 ∷ escape text
 escape_at_sign text = ap (λ (sign : List ℕ). sign ++ escape text) (escape_byte_plain 64 (λ e. omega (arith, e)) (λ e. omega (arith, e)) (omega arith))
+
+-- ---- the text of a GTID
+
+plain_letter : (x : ℕ) → 97 ≤ x → AsIs (x ∷ [])
+plain_letter x above = ap (λ (front : List ℕ). front ++ []) (escape_byte_plain x (λ e. omega (arith, e)) (λ e. omega (arith, e)) (omega arith))
+
+hex_at : (b : Bool) (d : ℕ) → nat_lt d 10 ≡ b → AsIs ((if b then 48 + d else lower + d - 10) ∷ [])
+hex_at true d test = let few : d < 10 = ltb-true d 10 test in byte (48 + d) [] (omega arith) (omega (arith, few)) refl
+hex_at false d test = let more : 10 ≤ d = ltb-false d 10 test in plain_letter (97 + d - 10) (omega (arith, more))
+
+source_at : (b : Bool) (d : ℕ) → AsIs ((if b then hyphen else hex_digit lower d) ∷ [])
+source_at true d = byte 45 [] (omega arith) (omega arith) refl
+source_at false d = hex_at (nat_lt d 10) d refl
+
+each_as_is : (n : ℕ) (f : ℕ → ℕ) → ((k : ℕ) → AsIs (f k ∷ [])) → AsIs (by_index n f)
+unfolding by_index
+each_as_is zero f each = refl
+each_as_is (suc n) f each = both (by_index n f) (f n ∷ []) (each_as_is n f each) (each n)
+
+source : (xs : List ℕ) → AsIs (hyphenated_text lower xs)
+source xs = each_as_is 36 _ (λ k. source_at (is_hyphen_place k) (nibble xs (digit_place k)))
+
+pub quoted_gtid : (gtid : List ℕ × ℕ) → quoted (gtid_text gtid) ≡ 34 ∷ (gtid_text gtid ++ 34 ∷ [])
+quoted_gtid gtid = quoted_as_is _ (both (hyphenated_text lower gtid.0) _ (source gtid.0) (byte 58 _ (omega arith) (omega arith) (number gtid.1)))
 
 pub place_as_is : (position count : ℕ) → AsIs (decimal position ++ 46 ∷ decimal count)
 place_as_is position count = both (decimal position) (46 ∷ decimal count) (number position) (byte 46 (decimal count) (omega arith) (omega arith) (number count))
