@@ -1,4 +1,5 @@
 pub mod DecimalGroups
+pub mod DecimalParts
 pub mod PlainBytes
 pub mod WholeDecimals
 pub mod Extents

@@ -3,6 +3,7 @@ pub mod DecimalDigits
 pub mod Decimal
 pub mod Extent
 pub mod DecimalShown
+pub mod DecimalParts
 pub mod Value
 pub mod Image
 pub mod RowsBody

@@ -1,7 +1,8 @@
 //! Decimals: groups of digits, the highest first.
-ghost use Rattle.std.specs.Prelude.{◌≡◌, ◌≤◌, ◌<◌, ◌^◌, ◌+◌, ◌*◌, length, drop, option_map, is_some, true, false, [], Some, None, IfSome};
+ghost use Rattle.std.specs.Prelude.{◌≡◌, ◌≤◌, ◌<◌, ◌^◌, ◌+◌, ◌-◌, ◌*◌, ◌++◌, length, drop, option_map, is_some, true, false, [], Some, None, IfSome};
 ghost use Rattle.byteorder.specs.Endian.{big_number};
 ghost use Rattle.binlog_table.specs.DecimalShown.{decimal_view};
+ghost use Rattle.binlog_table.specs.DecimalParts.{front_at, behind_at};
 ghost use Rattle.binlog_table.specs.Value.{view, decimal};
 ghost use Rattle.binlog_table.specs.Decimal.{plain, group_len, group_at, nines_at, digits_at, digits_of, after_group, after_nines, after_digits, appended, both, decimal_len, decimal_of};
 
@@ -93,6 +94,7 @@ fn group_at(text: &[u8], at: usize, len: usize) -> Option<u64>
     requires few { len ≤ 9 }
     requires place { at ≤ length text.now }
     ensures value { option_map (λ n. (digits_of len n, drop (at + group_len len) (plain text.now))) result ≡ group_at len (drop at (plain text.now)) }
+    ensures small { IfSome result (λ n. n < 10 ^ len) }
     ensures within { IfSome result (λ _. at + group_len len ≤ length text.now) }
 {
     let width = group_len(len);
@@ -245,4 +247,63 @@ pub(crate) fn put_digits(size: DecimalSize, text: &[u8], digits: &mut Digits) ->
         return false;
     };
     push_group(digits, text, at, scale % 9).is_some()
+}
+
+/// The number of the digits of two groups, of which the last has so many.
+#[inline(always)]
+fn joined(first: u64, last: u64, len: usize) -> u64
+    requires few { len ≤ 9 }
+    requires first { first < 10 ^ 9 }
+    requires last { last < 10 ^ len }
+    ensures { result ≡ first * 10 ^ len + last }
+{
+    first * limit(len) + last
+}
+
+/// The number of so many digits in front of the point, and the place after them.
+#[inline(always)]
+fn number_in_front(text: &[u8], digits: usize) -> Option<(u64, usize)>
+    requires few { digits ≤ 17 }
+    ensures value { option_map (λ r. both (digits_of digits r.0) (drop r.1 (plain text.now))) result ≡ front_at digits (plain text.now) }
+    ensures small { IfSome result (λ r. r.0 < 10 ^ digits) }
+    ensures within { IfSome result (λ r. r.1 ≤ length text.now) }
+{
+    let len = digits % 9;
+    let at = group_len(len);
+    let first = group_at(text, 0, len)?;
+    if digits < 9 {
+        return Some((first, at));
+    }
+    let last = group_at(text, at, 9)?;
+    Some((joined(first, last, 9), at + 4))
+}
+
+/// The number of so many digits behind the point, which begin at a place.
+#[inline(always)]
+fn number_behind(text: &[u8], at: usize, digits: usize) -> Option<u64>
+    requires few { digits ≤ 17 }
+    requires place { at ≤ length text.now }
+    ensures value { option_map (digits_of digits) result ≡ behind_at digits (drop at (plain text.now)) }
+    ensures small { IfSome result (λ n. n < 10 ^ digits) }
+{
+    let len = digits % 9;
+    if digits < 9 {
+        return group_at(text, at, len);
+    }
+    let first = group_at(text, at, 9)?;
+    let last = group_at(text, at + 4, len)?;
+    Some(joined(first, last, len))
+}
+
+/// The numbers in front of the point and behind it of a text of few digits, where it has all of them.
+pub(crate) fn numbers_of(size: DecimalSize, text: &[u8]) -> Option<(u64, u64)>
+    requires { size.precision ≤ 17 }
+    ensures digits { option_map (λ n. digits_of (size.precision - size.scale) n.0 ++ digits_of size.scale n.1) result ≡ digits_at size.precision size.scale (plain text.now) }
+    ensures front { IfSome result (λ n. n.0 < 10 ^ (size.precision - size.scale)) }
+    ensures behind { IfSome result (λ n. n.1 < 10 ^ size.scale) }
+{
+    let scale = usize::from(size.scale);
+    let (whole, at) = number_in_front(text, usize::from(size.precision) - scale)?;
+    let fraction = number_behind(text, at, scale)?;
+    Some((whole, fraction))
 }

@@ -4,7 +4,7 @@ ghost use Rattle.binlog_table.specs.Decimal.{decimal_len, digits_at, plain};
 ghost use Rattle.binlog_table.specs.DecimalDigits.{IsInRange};
 
 use crate::column::DecimalSize;
-use crate::decimal::put_digits;
+use crate::decimal::{numbers_of, put_digits};
 use crate::digits::Digits;
 
 /// A decimal where it lies in a body: its sign, its digits, and how many of them stand after the point.
@@ -19,7 +19,9 @@ pub struct DecimalView<'a> {
 }
 
 impl<'a> DecimalView<'a> {
+    ghost use Rattle.std.specs.Prelude.{◌↔◌, IsSome, IfSome};
     ghost use Rattle.binlog_table.specs.DecimalShown.{decimal_view};
+    ghost use Rattle.binlog_table.specs.DecimalParts.{IsSplit};
 
     /// Whether the number is stored as one below zero. A negative zero is, too.
     pub fn is_negative(&self) -> bool
@@ -48,5 +50,21 @@ impl<'a> DecimalView<'a> {
         let mut digits = Digits::new();
         let _whole = put_digits(size, self.text, &mut digits);
         digits
+    }
+
+    /// The number in front of the point and the one behind it, where there are at most 17 digits.
+    #[inline(always)]
+    pub fn split(&self) -> Option<(u64, u64)>
+        ensures few { IsSome result ↔ (length (decimal_view self.now).digits ≤ 17) }
+        ensures parts { IfSome result (λ n. IsSplit (decimal_view self.now) n.0 n.1) }
+    {
+        if self.precision > 17 {
+            return None;
+        }
+        let size = DecimalSize {
+            precision: self.precision,
+            scale: self.scale,
+        };
+        numbers_of(size, self.text)
     }
 }
