@@ -13,6 +13,7 @@ pub mod LabelTexts
 pub mod LineParts
 pub mod Visiting
 pub mod Pairs
+pub mod SplitTexts
 pub mod Places
 pub mod NumberTexts
 pub mod Indexes

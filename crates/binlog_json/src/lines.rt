@@ -2,7 +2,9 @@
 ghost use Rattle.std.specs.Prelude.{◌≡◌, ◌≤◌, length, take};
 ghost use Rattle.std.specs.Str.{IsUtf8};
 
-use crate::pieces::{count_digits, put_at_once, put_byte, put_first, put_number, put_text};
+use crate::pieces::{
+    count_digits, put_at_once, put_byte, put_digits, put_first, put_number, put_text,
+};
 use std::alloc::{AllocError, Global};
 
 /// A text like a `String`, whose room is written before, so that a short piece is stored into it without a call.
@@ -18,6 +20,8 @@ pub(crate) struct Line {
 impl Line {
     ghost use Rattle.std.specs.Prelude.{◌≡◌, ◌+◌, ◌<◌, ◌≤◌, ◌++◌, ◌∷◌, [], length, take, is_ok, if◌then◌else◌, OnOk, decimal, string_bytes};
     ghost use Rattle.std.specs.Str.{IsUtf8};
+    ghost use Rattle.binlog_table.specs.Decimal.{digits_of};
+    ghost use Rattle.binlog_json.specs.Texts.{digits_text};
     ghost use Rattle.binlog_json.specs.LineBytes.{line_bytes};
 
     /// An empty text. It takes no memory.
@@ -150,6 +154,16 @@ impl Line {
         }
         self.make_room(16)?;
         self.len = put_first(self.bytes.as_mut_slice(), self.len, text, count);
+        Ok(())
+    }
+
+    /// Appends the last digits of a number: so many, or nothing where a growth was refused.
+    #[inline(always)]
+    pub(crate) fn push_digits(&mut self, number: u64, width: usize) -> Result<(), AllocError>
+        ensures bytes { line_bytes self.new ≡ (if is_ok result then line_bytes self.old ++ digits_text (digits_of width number) else line_bytes self.old) }
+    {
+        self.make_room(width)?;
+        self.len = put_digits(self.bytes.as_mut_slice(), self.len, number, width);
         Ok(())
     }
 }

@@ -1,7 +1,10 @@
 //! Texts that are mostly short, put to places of bytes that have room for them: by copies of constant width, which need no call.
 ghost use Rattle.std.specs.Prelude.{◌≡◌, ◌+◌, ◌<◌, ◌≤◌, ◌∷◌, [], length, take, decimal};
 ghost use Rattle.json.specs.Filled.{Placed};
+ghost use Rattle.binlog_table.specs.Decimal.{digits_of};
+ghost use Rattle.binlog_json.specs.Texts.{digits_text};
 
+use crate::digits::pair;
 use std::simd::Simd;
 
 /// Puts a byte to a place. Where it ends.
@@ -104,4 +107,25 @@ fn put_ends<const WIDTH: usize>(bytes: &mut [u8], at: usize, text: &[u8]) -> usi
     let last = text.len() - WIDTH;
     put_front::<WIDTH>(bytes, at, text);
     put_front::<WIDTH>(bytes, at + last, &text[last..])
+}
+
+/// Puts the last digits of a number to a place, as characters, from the right by pairs. Where they end.
+#[inline(always)]
+pub(crate) fn put_digits(bytes: &mut [u8], at: usize, number: u64, width: usize) -> usize
+    requires { at + width ≤ length bytes.old }
+    ensures { Placed bytes.old bytes.new at (digits_text (digits_of width number)) result }
+{
+    let mut left = number;
+    let mut place = width;
+    while place >= 2 {
+        place -= 2;
+        let digits = pair((left % 100) as u8);
+        bytes[at + place + 1] = digits.1;
+        bytes[at + place] = digits.0;
+        left /= 100;
+    }
+    if place == 1 {
+        bytes[at] = b'0' + (left % 10) as u8;
+    }
+    at + width
 }

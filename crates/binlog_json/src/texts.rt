@@ -2,8 +2,10 @@
 ghost use Rattle.std.specs.Prelude.{◌≡◌, ◌++◌, ◌∷◌, [], ◌==◌, OnOk};
 ghost use Rattle.std.specs.List.{list_all};
 ghost use Rattle.json.specs.Print.{quoted};
+ghost use Rattle.binlog_table.specs.Decimal.{digits_of};
+ghost use Rattle.binlog_table.specs.DecimalParts.{IsSplit};
 ghost use Rattle.binlog_table.specs.DecimalShown.{decimal_view};
-ghost use Rattle.binlog_json.specs.Texts.{sign_text, padded, decimal_text, day_text, clock_text, date_text, date_time_text, time_text, timestamp_text};
+ghost use Rattle.binlog_json.specs.Texts.{sign_text, point_text, padded, decimal_text, day_text, clock_text, date_text, date_time_text, time_text, timestamp_text};
 ghost use Rattle.binlog_json.specs.LineBytes.{line_bytes};
 
 use crate::append::append_number;
@@ -13,6 +15,48 @@ use binlog_table::{Date, DateTime, DecimalView, Time, Timestamp};
 use std::alloc::AllocError;
 
 fn push_decimal(text: &mut Line, decimal: DecimalView<'_>) -> Result<(), AllocError>
+    ensures text { OnOk result ((line_bytes text.new)
+        ≡ line_bytes text.old ++ decimal_text (decimal_view decimal.entry)) }
+    ensures as_is { OnOk result (quoted (decimal_text (decimal_view decimal.entry))
+        ≡ 34 ∷ (decimal_text (decimal_view decimal.entry) ++ 34 ∷ [])) }
+{
+    match decimal.split() {
+        Some((whole, fraction)) => push_split(text, decimal, whole, fraction),
+        None => push_long_decimal(text, decimal),
+    }
+}
+
+/// A decimal, of which the number in front of the point and the one behind it are given.
+fn push_split(
+    text: &mut Line,
+    decimal: DecimalView<'_>,
+    whole: u64,
+    fraction: u64,
+) -> Result<(), AllocError>
+    requires { IsSplit (decimal_view decimal) whole fraction }
+    ensures { OnOk result ((line_bytes text.new)
+        ≡ line_bytes text.old ++ decimal_text (decimal_view decimal.entry)) }
+{
+    push_sign(text, decimal.is_negative() && (whole != 0 || fraction != 0))?;
+    append_number(text, whole)?;
+    push_behind_point(text, fraction, decimal.scale())
+}
+
+/// The point and so many digits of the number behind it, or nothing where there are none.
+fn push_behind_point(text: &mut Line, fraction: u64, scale: usize) -> Result<(), AllocError>
+    ensures { OnOk result ((line_bytes text.new)
+        ≡ line_bytes text.old ++ point_text (digits_of scale fraction)) }
+{
+    if scale == 0 {
+        return Ok(());
+    }
+    text.push(b'.')?;
+    text.push_digits(fraction, scale)
+}
+
+/// A decimal of any number of digits.
+#[inline(never)]
+fn push_long_decimal(text: &mut Line, decimal: DecimalView<'_>) -> Result<(), AllocError>
     ensures text { OnOk result ((line_bytes text.new)
         ≡ line_bytes text.old ++ decimal_text (decimal_view decimal.entry)) }
     ensures as_is { OnOk result (quoted (decimal_text (decimal_view decimal.entry))
