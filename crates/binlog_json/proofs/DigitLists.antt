@@ -1,21 +1,35 @@
--- The digits of a number, from the first on.
-use Rattle.std.proofs.Common.{◌≡◌, ◌∙◌, ℕ, zero, suc, ◌+◌, ◌-◌, ◌/◌, ◌%◌, ◌^◌, ◌<◌, ◌≤◌, List, [], ◌∷◌, ◌++◌, length, take, drop, set, get_or, length-drop, refl, sym, ap, subst, arith}
+-- The digits of a number, and what is shown of them.
+use Rattle.std.proofs.Common.{◌≡◌, ◌∙◌, ℕ, zero, suc, ◌+◌, ◌-◌, ◌*◌, ◌/◌, ◌%◌, ◌^◌, ◌<◌, ◌≤◌, List, [], ◌∷◌, ◌++◌, length, take, drop, set, get_or, length-drop, refl, sym, ap, ap₂, subst, mul_comm, add-one, arith}
 use Rattle.std.specs.List.{All}
 use Rattle.std.specs.Str.{IsAscii, IsUtf8}
+use Rattle.std.proofs.Math.Nat.{div-div-eq-div-mul}
 use Rattle.std.proofs.Math.Seq.{take-length}
-use Rattle.std.proofs.lemmas.Grind.{common_steps}
+use Rattle.std.proofs.lemmas.Grind.{common_steps, pow_more}
 use Rattle.std.proofs.lemmas.List.{map-append, drop-map, take_more, take_more_set}
 use Rattle.std.proofs.lemmas.Str.{IsUtf8-from_ascii}
 use Rattle.binlog_table.specs.Decimal.{digits_of}
+use Rattle.binlog_table.specs.Extent.{fraction_len}
+use Rattle.binlog_table.proofs.DecimalDigitLists.{digits_of-length}
 use Rattle.binlog_json.specs.Texts.{digits_text}
 
-pub next_digit : (count width place n : ℕ) → place < count → count ≤ width
-    → take (count - place) (digits_of (width - place) n) ≡ n / 10 ^ (width - 1 - place) % 10 ∷ take (count - (place + 1)) (digits_of (width - (place + 1)) n)
-next_digit count width place n below within =
-    let counted : count - place ≡ suc (count - (place + 1)) = omega arith in
-    let left : width - place ≡ suc (width - (place + 1)) = omega arith in
-    let at : width - 1 - place ≡ width - (place + 1) = omega arith in
-    rw (counted, left, at) refl
+-- the digits of a number but the last
+without_last : (k n : ℕ) → digits_of k (n / 10) ≡ take k (digits_of (suc k) n)
+without_last zero n = refl
+without_last (suc k) n =
+    let first : n / 10 / 10 ^ k ≡ n / 10 ^ suc k = div-div-eq-div-mul n 10 (10 ^ k) ∙ ap (λ (power : ℕ). n / power) (mul_comm 10 (10 ^ k) ∙ sym (pow_more 10 k) ∙ ap (λ (e : ℕ). 10 ^ e) (add-one k)) in
+    ap₂ (λ (front : ℕ) (rest : List ℕ). front % 10 ∷ rest) first (without_last k n)
+
+-- those of a fraction of a second that are shown: all of them, or all but the last
+pub all_shown : (precision n : ℕ) → precision % 2 ≡ 0 → digits_of precision n ≡ take precision (digits_of (2 * fraction_len precision) n)
+all_shown precision n even =
+    let count : precision ≡ 2 * fraction_len precision = omega (arith, even) in
+    let whole : digits_of precision n ≡ take precision (digits_of precision n) = sym (ap (λ (k : ℕ). take k (digits_of precision n)) (sym (digits_of-length precision n)) ∙ take-length (digits_of precision n)) in
+    whole ∙ ap (λ (k : ℕ). take precision (digits_of k n)) count
+
+pub all_but_last_shown : (precision n : ℕ) → (precision % 2 ≡ 0 → ⊥) → digits_of precision (n / 10) ≡ take precision (digits_of (2 * fraction_len precision) n)
+all_but_last_shown precision n odd =
+    let count : suc precision ≡ 2 * fraction_len precision = omega (arith, odd) in
+    without_last precision n ∙ ap (λ (k : ℕ). take precision (digits_of k n)) count
 
 -- digits are ASCII
 pub digits_ascii : (xs : List ℕ) → All (λ d. d < 10) xs → IsAscii (digits_text xs)

@@ -1,6 +1,7 @@
 //! Numbers and their digits, at the end of a text.
 ghost use Rattle.std.specs.Prelude.{◌≡◌, ◌+◌, ◌<◌, ◌≤◌, [], ◌∷◌, ◌++◌, ◌-◌, ◌/◌, ◌%◌, ◌^◌, ◌*◌, length, take, drop, replicate, OnOk, All};
 ghost use Rattle.binlog_table.specs.Decimal.{digits_of};
+ghost use Rattle.binlog_table.specs.Extent.{fraction_len};
 ghost use Rattle.binlog_json.specs.Texts.{padded, digits_text, whole_text, point_text, fraction_text};
 ghost use Rattle.binlog_json.specs.LineBytes.{line_bytes};
 
@@ -108,34 +109,32 @@ fn push_point(text: &mut Line, digits: &[u8], shown: &[u8]) -> Result<(), AllocE
     text.push_str(unsafe { str::from_utf8_unchecked(shown) })
 }
 
-/// The digit of a number at a place, counted from the last digit.
-fn digit_at(number: u32, place: usize) -> u8
-    ensures value { result ≡ number / 10 ^ place % 10 }
-    ensures small { result < 10 }
+/// The point and so many digits of the number behind it, or nothing where there are none.
+pub(crate) fn push_behind_point(
+    text: &mut Line,
+    fraction: u64,
+    scale: usize,
+) -> Result<(), AllocError>
+    ensures { OnOk result ((line_bytes text.new)
+        ≡ line_bytes text.old ++ point_text (digits_of scale fraction)) }
 {
-    let mut rest = number;
-    for _step in 0..place {
-        rest /= 10;
+    if scale == 0 {
+        return Ok(());
     }
-    (rest % 10) as u8
+    text.push(b'.')?;
+    text.push_digits(fraction, scale)
 }
 
-/// The first digits of the last `width` digits of a number.
-fn push_first_digits(
-    text: &mut Line,
-    count: usize,
-    width: usize,
-    number: u32,
-) -> Result<(), AllocError>
-    requires { count ≤ width }
-    ensures { OnOk result ((line_bytes text.new)
-        ≡ line_bytes text.old ++ digits_text (take count (digits_of width number))) }
+/// What is shown of the stored fraction of a second of a column with a precision. It has an even number of digits, so the last isn't
+/// shown where the precision is odd.
+fn shown_fraction(precision: u8, fraction: u32) -> u32
+    ensures { digits_of precision result ≡ take precision (digits_of (2 * fraction_len precision) fraction) }
 {
-    for place in 0..count {
-        let digit = digit_at(number, width - 1 - place);
-        text.push(b'0' + digit)?;
+    if precision % 2 == 0 {
+        fraction
+    } else {
+        fraction / 10
     }
-    Ok(())
 }
 
 /// The stored fraction of a second of a column with a precision, with its point.
@@ -143,10 +142,6 @@ pub(crate) fn push_fraction(text: &mut Line, precision: u8, fraction: u32) -> Re
     ensures { OnOk result ((line_bytes text.new)
         ≡ line_bytes text.old ++ fraction_text precision fraction) }
 {
-    if precision == 0 {
-        return Ok(());
-    }
-    text.push(b'.')?;
-    let count = usize::from(precision);
-    push_first_digits(text, count, 2 * count.div_ceil(2), fraction)
+    let shown = shown_fraction(precision, fraction);
+    push_behind_point(text, u64::from(shown), usize::from(precision))
 }

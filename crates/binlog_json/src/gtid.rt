@@ -45,7 +45,8 @@ impl SourceText {
         self.source = source;
         self.text.clear();
         let mut buffer = Uuid::encode_buffer();
-        self.text.push_str(source.hyphenated().encode_lower(&mut buffer))?;
+        self.text
+            .push_str(source.hyphenated().encode_lower(&mut buffer))?;
         self.is_known = true;
         Ok(())
     }

@@ -121,7 +121,10 @@ impl Line {
     /// Appends a text whose length is known where it is put together: all of it, or nothing where a growth was refused. It takes no look at
     /// the length.
     #[inline(always)]
-    pub(crate) fn push_array<const LEN: usize>(&mut self, text: &[u8; LEN]) -> Result<(), AllocError>
+    pub(crate) fn push_array<const LEN: usize>(
+        &mut self,
+        text: &[u8; LEN],
+    ) -> Result<(), AllocError>
         requires { IsUtf8 text.now }
         ensures bytes { line_bytes self.new ≡ (if is_ok result then line_bytes self.old ++ text.now else line_bytes self.old) }
     {

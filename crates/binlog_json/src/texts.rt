@@ -2,14 +2,13 @@
 ghost use Rattle.std.specs.Prelude.{◌≡◌, ◌++◌, ◌∷◌, [], ◌==◌, OnOk};
 ghost use Rattle.std.specs.List.{list_all};
 ghost use Rattle.json.specs.Print.{quoted};
-ghost use Rattle.binlog_table.specs.Decimal.{digits_of};
 ghost use Rattle.binlog_table.specs.DecimalParts.{IsSplit};
 ghost use Rattle.binlog_table.specs.DecimalShown.{decimal_view};
-ghost use Rattle.binlog_json.specs.Texts.{sign_text, point_text, padded, decimal_text, day_text, clock_text, date_text, date_time_text, time_text, timestamp_text};
+ghost use Rattle.binlog_json.specs.Texts.{sign_text, padded, decimal_text, day_text, clock_text, date_text, date_time_text, time_text, timestamp_text};
 ghost use Rattle.binlog_json.specs.LineBytes.{line_bytes};
 
 use crate::append::append_number;
-use crate::digits::{pair, push_fraction, push_padded, push_part, push_scaled};
+use crate::digits::{pair, push_behind_point, push_fraction, push_padded, push_part, push_scaled};
 use crate::lines::Line;
 use binlog_table::{Date, DateTime, DecimalView, Time, Timestamp};
 use std::alloc::AllocError;
@@ -40,18 +39,6 @@ fn push_split(
     push_sign(text, decimal.is_negative() && (whole != 0 || fraction != 0))?;
     append_number(text, whole)?;
     push_behind_point(text, fraction, decimal.scale())
-}
-
-/// The point and so many digits of the number behind it, or nothing where there are none.
-fn push_behind_point(text: &mut Line, fraction: u64, scale: usize) -> Result<(), AllocError>
-    ensures { OnOk result ((line_bytes text.new)
-        ≡ line_bytes text.old ++ point_text (digits_of scale fraction)) }
-{
-    if scale == 0 {
-        return Ok(());
-    }
-    text.push(b'.')?;
-    text.push_digits(fraction, scale)
 }
 
 /// A decimal of any number of digits.
