@@ -6,6 +6,7 @@ ghost use Rattle.binlog_json.specs.Texts.{padded, digits_text, whole_text, point
 ghost use Rattle.binlog_json.specs.LineBytes.{line_bytes};
 
 use crate::lines::Line;
+use crate::pieces::count_digits;
 use std::alloc::AllocError;
 
 /// The two digits of each number below 100.
@@ -27,10 +28,9 @@ pub(crate) fn pair(number: u8) -> (u8, u8)
 pub(crate) fn push_padded(text: &mut Line, number: u32, width: usize) -> Result<(), AllocError>
     ensures { OnOk result (line_bytes text.new ≡ line_bytes text.old ++ padded width number) }
 {
-    let mut buffer = itoa::Buffer::new();
-    let digits = buffer.format(number);
-    push_zeros(text, width.saturating_sub(digits.len()))?;
-    text.push_str(digits)
+    let number = u64::from(number);
+    push_zeros(text, width.saturating_sub(count_digits(number)))?;
+    text.push_number(number)
 }
 
 /// A mark, and a number in two digits behind it, or in more where it has more.
