@@ -10,10 +10,11 @@ use Rattle.binlog_table.specs.declared.cell.DateTime.{DateTime}
 use Rattle.binlog_table.specs.declared.cell.Time.{Time}
 use Rattle.binlog_table.specs.declared.cell.Timestamp.{Timestamp}
 use Rattle.binlog_table.specs.Decimal.{Decimal, digits_of}
+use Rattle.binlog_table.specs.DecimalParts.{front_len}
 use Rattle.binlog_table.specs.Extent.{fraction_len}
 use Rattle.uuid.specs.Text.{by_index, digit_place, hex_digit, hyphen, hyphenated_text, is_hyphen_place, lower, nibble}
 use Rattle.binlog_json.specs.Line.{gtid_text}
-use Rattle.binlog_json.specs.Texts.{padded, digits_text, whole_text, point_text, sign_text, is_below_zero, whole_len, decimal_text, fraction_text, day_text, clock_text, date_text, date_time_text, time_text, timestamp_text}
+use Rattle.binlog_json.specs.Texts.{padded, digits_text, whole_text, point_text, sign_text, is_below_zero, decimal_text, fraction_text, day_text, clock_text, date_text, date_time_text, time_text, timestamp_text}
 
 -- a text stands in a string as it is
 abbrev pub AsIs : List ℕ → Type 0
@@ -108,7 +109,7 @@ quoted_number width n = quoted_as_is _ (padded_number width n)
 
 pub quoted_decimal : (d : Decimal) → All (λ x. x < 10) d.digits → quoted (decimal_text d) ≡ 34 ∷ (decimal_text d ++ 34 ∷ [])
 quoted_decimal d small =
-    quoted_as_is _ (both (sign_text (is_below_zero d)) _ (sign (is_below_zero d)) (both (whole_text (take (whole_len d) d.digits)) _ (whole _ (taken (whole_len d) d.digits small)) (point _ (dropped (whole_len d) d.digits small))))
+    quoted_as_is _ (both (sign_text (is_below_zero d)) _ (sign (is_below_zero d)) (both (whole_text (take (front_len d) d.digits)) _ (whole _ (taken (front_len d) d.digits small)) (point _ (dropped (front_len d) d.digits small))))
 
 pub quoted_date : (d : Date) → quoted (date_text d) ≡ 34 ∷ (date_text d ++ 34 ∷ [])
 quoted_date d = quoted_as_is _ (date d.year d.month d.day)

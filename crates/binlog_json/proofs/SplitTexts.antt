@@ -16,7 +16,7 @@ use Rattle.json.specs.Print.{quoted}
 use Rattle.binlog_table.specs.Decimal.{Decimal, digits_of}
 use Rattle.binlog_table.specs.DecimalParts.{IsSplit, front_len}
 use Rattle.binlog_table.proofs.DecimalDigitLists.{digits_of-length, digits_of-small, left-next}
-use Rattle.binlog_json.specs.Texts.{digits_text, whole_text, point_text, sign_text, is_below_zero, whole_len, decimal_text}
+use Rattle.binlog_json.specs.Texts.{digits_text, whole_text, point_text, sign_text, is_below_zero, decimal_text}
 use Rattle.binlog_json.proofs.AsIs.{quoted_decimal}
 use Rattle.binlog_json.proofs.DigitLists.{digits_ascii}
 
@@ -199,7 +199,7 @@ pub split_text : (d : Decimal) (whole fraction : ℕ) (sign : Bool) → IsSplit 
 split_text d whole fraction sign split small sign_is =
     let len = digits_of-length (front_len d) whole in
     let sign_same : sign ≡ is_below_zero d = sign_is ∙ ap (λ (b : Bool). d.negative && not b) (sym (split_zeros d whole fraction split)) in
-    let front : decimal whole ≡ whole_text (take (whole_len d) d.digits) =
-    sym (ap whole_text (taken_front (whole_len d) d.digits (digits_of (front_len d) whole) (digits_of d.scale fraction) split.digits len) ∙ whole_is (front_len d) whole split.front small) in
-    let behind : digits_of d.scale fraction ≡ drop (whole_len d) d.digits = sym (dropped_front (whole_len d) d.digits (digits_of (front_len d) whole) (digits_of d.scale fraction) split.digits len) in
+    let front : decimal whole ≡ whole_text (take (front_len d) d.digits) =
+    sym (ap whole_text (taken_front (front_len d) d.digits (digits_of (front_len d) whole) (digits_of d.scale fraction) split.digits len) ∙ whole_is (front_len d) whole split.front small) in
+    let behind : digits_of d.scale fraction ≡ drop (front_len d) d.digits = sym (dropped_front (front_len d) d.digits (digits_of (front_len d) whole) (digits_of d.scale fraction) split.digits len) in
     ap₂ (λ (a b : List ℕ). a ++ b) (ap sign_text sign_same) (ap₂ (λ (a b : List ℕ). a ++ b) front (ap point_text behind))

@@ -6,6 +6,7 @@ use Rattle.binlog_table.specs.declared.cell.DateTime.{DateTime}
 use Rattle.binlog_table.specs.declared.cell.Time.{Time}
 use Rattle.binlog_table.specs.declared.cell.Timestamp.{Timestamp}
 use Rattle.binlog_table.specs.Decimal.{Decimal, digits_of}
+use Rattle.binlog_table.specs.DecimalParts.{front_len}
 use Rattle.binlog_table.specs.Extent.{fraction_len}
 
 -- a number with zeros in front of it, up to the width
@@ -33,12 +34,8 @@ sign_text is_negative = if is_negative then 45 ∷ [] else []
 abbrev pub is_below_zero : Decimal → Bool
 is_below_zero d = d.negative && not (list_all (λ digit. digit == 0) d.digits)
 
--- how many digits stand in front of the point
-abbrev pub whole_len : Decimal → ℕ
-whole_len d = length d.digits - d.scale
-
 abbrev pub decimal_text : Decimal → List ℕ
-decimal_text d = sign_text (is_below_zero d) ++ (whole_text (take (whole_len d) d.digits) ++ point_text (drop (whole_len d) d.digits))
+decimal_text d = sign_text (is_below_zero d) ++ (whole_text (take (front_len d) d.digits) ++ point_text (drop (front_len d) d.digits))
 
 -- A fraction of a second: as many digits as the column's precision, of the 2, 4 or 6 that are stored.
 abbrev pub fraction_text : ℕ → ℕ → List ℕ
