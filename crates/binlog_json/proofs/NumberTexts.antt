@@ -1,5 +1,5 @@
 -- Numbers in decimal digits: how many these are, and that they are text.
-use Rattle.std.proofs.Common.{◌≡◌, ◌∙◌, ℕ, zero, suc, ◌+◌, ◌*◌, ◌/◌, ◌%◌, ◌<◌, ◌≤◌, ◌^◌, List, [], ◌∷◌, ◌++◌, Bool, true, false, nat_lt, ltb-true, ltb-false, max, length, decimal, length-append, refl, ap, arith}
+use Rattle.std.proofs.Common.{◌≡◌, ◌∙◌, ℕ, zero, suc, ◌+◌, ◌*◌, ◌/◌, ◌%◌, ◌<◌, ◌≤◌, ◌^◌, [], ◌∷◌, ◌++◌, Bool, true, false, nat_lt, ltb-true, ltb-false, max, length, decimal, length-append, refl, ap, arith}
 use Rattle.std.specs.Fmt.{digits}
 use Rattle.std.proofs.Math.Nat.{pow-le-pow_right}
 use Rattle.std.specs.Str.{IsUtf8}

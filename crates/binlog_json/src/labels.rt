@@ -1,4 +1,5 @@
-//! A table's names as lines have them, and those of its columns as they stand in front of members, each behind a comma; kept from image to image by the body of the table's map.
+//! A table's names as lines have them, and those of its columns as they stand in front of members, each behind a comma. They are kept
+//! from image to image by the body of the table's map.
 ghost use Rattle.std.specs.Prelude.{◌≡◌, ◌<◌, ◌++◌, ℕ, List, length, true, Ok, OnOk};
 ghost use Rattle.std.proofs.Props.{props};
 ghost use Rattle.binlog_table.specs.Map.{Map, map_at};

@@ -1,4 +1,4 @@
-use Rattle.std.proofs.Common.{◌≡◌, ◌+◌, ◌≤◌, length, take, arith, length-take-le, subst}
+use Rattle.std.proofs.Common.{◌+◌, ◌≤◌, length, take, arith, length-take-le, subst}
 use Rattle.std.proofs.lemmas.List.{take-take}
 use Rattle.json.specs.Filled.{Placed}
 use Rattle.binlog_json.proofs.Places.{placed_less}
