@@ -8,11 +8,13 @@ from typing import Callable, NamedTuple
 
 # How many bytes a DECIMAL takes for so many digits, below nine.
 DIGIT_BYTES = (0, 1, 1, 2, 2, 3, 3, 4, 4)
+# The usual collation of a server, utf8mb4_0900_ai_ci.
+UTF8MB4 = 255
 WORDS = ("Ada", "Søren", "cup", "saucer", "élan", "north by north-west", "100 % \"cotton\"", "line\nbreak", "plain text of some length")
 
 
 class Column(NamedTuple):
-    """A column: its name, type and metadata, the bytes of its value in a row, whether a number is unsigned, and value names."""
+    """A column: its name, type and metadata, the bytes of its value in a row, whether a number or a YEAR is unsigned, and value names."""
 
     name: str
     type: int
@@ -96,7 +98,7 @@ def wide() -> list[Column]:
     columns += [
         Column("ratio", 4, b"\x04", lambda row: struct.pack("<f", row / 7), False),
         Column("measure", 5, b"\x08", lambda row: struct.pack("<d", row / 11), False),
-        Column("vintage", 13, b"", lambda row: bytes([row % 156])),
+        Column("vintage", 13, b"", lambda row: bytes([row % 156]), True),
         Column("born", 10, b"", date),
     ]
     columns += [Column(f"at_{f}", 18, bytes([f]), lambda row, f=f: datetime(f, row)) for f in (0, 3, 6)]
@@ -144,7 +146,8 @@ def table_map(table: bytes, columns: list[Column]) -> bytes:
     signs = [it.unsigned for it in columns if it.unsigned is not None]
     signs += [False] * (-len(signs) % 8)
     fields = field(1, bytes(sum(sign << 7 - bit for bit, sign in enumerate(signs[at : at + 8])) for at in range(0, len(signs), 8)))
-    fields += field(4, b"".join(counted(it.name.encode(), 1) for it in columns))
+    fields += field(2, packed(UTF8MB4)) + field(4, b"".join(counted(it.name.encode(), 1) for it in columns))
+    fields += field(10, packed(UTF8MB4)) if any(it.names for it in columns) else b""
     fields += b"".join(field(kind, names) for kind, names in ((5, value_names(columns, 248)), (6, value_names(columns, 247))) if names)
     front = struct.pack("<Q", 90)[:6] + b"\x01\x00" + counted(b"bench", 1) + b"\x00" + counted(table, 1) + b"\x00" + packed(len(columns))
     return front + bytes(it.type for it in columns) + packed(len(metadata)) + metadata + bytes((len(columns) + 7) // 8) + fields + field(8, b"\x00")

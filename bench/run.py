@@ -5,8 +5,9 @@
 
 FOLDER gets the logs that bench/make_log.py makes, of the shop, of wide rows and of a bulk load, with a copy and lines; it
 needs four times the room of a log. Each command runs five times, in turns, and the fastest counts. --beside names another
-program that takes the same words, `read FILE` and `transactions FILE`, and is timed in the same turns. --count has
-valgrind count the instructions over logs of 4 MB, too. The program must have been built (./binlogfeed --help).
+program that takes the same words, `read FILE` and `transactions FILE`, and is timed in the same turns. It needs no full lines
+(`read --full`), which are only asked of the program itself. --count has valgrind count the instructions over logs of 4 MB, too.
+The program must have been built (./binlogfeed --help).
 """
 
 import argparse
@@ -86,6 +87,7 @@ def time_log(folder, kind, log, programs):
         for word in ("read", "transactions"):
             commands.append((f"`{name} {word} FILE >/dev/null`", [program, word, log], nowhere))
     name, program = programs[0]
+    commands.append((f"`{name} read --full FILE >/dev/null`", [program, "read", "--full", log], nowhere))
     commands.append((f"`{name} read FILE >LINES`", [program, "read", log], folder / "again"))
     commands.append((f"`{name} read --only-tables none FILE`", [program, "read", "--only-tables", "none", log], nowhere))
     commands.append((f"`{name} read --from TOKEN FILE`", [program, "read", "--from", token, log], nowhere))
@@ -99,13 +101,25 @@ def time_log(folder, kind, log, programs):
         print(f"| {what} | {processor:.2f} | {taken:.2f} | {memory / 1000:.1f} |", flush=True)
 
 
+def output(words):
+    """What a command writes."""
+    return subprocess.run(words, stdout=subprocess.PIPE, check=True).stdout
+
+
 def count_log(folder, kind, programs):
-    """Prints the instructions for each change of a small log."""
+    """Prints the instructions for each change of a small log. Full lines are the first program's alone; last stands how many bytes they
+    have for each byte of plain ones."""
     log = make(folder / "counted_logs", kind, COUNTED_BYTES)
-    changes = subprocess.run([programs[0][1], "read", log], stdout=subprocess.PIPE, check=True).stdout.count(b"\n")
+    ours = programs[0][1]
+    lines = output([ours, "read", log])
+    changes = lines.count(b"\n")
+    longer = len(output([ours, "read", "--full", log])) / len(lines)
     for name, program in programs:
-        each = {word: instructions([program, word, log], folder) / changes for word in ("read", "transactions")}
-        print(f"| {kind} | {name} | {each['read']:,.0f} | {each['transactions']:,.0f} |", flush=True)
+        each = [instructions([program, *words, log], folder) / changes for words in (["read"], ["transactions"])]
+        texts = [f"{count:,.0f}" for count in each]
+        is_ours = program == ours
+        texts += [f"{instructions([program, 'read', '--full', log], folder) / changes:,.0f}", f"{longer:.2f}"] if is_ours else ["", ""]
+        print(f"| {kind} | {name} | {' | '.join(texts)} |", flush=True)
 
 
 def main():
@@ -122,7 +136,8 @@ def main():
         time_log(given.folder, kind, log, programs)
         log.unlink()
     if given.count:
-        print("\n| Log | Program | Instructions for each change: read | transactions |\n|---|---|---|---|")
+        print("\n| Log | Program | Instructions for each change: read | transactions | read --full | bytes of full lines for one of plain ones |")
+        print("|---|---|---|---|---|---|")
         for kind in KINDS:
             count_log(given.folder, kind, programs)
 

@@ -14,12 +14,14 @@ from typing import NamedTuple
 
 sys.dont_write_bytecode = True
 
-from built import cases, faults, help_text, library_page, refusals, rows, server_logs, system, tokens, words, wrapper  # noqa: E402
+from built import (  # noqa: E402
+    cases, collations, faults, full_lines, help_text, library_page, refusals, rows, server_logs, system, tokens, truth, words, wrapper,
+)  # fmt: skip
 from built.check import Check  # noqa: E402
 
 TOP = Path(__file__).resolve().parent.parent
 PROGRAMS = [TOP / "crates/program/out/program", TOP / "crates/program/out/program.by-rattle"]
-PARTS = (system, rows, words, faults, help_text, server_logs, tokens, refusals)
+PARTS = (system, rows, words, faults, help_text, server_logs, tokens, truth, collations, full_lines, refusals)
 
 
 class Task(NamedTuple):

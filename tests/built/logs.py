@@ -1,5 +1,6 @@
 """Worked log files, made event by event, with what `transactions` and `read` write for them."""
 import struct
+from collections.abc import Callable
 from pathlib import Path
 
 SOURCE_ID = "3e11fa47-71ca-11e1-9e33-c80aa9429562"
@@ -100,6 +101,20 @@ def change_lines(count: int, name: str) -> bytes:
     return "".join(change_line(153 + 218 * number, number + 1, name) for number in range(count)).encode()
 
 
+def full_line(place: int, number: int, name: str, table: str = "t") -> str:
+    """The full line of `read --full` for one of these transactions. The table map says nothing of character sets."""
+    return (
+        '{"after":{"id":1,"v":{"base64":"YQ=="}},"before":null,'
+        f'"gtid":"{SOURCE_ID}:{number}","key":["id"],"types":{{"id":"int","v":"varchar"}},"kind":"insert","schema":"s","table":"{table}",'
+        f'"timestamp":{TIME},"token":"{place}.1@{name}"}}\n'
+    )
+
+
+def full_lines(count: int, name: str) -> bytes:
+    """The lines of `read --full` for a worked log."""
+    return "".join(full_line(153 + 218 * number, number + 1, name) for number in range(count)).encode()
+
+
 def insert_into_own_table(place: int, number: int) -> bytes:
     """A transaction that stands at a place and inserts one row into a table of its own, by its id and its name."""
     table, name = struct.pack("<Q", number)[:6], f"t{number}".encode()
@@ -107,20 +122,23 @@ def insert_into_own_table(place: int, number: int) -> bytes:
     return transaction(place, number, (TABLE_MAP, table_map), (WRITE_ROWS, table + ROWS_BODY[6:]))
 
 
-def many_tables(count: int, name: str) -> tuple[bytes, bytes]:
+def many_tables(count: int, name: str, line: Callable[[int, int, str, str], str] = change_line) -> tuple[bytes, bytes]:
     """A log of so many transactions, each of which inserts one row into a table of its own, and what `read` writes for it."""
     parts, lines = [front()], []
     place = len(parts[0])
     for number in range(1, count + 1):
         parts.append(insert_into_own_table(place, number))
-        lines.append(change_line(place, number, name, f"t{number}"))
+        lines.append(line(place, number, name, f"t{number}"))
         place += len(parts[-1])
     return b"".join(parts), "".join(lines).encode()
 
 
 def packed(number: int) -> bytes:
-    """A number from 251 on, packed: three bytes."""
-    return b"\xfc" + struct.pack("<H", number)
+    """A number, packed as shortly as it can be."""
+    if number < 251:
+        return bytes([number])
+    first, width = next((first, width) for first, width in ((0xFC, 2), (0xFD, 3), (0xFE, 8)) if number < 256**width)
+    return bytes([first]) + number.to_bytes(width, "little")
 
 
 def wide_tables(count: int) -> bytes:

@@ -102,14 +102,16 @@ def judge_index(program: Path, _folder: Path) -> list[str]:
 RUNS = (
     (["read", "log"], True),
     (["read", "--only-tables", "t", "--auto-position", "3e11fa47-71ca-11e1-9e33-c80aa9429562:1", "log"], True),
+    (["read", "--full", "log"], True),
     (["transactions", "log"], False),
     (["history", "--schema", "s", "--table", "t", "--key", "[1]", "log"], False),
+    (["history", "--full", "--schema", "s", "--table", "t", "--key", "[1]", "log"], False),
 )
 
 
 def checks() -> list[Check]:
     """The checks of the program."""
-    return [Check(f"{words[0]}, each request for memory refused in turn", partial(judge_words, words, goes_on)) for words, goes_on in RUNS]
+    return [Check(f"{' '.join(words)}, each request for memory refused in turn", partial(judge_words, words, goes_on)) for words, goes_on in RUNS]
 
 
 def index_checks() -> list[Check]:

@@ -11,6 +11,7 @@ from built.logs import (
     IGNORABLE,
     change_lines,
     front,
+    full_line,
     header,
     insert,
     many_tables,
@@ -117,9 +118,9 @@ def put_sparse(path: Path, events: int, length: int) -> int:
     return place
 
 
-def run_within(mebibytes: int, program: Path, folder: Path) -> Outcome:
+def run_within(mebibytes: int, program: Path, folder: Path, words: str = "read") -> Outcome:
     """Runs `read` over a log with so much memory and no more."""
-    script = f'ulimit -v {mebibytes << 10}; exec "$0" read log'
+    script = f'ulimit -v {mebibytes << 10}; exec "$0" {words} log'
     shell = subprocess.run(["sh", "-c", script, program], cwd=folder, capture_output=True, timeout=SECONDS, check=False)
     return Outcome(shell.returncode, shell.stdout, shell.stderr)
 
@@ -135,6 +136,13 @@ def judge_many_tables(program: Path, folder: Path) -> list[str]:
     log, lines = many_tables(100_000, "log")
     put(folder, ["log"], log)
     return differs(run_within(8, program, folder), Wanted(0, lines))
+
+
+def judge_many_tables_in_full(program: Path, folder: Path) -> list[str]:
+    """The types and keys of 20,000 tables take no more memory than those of a few, in full lines."""
+    log, lines = many_tables(20_000, "log", full_line)
+    put(folder, ["log"], log)
+    return differs(run_within(8, program, folder, "read --full"), Wanted(0, lines))
 
 
 def judge_wide_tables(program: Path, folder: Path) -> list[str]:
@@ -181,6 +189,7 @@ def checks() -> list[Check]:
         Check("a log that gets shorter", judge_cut),
         Check("little memory", judge_little_memory),
         Check("the maps of many tables", judge_many_tables),
+        Check("the types of many tables", judge_many_tables_in_full),
         Check("the maps of wide tables", judge_wide_tables),
         Check("an event longer than the window", judge_window),
         Check("a long log", judge_whole),

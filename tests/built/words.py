@@ -3,9 +3,10 @@ from functools import partial
 from pathlib import Path
 
 from built.check import Check, Wanted, differs, run, said
-from built.logs import change_lines, front, put, unit_lines, worked_log
+from built.logs import change_lines, front, full_lines, put, unit_lines, worked_log
 
-# The option words of `read` that let every change of the worked logs pass: thirteen words with the subcommand.
+# The option words of `read` that let every change of the worked logs pass: thirteen words with the subcommand. `--full` isn't among
+# them: it has no value, and makes other lines.
 ALL_PASS = [
     "read",
     "--only-events", "update,insert",
@@ -35,6 +36,20 @@ def judge_options(program: Path, folder: Path) -> list[str]:
     names = put(folder, log_names(12), worked_log())
     wanted = b"".join(change_lines(1, name) for name in names)
     return differs(run(program, [*ALL_PASS, *names], folder), Wanted(0, wanted))
+
+
+def judge_all_and_full(program: Path, folder: Path) -> list[str]:
+    """The flag for full lines has no value: with it, too, the files stand behind all options."""
+    names = put(folder, log_names(12), worked_log())
+    wanted = b"".join(full_lines(1, name) for name in names)
+    return differs(run(program, [*ALL_PASS, "--full", *names], folder), Wanted(0, wanted))
+
+
+def judge_flag_behind(program: Path, folder: Path) -> list[str]:
+    """The flag counts behind many files as it does before them."""
+    names = put(folder, log_names(20), worked_log())
+    wanted = b"".join(full_lines(1, name) for name in names)
+    return differs(run(program, ["read", *names, "--full"], folder), Wanted(0, wanted))
 
 
 def judge_option_behind(program: Path, folder: Path) -> list[str]:
@@ -87,7 +102,9 @@ def checks() -> list[Check]:
     return [
         *files,
         Check("all options and twelve files", judge_options),
+        Check("all options, the flag for full lines and twelve files", judge_all_and_full),
         Check("an option behind twenty files", judge_option_behind),
+        Check("the flag for full lines behind twenty files", judge_flag_behind),
         Check("a missing file in the twentieth place", judge_missing_behind),
         Check("a log fault in the twentieth file", judge_fault_behind),
         Check("a list of thousands of names", judge_long_word),

@@ -9,12 +9,12 @@ use Rattle.binlog_table.specs.MapWords.{value_names_in}
 use Rattle.binlog_table.specs.NameOrder.{IsNameOrder, name_of}
 use Rattle.binlog_table.specs.RowImage.{RowImage}
 use Rattle.binlog_table.specs.Value.{view, absent}
-use Rattle.binlog_json.specs.Images.{cell_in, value_data, image_members}
+use Rattle.binlog_json.specs.Images.{cell_in, value_data, image_members, members_by}
 use Rattle.binlog_json.specs.Joining.{comma_if}
-use Rattle.binlog_json.specs.Listed.{listed}
+use Rattle.binlog_json.specs.Listed.{listed, listed_by}
 use Rattle.binlog_json.specs.Values.{content_data, is_absent}
-use Rattle.binlog_json.specs.Written.{member_text, column_text}
-use Rattle.binlog_json.proofs.NameOrders.{image_members-listed}
+use Rattle.binlog_json.specs.Written.{member_text, column_text, column_text_by}
+use Rattle.binlog_json.proofs.NameOrders.{members-listed}
 
 present_at : (c : Cell) → (c ≡ cells.Absent → ⊥) → is_absent (view c) ≡ false
 present_at cells.Absent h = absurd (h refl)
@@ -54,6 +54,10 @@ pub present_is : (image : RowImage) (column : ℕ) (cell : Cell) → slice_get i
 present_is image column cell at some = ap is_absent (index_of_get image.cells column (view cell) absent at) ∙ present_at cell some
 
 -- the text of a present column
+pub column_is_by : (f : ℕ → Data) (value : Data) (later : Bool) (image : RowImage) (column : ℕ) (cell : Cell) → slice_get image.cells column ≡ Some (view cell) → (cell ≡ cells.Absent → ⊥) → f column ≡ value
+    → column_text_by f later image column ≡ comma_if later ++ (quoted (name_of image.table.names column) ++ (58 ∷ compact_text value))
+column_is_by f value later image column cell at some is = rw (index_of_get image.cells column (view cell) absent at, present_at cell some, is) refl
+
 pub column_is : (later : Bool) (image : RowImage) (column : ℕ) (cell : Cell) → slice_get image.cells column ≡ Some (view cell) → (cell ≡ cells.Absent → ⊥)
     → column_text later image column ≡ comma_if later ++ (quoted (name_of image.table.names column) ++ (58 ∷ compact_text (content_data (value_names_in image.table column) (view cell))))
 column_is later image column cell at some = rw (index_of_get image.cells column (view cell) absent at, present_at cell some) refl
@@ -67,21 +71,31 @@ step_at true later name d rest = refl
 step_at false later name d rest = simp append_assoc
 
 -- the next column of the loop
+pub members_more_by : (f : ℕ → Data) (image : RowImage) (order start out new : List ℕ) (k : ℕ) (later now : Bool) → k < length order
+    → out ++ members_text later (listed_by f image (drop k order)) ≡ start → new ≡ out ++ column_text_by f later image (get_or order k 0)
+    → now ≡ (not (is_absent (cell_in image (get_or order k 0))) || later)
+    → new ++ members_text now (listed_by f image (drop (k + 1) order)) ≡ start
+members_more_by f image order start out new k later now below inv appended then_later =
+    let column = get_or order k 0 in
+    let first : drop k order ≡ column ∷ drop (suc k) order = drop-cons order k 0 below in
+    let step = step_at (is_absent (cell_in image column)) later (name_of image.table.names column) (f column) (listed_by f image (drop (suc k) order)) in
+    let next : k + 1 ≡ suc k = add-one k in
+    rw (next, appended, then_later, append_assoc, ← step) (rw first at inv)
+
+pub members_end_by : (f : ℕ → Data) (image : RowImage) (order old start out new : List ℕ) (k : ℕ) (later : Bool) → out ++ members_text later (listed_by f image (drop k order)) ≡ start ++ members_text false (listed_by f image order)
+    → length order ≤ k → start ≡ old ++ 123 ∷ [] → new ≡ out ++ 125 ∷ [] → IsNameOrder image.table.names order → new ≡ old ++ (123 ∷ members_text false (members_by f image))
+members_end_by f image order old start out new k later inv end begun closed is =
+    let none : drop k order ≡ [] = drop_of_length-le order {i = k} end in
+    let last : out ++ 125 ∷ [] ≡ start ++ members_text false (listed_by f image order) = rw none at inv in
+    let whole : (old ++ 123 ∷ []) ++ members_text false (listed_by f image order) ≡ old ++ (123 ∷ members_text false (listed_by f image order)) = append_assoc old (123 ∷ []) _ in
+    closed ∙ last ∙ ap (λ s. s ++ members_text false (listed_by f image order)) begun ∙ whole ∙ ap (λ ms. old ++ (123 ∷ members_text false ms)) (sym (members-listed f image order is))
+
 pub members_more : (image : RowImage) (order start out new : List ℕ) (k : ℕ) (later now : Bool) → k < length order
     → out ++ members_text later (listed image (drop k order)) ≡ start → new ≡ out ++ column_text later image (get_or order k 0)
     → now ≡ (not (is_absent (cell_in image (get_or order k 0))) || later)
     → new ++ members_text now (listed image (drop (k + 1) order)) ≡ start
-members_more image order start out new k later now below inv appended then_later =
-    let column = get_or order k 0 in
-    let first : drop k order ≡ column ∷ drop (suc k) order = drop-cons order k 0 below in
-    let step = step_at (is_absent (cell_in image column)) later (name_of image.table.names column) (value_data image column) (listed image (drop (suc k) order)) in
-    let next : k + 1 ≡ suc k = add-one k in
-    rw (next, appended, then_later, append_assoc, ← step) (rw first at inv)
+members_more image = members_more_by (value_data image) image
 
 pub members_end : (image : RowImage) (order old start out new : List ℕ) (k : ℕ) (later : Bool) → out ++ members_text later (listed image (drop k order)) ≡ start ++ members_text false (listed image order)
     → length order ≤ k → start ≡ old ++ 123 ∷ [] → new ≡ out ++ 125 ∷ [] → IsNameOrder image.table.names order → new ≡ old ++ (123 ∷ members_text false (image_members image))
-members_end image order old start out new k later inv end begun closed is =
-    let none : drop k order ≡ [] = drop_of_length-le order {i = k} end in
-    let last : out ++ 125 ∷ [] ≡ start ++ members_text false (listed image order) = rw none at inv in
-    let whole : (old ++ 123 ∷ []) ++ members_text false (listed image order) ≡ old ++ (123 ∷ members_text false (listed image order)) = append_assoc old (123 ∷ []) _ in
-    closed ∙ last ∙ ap (λ s. s ++ members_text false (listed image order)) begun ∙ whole ∙ ap (λ ms. old ++ (123 ∷ members_text false ms)) (sym (image_members-listed image order is))
+members_end image = members_end_by (value_data image) image

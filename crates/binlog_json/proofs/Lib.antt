@@ -19,3 +19,9 @@ pub mod NumberTexts
 pub mod Indexes
 pub mod Placing
 pub mod Absorbing
+pub mod Decoding
+pub mod Joined
+pub mod Transcoding
+pub mod FullLines
+pub mod Charsets
+pub mod TypeLists

@@ -10,8 +10,8 @@ use Rattle.serde_json.specs.Data.{Data, Members, member, no_members, put}
 use Rattle.binlog_table.specs.RowImage.{RowImage}
 use Rattle.binlog_table.specs.NameOrder.{IsNameOrder, name_of}
 use Rattle.binlog_json.specs.Values.{is_absent}
-use Rattle.binlog_json.specs.Images.{cell_in, value_data, put_column, image_members}
-use Rattle.binlog_json.specs.Listed.{listed}
+use Rattle.binlog_json.specs.Images.{cell_in, put_column_by, members_by}
+use Rattle.binlog_json.specs.Listed.{listed_by}
 use Rattle.binlog_json.proofs.Folding.{same_fold}
 use Rattle.binlog_json.proofs.Putting.{put_turn, below_above, not_below_itself}
 
@@ -54,16 +54,16 @@ turn_at true false k l d e ms same = refl
 turn_at false true k l d e ms same = refl
 turn_at false false k l d e ms same = put_turn k l d e ms same
 
-turn : (image : RowImage) (order : List ℕ) → IsNameOrder image.table.names order → (ms : Members) (x y : ℕ) → In x order → In y order
-    → put_column image (put_column image ms x) y ≡ put_column image (put_column image ms y) x
-turn image order is ms x y i j =
-    turn_at (is_absent (cell_in image x)) (is_absent (cell_in image y)) (name_of image.table.names x) (name_of image.table.names y) (value_data image x) (value_data image y) ms
-    (λ e. ap (value_data image) (same_name image.table.names order x y is.ascending i j e))
+turn : (f : ℕ → Data) (image : RowImage) (order : List ℕ) → IsNameOrder image.table.names order → (ms : Members) (x y : ℕ) → In x order → In y order
+    → put_column_by f image (put_column_by f image ms x) y ≡ put_column_by f image (put_column_by f image ms y) x
+turn f image order is ms x y i j =
+    turn_at (is_absent (cell_in image x)) (is_absent (cell_in image y)) (name_of image.table.names x) (name_of image.table.names y) (f x) (f y) ms
+    (λ e. ap f (same_name image.table.names order x y is.ascending i j e))
 
 -- put in the order of the names, the columns give the same members
-image_members-ordered : (image : RowImage) (order : List ℕ) → IsNameOrder image.table.names order → image_members image ≡ fold (put_column image) no_members order
-image_members-ordered image order is =
-    same_fold (put_column image) (λ x. In x order) (turn image order is) (range_with_len 0 (length image.table.names)) order no_members is.each (all_in order order (λ x i. i))
+members-ordered : (f : ℕ → Data) (image : RowImage) (order : List ℕ) → IsNameOrder image.table.names order → members_by f image ≡ fold (put_column_by f image) no_members order
+members-ordered f image order is =
+    same_fold (put_column_by f image) (λ x. In x order) (turn f image order is) (range_with_len 0 (length image.table.names)) order no_members is.each (all_in order order (λ x i. i))
 
 -- ---- put in the order of their names, members stand in that order
 
@@ -102,29 +102,29 @@ joined_none : (ms : Members) → joined ms no_members ≡ ms
 joined_none no_members = refl
 joined_none (member k d ms) = ap (member k d) (joined_none ms)
 
-put_all_at : (b : Bool) (image : RowImage) (c : ℕ) (cs : List ℕ) (ms : Members)
-    → ((ns : Members) → AreAbove image.table.names cs ns → fold (put_column image) ns cs ≡ joined ns (listed image cs)) → AreAbove image.table.names (c ∷ cs) ms
+put_all_at : (f : ℕ → Data) (b : Bool) (image : RowImage) (c : ℕ) (cs : List ℕ) (ms : Members)
+    → ((ns : Members) → AreAbove image.table.names cs ns → fold (put_column_by f image) ns cs ≡ joined ns (listed_by f image cs)) → AreAbove image.table.names (c ∷ cs) ms
     → AllByRecursion (λ y. slice_cmp nat_cmp (name_of image.table.names c) y ≡ Less) (map (name_of image.table.names) cs)
-    → fold (put_column image) (cond b ms (put (name_of image.table.names c) (value_data image c) ms)) cs
-    ≡ joined ms (cond b (listed image cs) (member (name_of image.table.names c) (value_data image c) (listed image cs)))
-put_all_at true image c cs ms rest h above = rest ms h.1
-put_all_at false image c cs ms rest h above =
+    → fold (put_column_by f image) (cond b ms (put (name_of image.table.names c) (f c) ms)) cs
+    ≡ joined ms (cond b (listed_by f image cs) (member (name_of image.table.names c) (f c) (listed_by f image cs)))
+put_all_at f true image c cs ms rest h above = rest ms h.1
+put_all_at f false image c cs ms rest h above =
     let k = name_of image.table.names c in
-    let d = value_data image c in
+    let d = f c in
     rw (put_last k d ms h.0)
-    (rest (joined ms (member k d no_members)) (are_above_joined image.table.names cs k d ms h.1 above) ∙ joined_twice ms k d (listed image cs))
+    (rest (joined ms (member k d no_members)) (are_above_joined image.table.names cs k d ms h.1 above) ∙ joined_twice ms k d (listed_by f image cs))
 
-put_all : (image : RowImage) (cs : List ℕ) (ms : Members) → Ascend image.table.names cs → AreAbove image.table.names cs ms
-    → fold (put_column image) ms cs ≡ joined ms (listed image cs)
+put_all : (f : ℕ → Data) (image : RowImage) (cs : List ℕ) (ms : Members) → Ascend image.table.names cs → AreAbove image.table.names cs ms
+    → fold (put_column_by f image) ms cs ≡ joined ms (listed_by f image cs)
 unfolding IsStrictlySortedBy
-put_all image [] ms order h = sym (joined_none ms)
-put_all image (c ∷ cs) ms order h = put_all_at (is_absent (cell_in image c)) image c cs ms (λ ns above. put_all image cs ns order.1 above) h order.0
+put_all f image [] ms order h = sym (joined_none ms)
+put_all f image (c ∷ cs) ms order h = put_all_at f (is_absent (cell_in image c)) image c cs ms (λ ns above. put_all f image cs ns order.1 above) h order.0
 
 none_above : (names : List (List ℕ)) (cs : List ℕ) → AreAbove names cs no_members
 none_above names [] = tt
 none_above names (c ∷ cs) = (tt, none_above names cs)
 
--- an image has the members of its present columns, in the order of their names
-pub image_members-listed : (image : RowImage) (order : List ℕ) → IsNameOrder image.table.names order → image_members image ≡ listed image order
-image_members-listed image order is =
-    image_members-ordered image order is ∙ put_all image order no_members is.ascending (none_above image.table.names order)
+-- an image has the members of its present columns, in the order of their names, whatever their values are
+pub members-listed : (f : ℕ → Data) (image : RowImage) (order : List ℕ) → IsNameOrder image.table.names order → members_by f image ≡ listed_by f image order
+members-listed f image order is =
+    members-ordered f image order is ∙ put_all f image order no_members is.ascending (none_above image.table.names order)

@@ -3,24 +3,25 @@ use Rattle.std.proofs.Common.{◌≡◌, ℕ, zero, suc, ◌+◌, ◌-◌, ◌*�
 use Rattle.std.proofs.Math.Nat.{pow-le-pow_right, one-le-pow, lt-mul-div-succ, mul-div-le}
 use Rattle.std.proofs.lemmas.Grind.{common_steps}
 use Rattle.std.specs.List.{join_with_byte}
+use Rattle.serde_json.specs.Data.{Data}
 use Rattle.binlog_json.specs.Joining.{comma_if, joined_from}
-use Rattle.binlog_json.specs.Values.{bytes_data, whole_number, enum_data, set_data, members_in}
+use Rattle.binlog_json.specs.Values.{whole_number, enum_by, set_by, members_in}
 
-pub enum_zero : (names : Option (List (List ℕ))) (count : ℕ) → Some count ≡ option_map length names → enum_data names 0 ≡ bytes_data []
-enum_zero None count e = absurd (cc)
-enum_zero (Some names) count e = refl
+pub enum_zero : (given : List ℕ → Data) (names : Option (List (List ℕ))) (count : ℕ) → Some count ≡ option_map length names → enum_by given names 0 ≡ given []
+enum_zero given None count e = absurd (cc)
+enum_zero given (Some names) count e = refl
 
-pub set_named : (names : Option (List (List ℕ))) (count n : ℕ) → Some count ≡ option_map length names → n < 2 ^ count
-    → set_data names n ≡ bytes_data (join_with_byte 44 (members_in (unwrap_or names []) n))
-set_named None count n e h = absurd (cc)
-set_named (Some names) count n e h =
+pub set_named : (given : List (List ℕ) → Data) (names : Option (List (List ℕ))) (count n : ℕ) → Some count ≡ option_map length names → n < 2 ^ count
+    → set_by given names n ≡ given (members_in (unwrap_or names []) n)
+set_named given None count n e h = absurd (cc)
+set_named given (Some names) count n e h =
     let same : count ≡ length names = cc in
     let below : nat_lt n (2 ^ length names) ≡ true = grind (arith, common_steps) in
     rw below refl
 
-pub set_unnamed : (names : Option (List (List ℕ))) (count n : ℕ) → Some count ≡ option_map length names → 2 ^ count ≤ n → set_data names n ≡ whole_number n
-set_unnamed None count n e h = refl
-set_unnamed (Some names) count n e h =
+pub set_unnamed : (given : List (List ℕ) → Data) (names : Option (List (List ℕ))) (count n : ℕ) → Some count ≡ option_map length names → 2 ^ count ≤ n → set_by given names n ≡ whole_number n
+set_unnamed given None count n e h = refl
+set_unnamed given (Some names) count n e h =
     let same : count ≡ length names = cc in
     let above : nat_lt n (2 ^ length names) ≡ false = grind (arith, common_steps) in
     rw above refl
@@ -100,12 +101,12 @@ half rest k h =
     omega arith
 
 -- the answer where there are names for all bits that a value can have
-pub named_all : (names : Option (List (List ℕ))) (count n : ℕ) → Some count ≡ option_map length names → 64 ≤ count → n < 2 ^ 64
-    → set_data names n ≡ (if nat_le 64 count then bytes_data (join_with_byte 44 (members_in (unwrap_or names []) n)) else whole_number n)
-named_all names count n e many fits =
+pub named_all : (given : List (List ℕ) → Data) (names : Option (List (List ℕ))) (count n : ℕ) → Some count ≡ option_map length names → 64 ≤ count → n < 2 ^ 64
+    → set_by given names n ≡ (if nat_le 64 count then given (members_in (unwrap_or names []) n) else whole_number n)
+named_all given names count n e many fits =
     let yes : nat_le 64 count ≡ true = grind (arith, common_steps) in
     let more : 2 ^ 64 ≤ 2 ^ count = pow-le-pow_right (omega arith) many in
-    rw yes (set_named names count n e (omega arith))
+    rw yes (set_named given names count n e (omega arith))
 
 below_all : (n m : ℕ) → 0 < m → n / m ≡ 0 → n < m
 below_all n m some is =
@@ -119,11 +120,27 @@ above_one n m q is =
     let more : m * (n / m) ≡ m + m * q = rw is (grind (arith, common_steps)) in
     omega arith
 
-named_at : (names : Option (List (List ℕ))) (count n : ℕ) (q : ℕ) → q ≡ n / 2 ^ count → Some count ≡ option_map length names
-    → set_data names n ≡ (if q == 0 then bytes_data (join_with_byte 44 (members_in (unwrap_or names []) n)) else whole_number n)
-named_at names count n zero is e = set_named names count n e (below_all n (2 ^ count) (one-le-pow count 2 (omega arith)) (sym is))
-named_at names count n (suc q) is e = rw (ne_eqb (suc q) 0 (λ e. absurd (omega arith))) (set_unnamed names count n e (above_one n (2 ^ count) q (sym is)))
+named_at : (given : List (List ℕ) → Data) (names : Option (List (List ℕ))) (count n : ℕ) (q : ℕ) → q ≡ n / 2 ^ count → Some count ≡ option_map length names
+    → set_by given names n ≡ (if q == 0 then given (members_in (unwrap_or names []) n) else whole_number n)
+named_at given names count n zero is e = set_named given names count n e (below_all n (2 ^ count) (one-le-pow count 2 (omega arith)) (sym is))
+named_at given names count n (suc q) is e = rw (ne_eqb (suc q) 0 (λ e. absurd (omega arith))) (set_unnamed given names count n e (above_one n (2 ^ count) q (sym is)))
 
-pub named_some : (names : Option (List (List ℕ))) (count n : ℕ) → Some count ≡ option_map length names
-    → set_data names n ≡ (if n / 2 ^ count == 0 then bytes_data (join_with_byte 44 (members_in (unwrap_or names []) n)) else whole_number n)
-named_some names count n e = named_at names count n (n / 2 ^ count) refl e
+pub named_some : (given : List (List ℕ) → Data) (names : Option (List (List ℕ))) (count n : ℕ) → Some count ≡ option_map length names
+    → set_by given names n ≡ (if n / 2 ^ count == 0 then given (members_in (unwrap_or names []) n) else whole_number n)
+named_some given names count n e = named_at given names count n (n / 2 ^ count) refl e
+
+-- the members, one after the other
+pub members_taken : (names front : List (List ℕ)) (place rest : ℕ) (name : List ℕ) (total : List (List ℕ)) → Some name ≡ slice_get names place → rest % 2 ≡ 1 → front ++ members_in (drop place names) rest ≡ total
+    → (front ++ name ∷ []) ++ members_in (drop (suc place) names) (rest / 2) ≡ total
+members_taken names front place rest name total named odd is =
+    append_assoc front (name ∷ []) (members_in (drop (suc place) names) (rest / 2)) ∙ (rw (drop_named names place name named, odd) at is)
+
+pub members_passed : (names front : List (List ℕ)) (place rest : ℕ) (name : List ℕ) (total : List (List ℕ)) → Some name ≡ slice_get names place → (rest % 2 ≡ 1 → ⊥) → front ++ members_in (drop place names) rest ≡ total
+    → front ++ members_in (drop (suc place) names) (rest / 2) ≡ total
+members_passed names front place rest name total named even is = rw (drop_named names place name named, ne_eqb (rest % 2) 1 even) at is
+
+pub members_unnamed : (names front : List (List ℕ)) (place rest : ℕ) (total : List (List ℕ)) → None ≡ slice_get names place → front ++ members_in (drop place names) rest ≡ total → front ≡ total
+members_unnamed names front place rest total none is = sym (append-nil front) ∙ (rw (drop_unnamed names place none) at is)
+
+pub members_zero : (names front total : List (List ℕ)) (rest : ℕ) → rest ≡ 0 → front ++ members_in names rest ≡ total → front ≡ total
+members_zero names front total rest none is = sym (append-nil front) ∙ (rw (none, no_members_in names) at is)

@@ -11,3 +11,9 @@ pub mod PlainText
 pub mod Keys
 pub mod Histories
 pub mod Index
+pub mod Encodings
+pub mod Reading
+pub mod FullValues
+pub mod TypeTexts
+pub mod FullLine
+pub mod FullWritten

@@ -21,26 +21,33 @@ bytes_data bytes = if is_utf8 bytes then string bytes else encoded_data (codes "
 abbrev pub whole_number : ℕ → Data
 whole_number n = number (unsigned n)
 
--- the name where there is one, else the number
-abbrev pub name_data : ℕ → Option (List ℕ) → Data
-name_data n None = whole_number n
-name_data n (Some name) = bytes_data name
+-- the name where there is one, as names are given, else the number
+abbrev pub name_by : (List ℕ → Data) → ℕ → Option (List ℕ) → Data
+name_by given n None = whole_number n
+name_by given n (Some name) = given name
 
 -- A value of an ENUM whose names are known: 0 is the empty name, 1 the first name. A value without a name is its number.
+abbrev pub enum_by : (List ℕ → Data) → Option (List (List ℕ)) → ℕ → Data
+enum_by given None n = whole_number n
+enum_by given (Some names) n = if n == 0 then given [] else name_by given n (slice_get names (n - 1))
+
 abbrev pub enum_data : Option (List (List ℕ)) → ℕ → Data
-enum_data None n = whole_number n
-enum_data (Some names) n = if n == 0 then bytes_data [] else name_data n (slice_get names (n - 1))
+enum_data names n = enum_by bytes_data names n
 
 -- the names whose bit is set, of which the first has the lowest
 abbrev pub members_in : List (List ℕ) → ℕ → List (List ℕ)
 members_in [] n = []
 members_in (name ∷ names) n = if n % 2 == 1 then name ∷ members_in names (n / 2) else members_in names (n / 2)
 
--- A value of a SET whose names are known: the names of its bits, parted by commas. A value with a bit that has no name is
--- its number.
+-- A value of a SET whose names are known: the names of its bits, as they are given together. A value with a bit that has no name
+-- is its number.
+abbrev pub set_by : (List (List ℕ) → Data) → Option (List (List ℕ)) → ℕ → Data
+set_by given None n = whole_number n
+set_by given (Some names) n = if nat_lt n (2 ^ length names) then given (members_in names n) else whole_number n
+
+-- the names, parted by commas
 abbrev pub set_data : Option (List (List ℕ)) → ℕ → Data
-set_data None n = whole_number n
-set_data (Some names) n = if nat_lt n (2 ^ length names) then bytes_data (join_with_byte 44 (members_in names n)) else whole_number n
+set_data names n = set_by (λ members. bytes_data (join_with_byte 44 members)) names n
 
 -- The value under the names of its column's values, where there are some. An absent one, which is never asked for, is null.
 abbrev pub content_data : Option (List (List ℕ)) → Content → Data

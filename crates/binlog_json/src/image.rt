@@ -71,7 +71,7 @@ fn append_column(
 
 /// A label of so many bytes, without the comma in front of it unless a member stands before it.
 #[inline(always)]
-fn joined(label: &[u8], count: usize, later: bool) -> (&[u8], usize)
+pub(crate) fn joined(label: &[u8], count: usize, later: bool) -> (&[u8], usize)
     requires some { 0 < count }
     requires count { count ≤ length label.now }
     ensures label { take result.1 result.0.now ≡ (if later then take count label.now else drop 1 (take count label.now)) }

@@ -1,17 +1,22 @@
 //! The keys of a row change.
-ghost use Rattle.std.specs.Prelude.{◌≡◌, ◌<◌, ◌++◌, length, is_some, IfOk, IfSome, OnOk, option_map, string_bytes};
+ghost use Rattle.std.specs.Prelude.{◌≡◌, ◌<◌, ◌++◌, Some, length, slice_get, is_some, IfOk, IfSome, OnOk, option_map, string_bytes};
 ghost use Rattle.serde_json.specs.Written.{compact_text};
+ghost use Rattle.binlog_table.specs.Value.{view as cell_view};
 ghost use Rattle.binlog_feed.specs.Changes.{view};
-ghost use Rattle.binlog_json.specs.Keys.{has_key as is_of_key, image_key as key_of_image, is_text, key_text_of, value_in, value_in_either};
+ghost use Rattle.binlog_json.specs.Keys.{HasTypes, has_key as is_of_key, has_key_as as is_of_key_as, image_key as key_of_image, is_text, key_text_as as text_of_key, key_text_of, value_as, value_in, value_in_either};
 ghost use Rattle.binlog_json.specs.Written.{text_if};
 ghost use Rattle.binlog_json.specs.LineBytes.{line_bytes};
 
 use crate::append::append_comma;
+use crate::full_image::type_at;
+use crate::full_values::append_full_value;
 use crate::lines::Line;
 use crate::room::Room;
+use crate::style::Style;
 use crate::values::append_value;
 use binlog_feed::Change;
 use binlog_table::{Cell, RowView, Side};
+use binlog_types::{ColumnType, types_of};
 use std::alloc::{AllocError, Global};
 
 /// The key of the row as it was, or as it is then: the values of the primary key's columns as a compact JSON array, in key order.
@@ -26,14 +31,28 @@ pub fn key_text(
 ) -> Result<Option<String>, AllocError>
     ensures { IfOk result (λ text. option_map string_bytes text ≡ key_text_of (view change.now) side) }
 {
+    key_text_as(alloc, Style::Plain, &[], change, side)
+}
+
+/// The key on a side of a change, with values in a style.
+fn key_text_as(
+    alloc: Global,
+    style: Style,
+    types: &[ColumnType],
+    change: &Change<'_>,
+    side: Side,
+) -> Result<Option<String>, AllocError>
+    requires { HasTypes style types.now (view change.now).table }
+    ensures { IfOk result (λ text. option_map string_bytes text ≡ text_of_key style (view change.now) side) }
+{
     match side {
         Side::Before => match change.before() {
             None => Ok(None),
-            Some(image) => image_key(alloc, &image, None),
+            Some(image) => image_key(alloc, style, types, &image, None),
         },
         Side::After => match change.after() {
             None => Ok(None),
-            Some(image) => image_key(alloc, &image, change.before()),
+            Some(image) => image_key(alloc, style, types, &image, change.before()),
         },
     }
 }
@@ -41,12 +60,15 @@ pub fn key_text(
 /// The key of an image, with what it lacks from another image of the same table.
 fn image_key(
     alloc: Global,
+    style: Style,
+    types: &[ColumnType],
     image: &RowView<'_>,
     other: Option<RowView<'_>>,
 ) -> Result<Option<String>, AllocError>
-    requires { IfSome other (λ second. second.table ≡ image.now.table) }
+    requires types { HasTypes style types.now image.now.table }
+    requires table { IfSome other (λ second. second.table ≡ image.now.table) }
     ensures { IfOk result (λ text. option_map string_bytes text
-        ≡ option_map compact_text (key_of_image image.now other.entry)) }
+        ≡ option_map compact_text (key_of_image style image.now other.entry)) }
 {
     let columns = image.key();
     if columns.is_empty() {
@@ -58,7 +80,7 @@ fn image_key(
     let mut later = false;
     for column in columns {
         append_comma(&mut text, later)?;
-        later = append_of_either(&mut text, &mut room, image, &other, *column)?;
+        later = append_of_either(&mut text, &mut room, style, types, image, &other, *column)?;
         if !later {
             return Ok(None);
         }
@@ -71,22 +93,25 @@ fn image_key(
 fn append_of_either(
     out: &mut Line,
     room: &mut Room,
+    style: Style,
+    types: &[ColumnType],
     image: &RowView<'_>,
     other: &Option<RowView<'_>>,
     column: usize,
 ) -> Result<bool, AllocError>
     requires column { column < length image.now.table.columns }
+    requires types { HasTypes style types.now image.now.table }
     requires table { IfSome other.now (λ second. second.table ≡ image.now.table) }
     ensures text { OnOk result ((line_bytes out.new)
-        ≡ line_bytes out.old ++ text_if (value_in_either image.now other.now column)) }
-    ensures has { IfOk result (λ has. has ≡ is_some (value_in_either image.now other.now column)) }
+        ≡ line_bytes out.old ++ text_if (value_in_either style image.now other.now column)) }
+    ensures has { IfOk result (λ has. has ≡ is_some (value_in_either style image.now other.now column)) }
 {
-    if append_of(out, room, image, column)? {
+    if append_of(out, room, style, types, image, column)? {
         return Ok(true);
     }
     match other {
         None => Ok(false),
-        Some(second) => append_of(out, room, second, column),
+        Some(second) => append_of(out, room, style, types, second, column),
     }
 }
 
@@ -94,19 +119,46 @@ fn append_of_either(
 fn append_of(
     out: &mut Line,
     room: &mut Room,
+    style: Style,
+    types: &[ColumnType],
     image: &RowView<'_>,
     column: usize,
 ) -> Result<bool, AllocError>
-    requires { column < length image.now.table.columns }
+    requires column { column < length image.now.table.columns }
+    requires types { HasTypes style types.now image.now.table }
     ensures text { OnOk result ((line_bytes out.new)
-        ≡ line_bytes out.old ++ text_if (value_in image.now column)) }
-    ensures has { IfOk result (λ has. has ≡ is_some (value_in image.now column)) }
+        ≡ line_bytes out.old ++ text_if (value_in style image.now column)) }
+    ensures has { IfOk result (λ has. has ≡ is_some (value_in style image.now column)) }
 {
     match image.value(column) {
         Cell::Absent => Ok(false),
         cell => {
-            append_value(out, room, image, column, &cell)?;
+            append_value_as(out, room, style, types, image, column, &cell)?;
             Ok(true)
+        }
+    }
+}
+
+/// Appends the value of a column with this cell in a style: a full one by the column's type.
+fn append_value_as(
+    out: &mut Line,
+    room: &mut Room,
+    style: Style,
+    types: &[ColumnType],
+    image: &RowView<'_>,
+    column: usize,
+    cell: &Cell<'_>,
+) -> Result<(), AllocError>
+    requires column { column < length image.now.table.columns }
+    requires types { HasTypes style types.now image.now.table }
+    requires cell { slice_get image.now.cells column ≡ Some (cell_view cell.now) }
+    ensures { OnOk result (line_bytes out.new ≡ line_bytes out.old ++ compact_text (value_as style image.now column)) }
+{
+    match style {
+        Style::Plain => append_value(out, room, image, column, cell),
+        Style::Full => {
+            let column_type = type_at(types, column);
+            append_full_value(out, room, image, column, &column_type, cell)
         }
     }
 }
@@ -122,20 +174,57 @@ pub fn has_key(
 ) -> Result<bool, AllocError>
     ensures { IfOk result (λ has. has ≡ is_of_key schema.now table.now key.now (view change.now)) }
 {
+    has_key_as(Style::Plain, alloc, change, schema, table, key)
+}
+
+/// Does what [`has_key`] does, with a key whose values are those of lines in this style.
+pub fn has_key_as(
+    style: Style,
+    alloc: Global,
+    change: &Change<'_>,
+    schema: &str,
+    table: &str,
+    key: &str,
+) -> Result<bool, AllocError>
+    ensures { IfOk result (λ has. has ≡ is_of_key_as style schema.now table.now key.now (view change.now)) }
+{
     if change.schema() != schema || change.table() != table {
         return Ok(false);
     }
-    if has_key_on(alloc, change, Side::Before, key)? {
+    let types = types_for(alloc, style, change)?;
+    if has_key_on(alloc, style, &types, change, Side::Before, key)? {
         return Ok(true);
     }
-    has_key_on(alloc, change, Side::After, key)
+    has_key_on(alloc, style, &types, change, Side::After, key)
+}
+
+/// The types of the columns of a change's table, where values in the style need them.
+fn types_for(
+    alloc: Global,
+    style: Style,
+    change: &Change<'_>,
+) -> Result<Vec<ColumnType>, AllocError>
+    ensures { IfOk result (λ types. HasTypes style types.items (view change.now).table) }
+{
+    match style {
+        Style::Plain => Ok(Vec::new(alloc)),
+        Style::Full => types_of(alloc, change.map()),
+    }
 }
 
 /// Whether the key on a side of a change is this one.
-fn has_key_on(alloc: Global, change: &Change<'_>, side: Side, key: &str) -> Result<bool, AllocError>
-    ensures { IfOk result (λ has. has ≡ is_text key.now (key_text_of (view change.now) side)) }
+fn has_key_on(
+    alloc: Global,
+    style: Style,
+    types: &[ColumnType],
+    change: &Change<'_>,
+    side: Side,
+    key: &str,
+) -> Result<bool, AllocError>
+    requires { HasTypes style types.now (view change.now).table }
+    ensures { IfOk result (λ has. has ≡ is_text key.now (text_of_key style (view change.now) side)) }
 {
-    let text = key_text(alloc, change, side)?;
+    let text = key_text_as(alloc, style, types, change, side)?;
     Ok(is_key(&text, key))
 }
 

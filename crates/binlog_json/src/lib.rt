@@ -3,7 +3,13 @@
 
 mod append;
 mod digits;
+mod encodings;
 mod event_text;
+mod full_image;
+mod full_sets;
+mod full_table;
+mod full_values;
+mod full_writer;
 mod gtid;
 mod image;
 mod index_laws;
@@ -15,14 +21,17 @@ mod names;
 mod pieces;
 mod plain;
 mod room;
+mod style;
 mod texts;
+mod type_texts;
 mod values;
 mod visit;
 mod writer;
 
 pub use gtid::push_gtid;
 pub use index_laws::{histories_are_held, indexes_go_on};
-pub use key::{has_key, key_text};
+pub use key::{has_key, has_key_as, key_text};
 pub use key_index::KeyIndex;
+pub use style::Style;
 pub use visit::{HistoryFault, history};
 pub use writer::{LineWriter, line};

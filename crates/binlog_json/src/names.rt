@@ -1,19 +1,20 @@
 //! The texts of ENUM and SET values, by the names that the table map has for them.
-ghost use Rattle.std.specs.Prelude.{◌≡◌, ◌<◌, ◌++◌, ◌||◌, [], length, unwrap_or, if◌then◌else◌, IfOk, OnOk, MatchOption};
+ghost use Rattle.std.specs.Prelude.{◌≡◌, ℕ, ◌<◌, ◌++◌, ◌||◌, List, [], map, length, unwrap_or, if◌then◌else◌, IfOk, OnOk, MatchOption};
 ghost use Rattle.std.specs.List.{join_with_byte};
 ghost use Rattle.binlog_table.specs.MapWords.{value_names_in};
-ghost use Rattle.binlog_json.specs.Values.{bytes_data, whole_number, enum_data, set_data, members_in};
+ghost use Rattle.serde_json.specs.Data.{Data};
+ghost use Rattle.binlog_json.specs.Values.{whole_number, enum_by, set_by, members_in};
 ghost use Rattle.binlog_json.specs.Joining.{comma_if};
 
 use binlog_table::RowView;
-use std::alloc::AllocError;
+use std::alloc::{AllocError, Global};
 
-/// The name of an ENUM's value. None where the value is written as its number.
+/// The name of an ENUM's value, however it is given. None where the value is written as its number.
 pub(crate) fn enum_name<'a>(image: &RowView<'a>, column: usize, number: u16) -> Option<&'a [u8]>
     requires { column < length image.now.table.columns }
-    ensures { MatchOption result
-        (enum_data (value_names_in image.now.table column) number ≡ whole_number number)
-        (λ name. enum_data (value_names_in image.now.table column) number ≡ bytes_data name.now) }
+    ensures { (given : List ℕ → Data) → MatchOption result
+        (enum_by given (value_names_in image.now.table column) number ≡ whole_number number)
+        (λ name. enum_by given (value_names_in image.now.table column) number ≡ given name.now) }
 {
     let _ = image.value_name_count(column)?;
     if number == 0 {
@@ -22,19 +23,43 @@ pub(crate) fn enum_name<'a>(image: &RowView<'a>, column: usize, number: u16) -> 
     image.value_name(column, usize::from(number))
 }
 
-/// Whether each bit of a SET's value has a name. Where one has none, the value is written as its number.
+/// Whether each bit of a SET's value has a name, however the names are given. Where one has none, the value is written as its number.
 pub(crate) fn is_named(image: &RowView<'_>, column: usize, number: u64) -> bool
     requires { column < length image.now.table.columns }
-    ensures { set_data (value_names_in image.now.table column) number
+    ensures { (given : List (List ℕ) → Data) → set_by given (value_names_in image.now.table column) number
         ≡ (if result
-        then bytes_data (join_with_byte 44
-        (members_in (unwrap_or (value_names_in image.now.table column) []) number))
+        then given (members_in (unwrap_or (value_names_in image.now.table column) []) number)
         else whole_number number) }
 {
     match image.value_name_count(column) {
         None => false,
         Some(count) => count >= 64 || number >> count == 0,
     }
+}
+
+/// The names of a SET's value.
+pub(crate) fn members_of<'a>(
+    alloc: Global,
+    image: &RowView<'a>,
+    column: usize,
+    number: u64,
+) -> Result<Vec<&'a [u8]>, AllocError>
+    requires { column < length image.now.table.columns }
+    ensures { IfOk result (λ members. map (λ name. name.now) members.items
+        ≡ members_in (unwrap_or (value_names_in image.now.table column) []) number) }
+{
+    let mut members = Vec::new(alloc);
+    let mut rest = number;
+    for place in 1..65 {
+        let Some(name) = image.value_name(column, place) else {
+            return Ok(members);
+        };
+        if rest % 2 == 1 {
+            members.push(name)?;
+        }
+        rest /= 2;
+    }
+    Ok(members)
 }
 
 /// The names of a SET's value, parted by commas, at the end of a text.

@@ -1,6 +1,7 @@
 //! Room to work in, kept from line to line.
 
 use crate::append::Quoter;
+use crate::encodings::Decoder;
 use crate::lines::Line;
 use std::alloc::Global;
 
@@ -10,10 +11,11 @@ pub(crate) struct Room {
     pub(crate) quoter: Quoter,
     /// A text before it is quoted.
     pub(crate) text: String,
-    /// The members of a schema and a table.
+    /// The text of a type before it is quoted.
     pub(crate) table: Line,
-    /// The names of a SET's value.
+    /// The names of a SET's value, or the bytes of a BINARY.
     pub(crate) names: Vec<u8>,
+    pub(crate) decoder: Decoder,
 }
 
 impl Room {
@@ -23,6 +25,7 @@ impl Room {
             text: String::new(alloc),
             table: Line::new(alloc),
             names: Vec::new(alloc),
+            decoder: Decoder::new(alloc),
         }
     }
 }

@@ -98,7 +98,7 @@ fn append_bytes(out: &mut Line, room: &mut Room, bytes: &[u8]) -> Result<(), All
 
 /// A string where the bytes are UTF-8, else an object with the bytes in base64.
 #[inline(always)]
-fn append_text(
+pub(crate) fn append_text(
     out: &mut Line,
     quoter: &mut Quoter,
     room: &mut String,
@@ -145,7 +145,7 @@ fn append_raw(
 }
 
 /// An object whose member says that the bytes are no text.
-fn append_encoded(
+pub(crate) fn append_encoded(
     out: &mut Line,
     quoter: &mut Quoter,
     room: &mut String,
@@ -161,7 +161,7 @@ fn append_encoded(
 
 /// The bytes in base64, as a string. That of few bytes is put together beside the line.
 #[inline(never)]
-fn append_base64(
+pub(crate) fn append_base64(
     out: &mut Line,
     quoter: &mut Quoter,
     room: &mut String,

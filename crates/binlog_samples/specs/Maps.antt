@@ -1,7 +1,7 @@
 -- Bodies of table maps, and what they say.
 use Prim.Native.String.{String}
 use Rattle.std.specs.Prelude.{◌≡◌, ℕ, true, false, List, [], ◌∷◌, ◌++◌, map, replicate, Option, Some, None, Result, Ok, Err, codes}
-use Rattle.binlog_table.specs.Map.{Map, map_at}
+use Rattle.binlog_table.specs.Map.{Map, map_at, no_sections}
 use Rattle.binlog_table.specs.declared.column.Column.{Column}
 use Rattle.binlog_table.specs.declared.column.Layout.{Layout}
 use Rattle.binlog_table.specs.declared.column.Layout.TheVariants.{Integer, Year, Date, Text, Decimal, Enum, Set}
@@ -9,9 +9,14 @@ use Rattle.binlog_table.specs.declared.fault.MapFault.{MapFault}
 use Rattle.binlog_table.specs.declared.fault.MapFault.TheVariants.{BadMap, TypeOutOfProfile, NoColumnNames}
 use Rattle.binlog_samples.specs.Hex.{hex}
 
+-- what a map says but for its sections, which are the bytes as they stand
+abbrev pub says : Result Map MapFault → Result Map MapFault
+says (Ok map) = Ok (record map { sections = no_sections })
+says (Err fault) = Err fault
+
 -- a map of s.t with the id 100, from the count of its columns on
 abbrev pub map_with : List ℕ → Result Map MapFault
-map_with tail = map_at (hex "64 00 00 00 00 00 01 00 01 73 00 01 74 00" ++ tail)
+map_with tail = says (map_at (hex "64 00 00 00 00 00 01 00 01 73 00 01 74 00" ++ tail))
 
 abbrev pub signed : Layout → Column
 signed layout = record { layout = layout; unsigned = false }
@@ -28,6 +33,7 @@ table_of columns names key value_names = record {
   names = names;
   key = key;
   value_names = value_names;
+  sections = no_sections;
 }
 
 -- ---- two columns: id LONG and v VARCHAR(80)

@@ -25,7 +25,7 @@ in_steps s = do
   key ← key_in (length s.types) s.fields.key s.fields.prefix_key
   columns ← columns_in s
   values ← value_names columns s.fields.set_names s.fields.enum_names
-  Ok (record { table_id = s.table_id; schema = s.schema; table = s.table; columns = columns; names = names; key = key; value_names = values })
+  Ok (record { table_id = s.table_id; schema = s.schema; table = s.table; columns = columns; names = names; key = key; value_names = values; sections = s })
 
 judged : (left known signed : Result ℕ MapFault) (columns : List Column) (values : List Column → Result ValueNames MapFault) (made : List Column → ValueNames → Map)
     → (left >>= λ _. known >>= λ _. signed >>= λ _. values columns >>= λ v. Ok (made columns v))
@@ -80,7 +80,7 @@ unfolding map_of
 map_in_steps s =
     by_field s.fields.names (length s.types) (key_in (length s.types) s.fields.key s.fields.prefix_key)
     (columns_at s.types s.metadata (unwrap_or s.fields.signs []) 0) s.fields.signs (λ cs. value_names cs s.fields.set_names s.fields.enum_names)
-    (λ names key columns values. record { table_id = s.table_id; schema = s.schema; table = s.table; columns = columns; names = names; key = key; value_names = values })
+    (λ names key columns values. record { table_id = s.table_id; schema = s.schema; table = s.table; columns = columns; names = names; key = key; value_names = values; sections = s })
 
 -- ---- the first fault, and no fault
 
@@ -110,5 +110,5 @@ values-failed s n k cs (TypeOutOfProfile t) a b c f = map_in_steps s ∙ rw (a, 
 values-failed s n k cs NoColumnNames a b c f = map_in_steps s ∙ rw (a, b, c, f) refl
 
 pub map-given : (s : Sections) (n : Names) (k : List ℕ) (cs : List Column) (v : ValueNames) → names_in (length s.types) s.fields.names ≡ Ok n → key_in (length s.types) s.fields.key s.fields.prefix_key ≡ Ok k → columns_in s ≡ Ok cs
-    → value_names cs s.fields.set_names s.fields.enum_names ≡ Ok v → map_of s ≡ Ok (record { table_id = s.table_id; schema = s.schema; table = s.table; columns = cs; names = n; key = k; value_names = v })
+    → value_names cs s.fields.set_names s.fields.enum_names ≡ Ok v → map_of s ≡ Ok (record { table_id = s.table_id; schema = s.schema; table = s.table; columns = cs; names = n; key = k; value_names = v; sections = s })
 map-given s n k cs v a b c d = map_in_steps s ∙ rw (a, b, c, d) refl

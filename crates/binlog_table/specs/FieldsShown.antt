@@ -11,4 +11,8 @@ fields_view f = record {
   enum_names = option_map (λ x. x.now) f.enum_names;
   key = option_map (λ x. x.now) f.key;
   prefix_key = option_map (λ x. x.now) f.prefix_key;
+  default_charset = option_map (λ x. x.now) f.default_charset;
+  column_charset = option_map (λ x. x.now) f.column_charset;
+  default_name_charset = option_map (λ x. x.now) f.default_name_charset;
+  column_name_charset = option_map (λ x. x.now) f.column_name_charset;
 }

@@ -16,6 +16,7 @@ listed_map s l = record {
   names = map string_bytes l.names.names.items;
   key = l.key.items;
   value_names = map names_view l.value_names.items;
+  sections = s;
 }
 
 -- The lists fit one another.

@@ -2,7 +2,7 @@
 use Rattle.std.specs.Prelude.{◌≡◌, map, Ok}
 use Rattle.std.specs.String.{string_bytes}
 use Rattle.binlog_table.specs.declared.table_map.TableMap.TheInside.{Inside}
-use Rattle.binlog_table.specs.Map.{Map, map_at}
+use Rattle.binlog_table.specs.Map.{Map, map_at, sections_at, sections_or}
 use Rattle.binlog_table.specs.ListsShown.{AreFit}
 use Rattle.binlog_table.specs.ValueNamesShown.{names_view}
 
@@ -15,6 +15,7 @@ map_view m = record {
   names = map string_bytes m.lists.names.names.items;
   key = m.lists.key.items;
   value_names = map names_view m.lists.value_names.items;
+  sections = sections_or (sections_at m.body.items);
 }
 
 -- The lists fit one another, and the body that is kept spells the map.

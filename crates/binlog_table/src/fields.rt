@@ -9,19 +9,27 @@ use crate::packed::packed_at;
 
 /// The values of the optional fields that are read.
 #[derive(Clone, Copy)]
-pub(crate) struct Fields<'a> {
+pub struct Fields<'a> {
     /// Bits of signedness.
-    pub(crate) signs: Option<&'a [u8]>,
+    pub signs: Option<&'a [u8]>,
     /// The names of columns.
-    pub(crate) names: Option<&'a [u8]>,
+    pub names: Option<&'a [u8]>,
     /// The names of the values of SET columns.
-    pub(crate) set_names: Option<&'a [u8]>,
+    pub set_names: Option<&'a [u8]>,
     /// The names of the values of ENUM columns.
-    pub(crate) enum_names: Option<&'a [u8]>,
+    pub enum_names: Option<&'a [u8]>,
     /// The columns of the key.
-    pub(crate) key: Option<&'a [u8]>,
+    pub key: Option<&'a [u8]>,
     /// The columns of a key with prefixes, and the lengths of these.
-    pub(crate) prefix_key: Option<&'a [u8]>,
+    pub prefix_key: Option<&'a [u8]>,
+    /// The collation of most columns of text, and those of others.
+    pub default_charset: Option<&'a [u8]>,
+    /// The collation of each column of text.
+    pub column_charset: Option<&'a [u8]>,
+    /// The collation of the names of values in most ENUM and SET columns, and those of others.
+    pub default_name_charset: Option<&'a [u8]>,
+    /// The collation of the names of values in each ENUM and SET column.
+    pub column_name_charset: Option<&'a [u8]>,
 }
 
 /// So many bytes, and those after them.
@@ -108,6 +116,10 @@ fn with_field<'a>(fields: Fields<'a>, kind: u8, value: &'a [u8]) -> Result<Field
         6 => fields.enum_names = Some(value),
         8 => fields.key = Some(value),
         9 => fields.prefix_key = Some(value),
+        2 => fields.default_charset = Some(value),
+        3 => fields.column_charset = Some(value),
+        10 => fields.default_name_charset = Some(value),
+        11 => fields.column_name_charset = Some(value),
         _ => {}
     }
     Ok(fields)
@@ -124,6 +136,10 @@ pub(crate) fn fields_of(bytes: &[u8]) -> Result<Fields<'_>, MapFault>
         enum_names: None,
         key: None,
         prefix_key: None,
+        default_charset: None,
+        column_charset: None,
+        default_name_charset: None,
+        column_name_charset: None,
     };
     let mut rest = bytes;
     while let [kind, after @ ..] = rest {

@@ -35,12 +35,15 @@ pub use column::{ByteCount, Column, DecimalSize, EnumSize, Layout, Precision};
 pub use decimal_view::DecimalView;
 pub use digits::Digits;
 pub use fault::{BadRows, MapFault, PlacedRowFault};
+pub use fields::Fields;
 pub use laws::{
     images_are_read, map_bodies_have_one_reading, map_fields_are_read, rows_are_read,
     rows_bodies_have_one_reading, spellings_are_apart, value_names_are_read,
 };
+pub use packed::packed_at;
 pub use placed_rows::{RowPlaces, next_placed_row};
 pub use row_view::{Cells, RowView, Side};
 pub use rows::{RowSpan, next_row};
 pub use rows_head::{Part, RowsHead, rows_table_id};
+pub use sections::Sections;
 pub use table_map::TableMap;

@@ -10,14 +10,14 @@ use byteorder::{ByteOrder, LittleEndian};
 
 /// The sections of a table map's body as they stand.
 #[derive(Clone, Copy)]
-pub(crate) struct Sections<'a> {
-    pub(crate) table_id: u64,
-    pub(crate) schema: &'a str,
-    pub(crate) table: &'a str,
+pub struct Sections<'a> {
+    pub table_id: u64,
+    pub schema: &'a str,
+    pub table: &'a str,
     /// A type for each column.
-    pub(crate) types: &'a [u8],
-    pub(crate) metadata: &'a [u8],
-    pub(crate) fields: Fields<'a>,
+    pub types: &'a [u8],
+    pub metadata: &'a [u8],
+    pub fields: Fields<'a>,
 }
 
 /// A number of columns that a table may have.

@@ -4,13 +4,14 @@ use Rattle.clap.specs.Words.{App, Rule, Text, AddsArg, AddsSubcommand, app_of, n
 use Rattle.std.proofs.lemmas.List.{drop_all}
 use Rattle.std.specs.Prelude.{IfOk}
 use Rattle.clap.proofs.WalkLemmas.{raw_values-rows}
-use Rattle.clap.specs.declared.builder.action.ArgAction.TheVariants.{Set}
+use Rattle.clap.specs.declared.builder.action.ArgAction.TheVariants.{Set, SetTrue}
 use Rattle.clap.specs.declared.builder.texts.Texts.TheVariants.{One}
 use Rattle.clap.specs.declared.parser.matches.Found.{Found}
 use Rattle.clap.specs.declared.builder.arg.Arg.{Arg}
 use Rattle.clap.specs.declared.builder.command.Command.{Command}
 use Rattle.clap.specs.declared.builder.command.Command.TheViews.{out-Command}
 use Rattle.binlogfeed.specs.Commands.{IsBuilt, HasApp, rule_of_words, with_options}
+use Rattle.binlogfeed.specs.Words.{flag_rule, option_rule}
 use Rattle.binlogfeed.specs.declared.commands.OptionWords.{OptionWords}
 
 pub adds : (old : Command) (argument : Arg) (new : Command) (app : App) (rule : Rule) → AddsArg old argument new → argument.global ≡ false → app_of old ≡ app → rule_of argument ≡ rule
@@ -27,7 +28,7 @@ adds_subcommand old sub new app sub_app h local app_is sub_is = h.shape local �
 -- an option is built step by step
 pub option_built : (plain long valued helped needed built : Arg) (words : OptionWords) → rule_of plain ≡ new_rule words.name.now
     → long ≡ record plain { long = Some words.name } → valued ≡ record long { val_names = One words.value } → helped ≡ record valued { help = Some words.help }
-    → needed ≡ record helped { required = words.is_required } → built ≡ record needed { action = Some Set } → rule_of built ≡ rule_of_words words
+    → needed ≡ record helped { required = words.is_required } → built ≡ record needed { action = Some Set } → rule_of built ≡ record (option_rule words.name.now) { required = words.is_required }
 option_built plain long valued helped needed built words plain_is long_is valued_is helped_is needed_is built_is =
     ap rule_of (built_is
     ∙ ap (λ (a : Arg). record a { action = Some Set }) (needed_is
@@ -35,6 +36,15 @@ option_built plain long valued helped needed built words plain_is long_is valued
     ∙ ap (λ (a : Arg). record a { help = Some words.help }) (valued_is
     ∙ ap (λ (a : Arg). record a { val_names = One words.value }) long_is))))
     ∙ ap (λ (rule : Rule). record rule { long = Some words.name.now; action = Some Set; value_names = 1; required = words.is_required }) plain_is
+
+-- and so is a flag
+pub flag_built : (plain long helped built : Arg) (words : OptionWords) → rule_of plain ≡ new_rule words.name.now
+    → long ≡ record plain { long = Some words.name } → helped ≡ record long { help = Some words.help } → built ≡ record helped { action = Some SetTrue } → rule_of built ≡ flag_rule words.name.now
+flag_built plain long helped built words plain_is long_is helped_is built_is =
+    ap rule_of (built_is
+    ∙ ap (λ (a : Arg). record a { action = Some SetTrue }) (helped_is
+    ∙ ap (λ (a : Arg). record a { help = Some words.help }) long_is))
+    ∙ ap (λ (rule : Rule). record rule { long = Some words.name.now; action = Some SetTrue }) plain_is
 
 -- one of the options, behind those that a command has
 pub option_added : (old new : Command) (argument : Arg) (app : App) (options : List OptionWords) (at : ℕ) (none : OptionWords) → at < length options

@@ -10,7 +10,7 @@ use Rattle.clap.specs.declared.parser.matches.ArgMatches.{ArgMatches}
 use Rattle.clap.specs.declared.parser.matches.ArgMatches.TheViews.{out-ArgMatches, out-SubCommand}
 use Rattle.clap.specs.declared.parser.matches.SubCommand.{SubCommand}
 use Rattle.binlogfeed.specs.Options.{AnswersOptions}
-use Rattle.binlogfeed.specs.Words.{AnswersFound, NamesNone}
+use Rattle.binlogfeed.specs.Words.{AnswersFound, NamesNone, style_given}
 use Rattle.binlogfeed.specs.StartWords.{IsTokenFault, token_text}
 use Rattle.binlogfeed.specs.KeyWords.{IsKeyFault, value_given}
 use Rattle.binlog_select.specs.declared.filter.Filter.{Filter}
@@ -74,7 +74,7 @@ token_refused rows filter Key k h = absurd h
 token_refused rows filter CommandLine k h = absurd h
 token_refused rows filter (Help error) k h = absurd h
 
-pub key_refused : (rows : List Row) (fault : WordsFault) → IsKeyFault (value_given (codes "key") rows) fault → AnswersFound (Some (codes "history", rows)) (Err fault)
+pub key_refused : (rows : List Row) (fault : WordsFault) → IsKeyFault (style_given rows) (value_given (codes "key") rows) fault → AnswersFound (Some (codes "history", rows)) (Err fault)
 key_refused rows (EventName word) h = absurd h
 key_refused rows (Set at) h = absurd h
 key_refused rows OutOfMemory h = tt

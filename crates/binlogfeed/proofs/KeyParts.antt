@@ -1,6 +1,7 @@
 -- A key of the command line has no float.
-use Rattle.std.proofs.Common.{◌≡◌, List, [], ◌∷◌, ℕ, suc, length, ◌==◌, Bool, true, false, true≢false, ◌&&◌, ◌||◌, Some, None, String, BTreeMap, Global, codes, refl, sym, ap, ◌∙◌, subst, arith}
+use Rattle.std.proofs.Common.{◌≡◌, List, [], ◌∷◌, ℕ, suc, length, ◌==◌, Bool, true, false, true≢false, ◌&&◌, ◌||◌, Option, Some, None, String, BTreeMap, Global, codes, refl, sym, ap, ◌∙◌, subst, ◌⊎◌, inl, inr, arith}
 use Rattle.std.proofs.lemmas.Bool.{ne_eqb}
+use Rattle.std.proofs.lemmas.Map.Lookups.{exact_bytes}
 use Rattle.std.specs.Prelude.{option_and_then, is_some}
 use Rattle.std.specs.Ordering.{match_ordering, nat_cmp}
 use Rattle.std.specs.Cmp.Lexicographic.{slice_cmp}
@@ -13,7 +14,9 @@ use Rattle.serde_json.specs.View.{view, members_view}
 use Rattle.serde_json.specs.Written.{has_float, items_have_float, members_have_float}
 use Rattle.serde_json.specs.declared.value.Value.{Value, Object}
 use Rattle.serde_json.proofs.Views.{Entry, view-Object}
-use Rattle.binlogfeed.specs.KeyWords.{has_text, is_coded, is_key_part, are_key_parts, is_key}
+use Rattle.binlog_json.specs.declared.style.Style.{Style}
+use Rattle.binlog_json.specs.declared.style.Style.TheVariants.{Plain, Full}
+use Rattle.binlogfeed.specs.KeyWords.{has_text, is_coded, is_in_charset, is_key_object, is_key_part, are_key_parts, is_key}
 
 neither : (a b : Bool) → a ≡ false → b ≡ false → (a || b) ≡ false
 neither a b p q = rw (p, q) refl
@@ -46,7 +49,10 @@ found_float Greater d h = absurd cc
 two_are_more : (n : ℕ) → (suc (suc n) == 1) ≡ true → ⊥
 two_are_more n h = true≢false (sym h ∙ ne_eqb (suc (suc n)) 1 (λ e. omega (arith, e)))
 
-coded_float : (ms : Members) → is_coded ms ≡ true → members_have_float ms ≡ false
+three_are_more : (n : ℕ) → (suc (suc (suc n)) == 2) ≡ true → ⊥
+three_are_more n h = true≢false (sym h ∙ ne_eqb (suc (suc (suc n))) 2 (λ e. omega (arith, e)))
+
+coded_float : (ms : Members) → is_coded (members_len ms) (object ms) ≡ true → members_have_float ms ≡ false
 coded_float no_members h = absurd cc
 coded_float (member name d no_members) h =
     let alone = object (member name d no_members) in
@@ -56,28 +62,82 @@ coded_float (member name d no_members) h =
     refl
 coded_float (member name d (member other e ms)) h = absurd (two_are_more (members_len ms) (first_true (members_len (member name d (member other e ms)) == 1) _ h))
 
-part_float : (d : Data) → is_key_part d ≡ true → has_float d ≡ false
-part_float null h = refl
-part_float (boolean b) h = refl
-part_float (number (unsigned n)) h = refl
-part_float (number (negative z)) h = refl
-part_float (number (float x)) h = absurd cc
-part_float (string s) h = refl
-part_float (array ds) h = absurd cc
-part_float (object ms) h = coded_float ms h
+-- ---- two members
 
-parts_float : (ds : Items) → are_key_parts ds ≡ true → items_have_float ds ≡ false
-parts_float no_items h = refl
-parts_float (item d ds) h =
-    neither (has_float d) (items_have_float ds) (part_float d (first_true (is_key_part d) (are_key_parts ds) h)) (parts_float ds (second_true (is_key_part d) (are_key_parts ds) h))
+-- what is found of two members, by how the name compares with theirs
+abbrev found_of : Ordering → Ordering → Data → Data → Option Data
+found_of o p d e = match_ordering o (match_ordering p None (Some e) None) (Some d) (match_ordering p None (Some e) None)
 
-pub key_float : (d : Data) → is_key d ≡ true → has_float d ≡ false
-key_float null h = absurd cc
-key_float (boolean b) h = absurd cc
-key_float (number n) h = absurd cc
-key_float (string s) h = absurd cc
-key_float (array ds) h = parts_float ds h
-key_float (object ms) h = absurd cc
+text_behind : (p : Ordering) (e : Data) → is_some (option_and_then as_str (match_ordering p None (Some e) None)) ≡ true → (p ≡ Equal) × (has_float e ≡ false)
+text_behind Less e h = absurd cc
+text_behind Equal e h = (refl, text_float e h)
+text_behind Greater e h = absurd cc
+
+-- a text that is found is the one or the other
+text_at : (o p : Ordering) (d e : Data) → is_some (option_and_then as_str (found_of o p d e)) ≡ true → ((o ≡ Equal) × (has_float d ≡ false)) ⊎ ((p ≡ Equal) × (has_float e ≡ false))
+text_at Less p d e h = inr (text_behind p e h)
+text_at Equal p d e h = inl (refl, text_float d h)
+text_at Greater p d e h = inr (text_behind p e h)
+
+-- two that are found by different names are both
+both_texts : (o p q r : Ordering) (d e : Data) → (o ≡ Equal → q ≡ Equal → ⊥) → (p ≡ Equal → r ≡ Equal → ⊥)
+    → ((o ≡ Equal) × (has_float d ≡ false)) ⊎ ((p ≡ Equal) × (has_float e ≡ false)) → ((q ≡ Equal) × (has_float d ≡ false)) ⊎ ((r ≡ Equal) × (has_float e ≡ false))
+    → (has_float d || (has_float e || false)) ≡ false
+both_texts o p q r d e first second (inl (a, x)) (inl (b, y)) = absurd (first a b)
+both_texts o p q r d e first second (inl (a, x)) (inr (b, y)) = neither (has_float d) (has_float e || false) x (neither (has_float e) false y refl)
+both_texts o p q r d e first second (inr (a, y)) (inl (b, x)) = neither (has_float d) (has_float e || false) x (neither (has_float e) false y refl)
+both_texts o p q r d e first second (inr (a, x)) (inr (b, y)) = absurd (second a b)
+
+different_names : (name : List ℕ) → slice_cmp nat_cmp (codes "base64") name ≡ Equal → slice_cmp nat_cmp (codes "charset") name ≡ Equal → ⊥
+different_names name h k =
+    let same : codes "base64" ≡ codes "charset" = exact_bytes (codes "base64") name h ∙ sym (exact_bytes (codes "charset") name k) in
+    let lengths : 6 ≡ 7 = ap length same in
+    omega (arith, lengths)
+
+in_charset_float : (ms : Members) → is_in_charset (members_len ms) (object ms) ≡ true → members_have_float ms ≡ false
+in_charset_float no_members h = absurd cc
+in_charset_float (member name d no_members) h = absurd cc
+in_charset_float (member name d (member other e no_members)) h =
+    let both = object (member name d (member other e no_members)) in
+    let bytes : has_text (codes "base64") both ≡ true = first_true (has_text (codes "base64") both) (has_text (codes "charset") both) h in
+    let charset : has_text (codes "charset") both ≡ true = second_true (has_text (codes "base64") both) (has_text (codes "charset") both) h in
+    let o = slice_cmp nat_cmp (codes "base64") name in
+    let p = slice_cmp nat_cmp (codes "base64") other in
+    let q = slice_cmp nat_cmp (codes "charset") name in
+    let r = slice_cmp nat_cmp (codes "charset") other in
+    both_texts o p q r d e (different_names name) (different_names other) (text_at o p d e bytes) (text_at q r d e charset)
+in_charset_float (member name d (member other e (member third f ms))) h =
+    let all = object (member name d (member other e (member third f ms))) in
+    let count = members_len (member name d (member other e (member third f ms))) == 2 in
+    absurd (three_are_more (members_len ms) (first_true count (has_text (codes "base64") all) (first_true (count && has_text (codes "base64") all) (has_text (codes "charset") all) h)))
+
+object_float : (style : Style) (ms : Members) → is_key_object style (members_len ms) (object ms) ≡ true → members_have_float ms ≡ false
+object_float Plain ms h = coded_float ms h
+object_float Full ms h =
+    either_true (is_coded (members_len ms) (object ms)) (is_in_charset (members_len ms) (object ms)) (members_have_float ms) h (coded_float ms) (in_charset_float ms)
+
+part_float : (style : Style) (d : Data) → is_key_part style d ≡ true → has_float d ≡ false
+part_float style null h = refl
+part_float style (boolean b) h = refl
+part_float style (number (unsigned n)) h = refl
+part_float style (number (negative z)) h = refl
+part_float style (number (float x)) h = absurd cc
+part_float style (string s) h = refl
+part_float style (array ds) h = absurd cc
+part_float style (object ms) h = object_float style ms h
+
+parts_float : (style : Style) (ds : Items) → are_key_parts style ds ≡ true → items_have_float ds ≡ false
+parts_float style no_items h = refl
+parts_float style (item d ds) h =
+    neither (has_float d) (items_have_float ds) (part_float style d (first_true (is_key_part style d) (are_key_parts style ds) h)) (parts_float style ds (second_true (is_key_part style d) (are_key_parts style ds) h))
+
+pub key_float : (style : Style) (d : Data) → is_key style d ≡ true → has_float d ≡ false
+key_float style null h = absurd cc
+key_float style (boolean b) h = absurd cc
+key_float style (number n) h = absurd cc
+key_float style (string s) h = absurd cc
+key_float style (array ds) h = parts_float style ds h
+key_float style (object ms) h = absurd cc
 
 -- ---- an object, as the code looks at it
 
@@ -85,29 +145,10 @@ members_counted : (es : List Entry) → members_len (members_view es) ≡ length
 members_counted [] = refl
 members_counted (e ∷ es) = ap suc (members_counted es)
 
--- a member of one name or of the other, which is a string
-abbrev pub names_bytes : Data → Bool
-names_bytes d = has_text (codes "base64") d || has_text (codes "raw") d
-
-pub object_part : (value : Value) (members : BTreeMap (String Global) Value) (len : ℕ) → value ≡ Object members → len ≡ length members.entries
-    → is_key_part (view value) ≡ ((len == 1) && names_bytes (view value))
-object_part value members len e n =
+pub object_part : (style : Style) (value : Value) (members : BTreeMap (String Global) Value) (len : ℕ) → value ≡ Object members → len ≡ length members.entries
+    → is_key_part style (view value) ≡ is_key_object style len (view value)
+object_part style value members len e n =
     let seen : view value ≡ object (members_view members.entries) = ap view e ∙ view-Object members in
     let counted : members_len (members_view members.entries) ≡ len = members_counted members.entries ∙ sym n in
-    subst (λ (d : Data). is_key_part d ≡ ((len == 1) && names_bytes d)) (sym seen)
-    (ap (λ (count : ℕ). (count == 1) && names_bytes (object (members_view members.entries))) counted)
-
-pub both : (one first second : Bool) → one ≡ true → first ≡ true → (one && (first || second)) ≡ true
-both one first second p q = rw (p, q) refl
-
-pub the_second : (one first second : Bool) → one ≡ true → first ≡ false → (one && (first || second)) ≡ second
-the_second one first second p q = rw (p, q) refl
-
-pub not_one : (one other : Bool) → one ≡ false → (one && other) ≡ false
-not_one one other p = rw p refl
-
-pub is_one : (n : ℕ) → n ≡ 1 → (n == 1) ≡ true
-is_one n h = rw h refl
-
-pub is_not_one : (n : ℕ) → (n ≡ 1 → ⊥) → (n == 1) ≡ false
-is_not_one n h = ne_eqb n 1 h
+    subst (λ (d : Data). is_key_part style d ≡ is_key_object style len d) (sym seen)
+    (ap (λ (count : ℕ). is_key_object style count (object (members_view members.entries))) counted)

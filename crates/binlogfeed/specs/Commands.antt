@@ -1,9 +1,9 @@
 -- Commands that are built step by step, for which there may be no memory.
-use Rattle.std.specs.Prelude.{◌≡◌, List, [], ◌∷◌, false, Result, IfOk}
+use Rattle.std.specs.Prelude.{◌≡◌, List, [], ◌∷◌, false, if◌then◌else◌, Result, IfOk}
 use Rattle.clap.specs.Words.{App, Rule, app_of, new_app, with_rule}
 use Rattle.clap.specs.declared.builder.command.Command.{Command}
 use Rattle.clap.specs.declared.builder.command.Command.TheViews.{out-Command as fields_of}
-use Rattle.binlogfeed.specs.Words.{file_rule, option_rule}
+use Rattle.binlogfeed.specs.Words.{file_rule, flag_rule, option_rule}
 use Rattle.binlogfeed.specs.declared.commands.OptionWords.{OptionWords}
 use Rattle.binlogfeed.specs.declared.commands.SubcommandWords.{SubcommandWords}
 
@@ -15,9 +15,9 @@ HasApp app built = IfOk built (λ command. app_of command ≡ app)
 abbrev pub IsBuilt : {E : Type 0} → App → Result Command E → Type 0
 IsBuilt app built = IfOk built (λ command. (app_of command ≡ app) × ((fields_of command).has_globals ≡ false))
 
--- an option with one value, by its words
+-- a flag, or an option with one value, by its words
 abbrev pub rule_of_words : OptionWords → Rule
-rule_of_words words = record (option_rule words.name.now) { required = words.is_required }
+rule_of_words words = if words.is_flag then flag_rule words.name.now else record (option_rule words.name.now) { required = words.is_required }
 
 -- an app with these options behind its own
 abbrev pub with_options : App → List OptionWords → App

@@ -1,11 +1,13 @@
 -- The key that `--key` names, and how its text is refused.
 use Rattle.std.specs.Prelude.{◌≡◌, ℕ, List, Some, option_and_then, is_some, unwrap_or, Bool, true, false, not, ◌&&◌, ◌||◌, ◌==◌, codes}
-use Rattle.serde_json.specs.Data.{Data, null, boolean, number, string, array, object, Items, no_items, item, Members}
+use Rattle.serde_json.specs.Data.{Data, null, boolean, number, string, array, object, Items, no_items, item}
 use Rattle.serde_json.specs.Events.{members_len}
 use Rattle.serde_json.specs.Find.{as_str, get, is_float}
 use Rattle.serde_json.specs.Read.{read}
 use Rattle.serde_json.specs.Written.{compact_text}
 use Rattle.clap.specs.Words.{Row, Text, first_of}
+use Rattle.binlog_json.specs.declared.style.Style.{Style}
+use Rattle.binlog_json.specs.declared.style.Style.TheVariants.{Plain, Full}
 use Rattle.binlogfeed.specs.declared.words_fault.WordsFault.{WordsFault}
 use Rattle.binlogfeed.specs.declared.words_fault.WordsFault.TheVariants.{Help, CommandLine, EventName, Set, Token, Key, OutOfMemory}
 
@@ -17,45 +19,55 @@ value_given id rows = unwrap_or (first_of id rows) (codes "")
 abbrev pub has_text : List ℕ → Data → Bool
 has_text name d = is_some (option_and_then as_str (get name d))
 
--- one member alone, `base64` or `raw`, as bytes are given that are no text
-abbrev pub is_coded : Members → Bool
-is_coded ms = (members_len ms == 1) && (has_text (codes "base64") (object ms) || has_text (codes "raw") (object ms))
+-- of so many members one alone, `base64` or `raw`, as bytes are given that are no text
+abbrev pub is_coded : ℕ → Data → Bool
+is_coded count d = (count == 1) && (has_text (codes "base64") d || has_text (codes "raw") d)
+
+-- two members, `base64` and `charset`, as a text is given by its bytes
+abbrev pub is_in_charset : ℕ → Data → Bool
+is_in_charset count d = (count == 2) && has_text (codes "base64") d && has_text (codes "charset") d
+
+-- an object of so many members, as lines of the style have one for a value
+abbrev pub is_key_object : Style → ℕ → Data → Bool
+is_key_object Plain count d = is_coded count d
+is_key_object Full count d = is_coded count d || is_in_charset count d
 
 -- what a column of a key can be; a number is read as a whole one or as a float
-abbrev pub is_key_part : Data → Bool
-is_key_part null = true
-is_key_part (boolean b) = false
-is_key_part (number n) = not (is_float n)
-is_key_part (string text) = true
-is_key_part (array items) = false
-is_key_part (object ms) = is_coded ms
+abbrev pub is_key_part : Style → Data → Bool
+is_key_part style null = true
+is_key_part style (boolean b) = false
+is_key_part style (number n) = not (is_float n)
+is_key_part style (string text) = true
+is_key_part style (array items) = false
+is_key_part style (object ms) = is_key_object style (members_len ms) (object ms)
 
-abbrev pub are_key_parts : Items → Bool
-are_key_parts no_items = true
-are_key_parts (item part parts) = is_key_part part && are_key_parts parts
+abbrev pub are_key_parts : Style → Items → Bool
+are_key_parts style no_items = true
+are_key_parts style (item part parts) = is_key_part style part && are_key_parts style parts
 
-abbrev pub is_key : Data → Bool
-is_key null = false
-is_key (boolean b) = false
-is_key (number n) = false
-is_key (string text) = false
-is_key (array items) = are_key_parts items
-is_key (object ms) = false
+abbrev pub is_key : Style → Data → Bool
+is_key style null = false
+is_key style (boolean b) = false
+is_key style (number n) = false
+is_key style (string text) = false
+is_key style (array items) = are_key_parts style items
+is_key style (object ms) = false
 
--- the text is JSON, however it is spelled, and the key is its compact text
-abbrev pub IsKeyText : Text → List ℕ → Type 0
-IsKeyText text key = (d : Data) × (read text ≡ Some d) × (is_key d ≡ true) × (key ≡ compact_text d)
+-- The text is JSON, however it is spelled, and the key is its compact text: what was read has the members of an object in byte order
+-- of their names, as lines have them.
+abbrev pub IsKeyText : Style → Text → List ℕ → Type 0
+IsKeyText style text key = (d : Data) × (read text ≡ Some d) × (is_key style d ≡ true) × (key ≡ compact_text d)
 
 -- a text that is no JSON, or the JSON of no key
-abbrev pub NamesNoKey : Text → Type 0
-NamesNoKey text = (d : Data) → read text ≡ Some d → is_key d ≡ false
+abbrev pub NamesNoKey : Style → Text → Type 0
+NamesNoKey style text = (d : Data) → read text ≡ Some d → is_key style d ≡ false
 
 -- why the option comes to nothing; memory may be wanting
-abbrev pub IsKeyFault : Text → WordsFault → Type 0
-IsKeyFault text Key = NamesNoKey text
-IsKeyFault text OutOfMemory = Unit {0}
-IsKeyFault text (EventName word) = ⊥
-IsKeyFault text (Set at) = ⊥
-IsKeyFault text Token = ⊥
-IsKeyFault text CommandLine = ⊥
-IsKeyFault text (Help error) = ⊥
+abbrev pub IsKeyFault : Style → Text → WordsFault → Type 0
+IsKeyFault style text Key = NamesNoKey style text
+IsKeyFault style text OutOfMemory = Unit {0}
+IsKeyFault style text (EventName word) = ⊥
+IsKeyFault style text (Set at) = ⊥
+IsKeyFault style text Token = ⊥
+IsKeyFault style text CommandLine = ⊥
+IsKeyFault style text (Help error) = ⊥

@@ -11,7 +11,7 @@ use Rattle.binlog_feed.specs.Parsing.{files_of}
 use Rattle.binlog_feed.specs.Tokens.{Judgement}
 use Rattle.binlog_feed.specs.Tokens.Judgement.{Fits}
 use Rattle.binlogfeed.specs.Faults.{status_of, IsNamed}
-use Rattle.binlogfeed.specs.Runs.{Output, AnswersIfBegun, ReadsFailed, units_output, begun_output, history_output}
+use Rattle.binlogfeed.specs.Runs.{Output, AnswersIfBegun, ReadsFailed, units_output, begun_output_as, history_output_as}
 use Rattle.binlogfeed.specs.Words.{AnswersWords, texts, words_status_of}
 use Rattle.binlogfeed.specs.declared.fault.RunFault.{RunFault}
 use Rattle.binlogfeed.specs.declared.program.Task.{Task}
@@ -28,14 +28,14 @@ run_status_of (Err fault) = status_of fault
 -- what a task has to write of files with these names and contents
 abbrev pub output_of : Task → List (List ℕ) → List (List ℕ) → Output
 output_of Transactions names contents = units_output names contents
-output_of (Read filter start) names contents = begun_output names contents filter start
-output_of (History schema table key) names contents = history_output names contents schema.now table.now (string_bytes key)
+output_of (Read filter start style) names contents = begun_output_as style names contents filter start
+output_of (History schema table key style) names contents = history_output_as style names contents schema.now table.now (string_bytes key)
 
 -- how the start of a task is judged over them
 abbrev pub judgement_of : Task → List (List ℕ) → List (List ℕ) → Judgement
 judgement_of Transactions names contents = Fits
-judgement_of (Read filter start) names contents = judge_start (files_of names contents) start
-judgement_of (History schema table key) names contents = Fits
+judgement_of (Read filter start style) names contents = judge_start (files_of names contents) start
+judgement_of (History schema table key style) names contents = Fits
 
 -- The status of a run that has this to write, from a start that is judged so, is that of what it answers, where the source was honest.
 -- Over any source it names a file only of the list, and the device only where a read has failed.
@@ -60,13 +60,13 @@ IsStatus status = (status ≡ 0) ⊎ ((status ≡ 1) ⊎ ((status ≡ 2) ⊎ ((s
 -- what an order has done with its files
 abbrev pub task_of : Order → Task
 task_of (orders.Transactions files) = Transactions
-task_of (orders.Read filter start files) = Read filter start
-task_of (orders.History schema table key files) = History schema table key
+task_of (orders.Read filter start style files) = Read filter start style
+task_of (orders.History schema table key style files) = History schema table key style
 
 abbrev pub paths_of : Order → List Text
 paths_of (orders.Transactions files) = texts files.items
-paths_of (orders.Read filter start files) = texts files.items
-paths_of (orders.History schema table key files) = texts files.items
+paths_of (orders.Read filter start style files) = texts files.items
+paths_of (orders.History schema table key style files) = texts files.items
 
 -- What an order comes to over files that are supposed to hold these contents: the logs come back where all files could be opened,
 -- and where they gave their true bytes, what was written and the status are those of the order over the contents. Where a path is

@@ -1,13 +1,16 @@
 -- The command line, and what its words ask for.
-use Rattle.std.specs.Prelude.{◌≡◌, ◌≢◌, ◌⊎◌, ◌++◌, ℕ, List, [], map, true, Option, Some, Result, Ok, Err, unwrap_or, codes, decimal, string_bytes}
+use Rattle.std.specs.Prelude.{◌≡◌, ◌≢◌, ◌⊎◌, ◌++◌, ℕ, List, [], map, true, Option, Some, None, if◌then◌else◌, Result, Ok, Err, unwrap_or, codes, decimal, string_bytes}
 use Rattle.std.specs.Borrow.{Bor}
+use Rattle.std.specs.Str.{bytes_eq}
 use Rattle.clap.specs.Lexer.{usize_max}
-use Rattle.clap.specs.Words.{App, Rule, Row, Text, Kinds, IsAmong, new_app, new_rule, with_rule, with_subcommand, all_of, subcommand_of, fault_of, kind_of}
+use Rattle.clap.specs.Words.{App, Rule, Row, Text, Kinds, IsAmong, new_app, new_rule, with_rule, with_subcommand, all_of, first_of, subcommand_of, fault_of, kind_of}
 use Rattle.clap.specs.declared.builder.action.ArgAction.TheVariants as action
 use Rattle.clap.specs.declared.error.Error.{Error}
 use Rattle.clap.specs.declared.error.kind.ErrorKind.{ErrorKind}
 use Rattle.clap.specs.declared.error.kind.ErrorKind.TheVariants as kind
 use Rattle.binlog_select.specs.declared.filter.Filter.{Filter}
+use Rattle.binlog_json.specs.declared.style.Style.{Style}
+use Rattle.binlog_json.specs.declared.style.Style.TheVariants.{Plain, Full}
 use Rattle.binlogfeed.specs.KeyWords.{IsKeyText, IsKeyFault, value_given}
 use Rattle.binlogfeed.specs.Options.{IsFilterOf, AnswersOptions}
 use Rattle.binlogfeed.specs.StartWords.{IsStart, IsTokenFault, token_text}
@@ -31,6 +34,13 @@ option_rule name = record (new_rule name) { long = Some name; action = Some acti
 abbrev pub with_option : App → Text → App
 with_option app name = with_rule app (option_rule name)
 
+-- a flag, which has no value: it is true where it is given
+abbrev pub flag_rule : Text → Rule
+flag_rule name = record (new_rule name) { long = Some name; action = Some action.SetTrue }
+
+abbrev pub with_flag : App → Text → App
+with_flag app name = with_rule app (flag_rule name)
+
 -- an option that must be given
 abbrev pub required_rule : Text → Rule
 required_rule name = record (option_rule name) { required = true }
@@ -43,14 +53,14 @@ transactions_app = with_rule (new_app (codes "transactions")) file_rule
 
 abbrev pub read_app : App
 read_app = with_rule
-    (with_option (with_option (with_option (with_option (with_option (with_option (with_option (new_app (codes "read"))
+    (with_flag (with_option (with_option (with_option (with_option (with_option (with_option (with_option (new_app (codes "read"))
     (codes "only-events")) (codes "only-tables")) (codes "ignored-tables")) (codes "only-schemas")) (codes "ignored-schemas"))
-    (codes "auto-position")) (codes "from"))
+    (codes "auto-position")) (codes "from")) (codes "full"))
     file_rule
 
 abbrev pub history_app : App
 history_app = with_rule
-    (with_required (with_required (with_required (new_app (codes "history")) (codes "schema")) (codes "table")) (codes "key"))
+    (with_flag (with_required (with_required (with_required (new_app (codes "history")) (codes "schema")) (codes "table")) (codes "key")) (codes "full"))
     file_rule
 
 abbrev pub program_app : App
@@ -64,17 +74,25 @@ texts = map (λ word. word.now)
 abbrev pub files_given : List Row → List Text
 files_given rows = unwrap_or (all_of (codes "file") rows) []
 
+-- lines are full where the flag is true
+abbrev pub style_of : Option Text → Style
+style_of None = Plain
+style_of (Some text) = if bytes_eq text (codes "true") then Full else Plain
+
+abbrev pub style_given : List Row → Style
+style_given rows = style_of (first_of (codes "full") rows)
+
 -- the subcommand that the words name, with the values that they give it
 abbrev pub IsOrder : Order → Option (Text × List Row) → Type 0
 IsOrder (Transactions files) found =
     (rows : List Row) × (found ≡ Some (codes "transactions", rows)) × (texts files.items ≡ files_given rows)
-IsOrder (Read filter start files) found =
+IsOrder (Read filter start style files) found =
     (rows : List Row) × (found ≡ Some (codes "read", rows))
-    × IsFilterOf rows filter × IsStart (token_text rows) start × (texts files.items ≡ files_given rows)
-IsOrder (History schema table key files) found =
+    × IsFilterOf rows filter × IsStart (token_text rows) start × (style ≡ style_given rows) × (texts files.items ≡ files_given rows)
+IsOrder (History schema table key style files) found =
     (rows : List Row) × (found ≡ Some (codes "history", rows))
     × (schema.now ≡ value_given (codes "schema") rows) × (table.now ≡ value_given (codes "table") rows)
-    × IsKeyText (value_given (codes "key") rows) (string_bytes key) × (texts files.items ≡ files_given rows)
+    × IsKeyText style (value_given (codes "key") rows) (string_bytes key) × (style ≡ style_given rows) × (texts files.items ≡ files_given rows)
 
 -- the words name no subcommand that the program has
 abbrev pub NamesNone : Option (Text × List Row) → Type 0
@@ -92,7 +110,7 @@ HasTokenFault found fault =
 
 -- the words name the subcommand `history`, whose key has this fault
 abbrev pub HasKeyFault : Option (Text × List Row) → WordsFault → Type 0
-HasKeyFault found fault = (rows : List Row) × (found ≡ Some (codes "history", rows)) × IsKeyFault (value_given (codes "key") rows) fault
+HasKeyFault found fault = (rows : List Row) × (found ≡ Some (codes "history", rows)) × IsKeyFault (style_given rows) (value_given (codes "key") rows) fault
 
 -- what a subcommand found comes to; memory may be wanting for any
 abbrev pub AnswersFound : Option (Text × List Row) → Result Order WordsFault → Type 0

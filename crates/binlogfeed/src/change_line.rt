@@ -1,23 +1,24 @@
 //! The line of a row change.
 ghost use Rattle.std.specs.Prelude.{◌≡◌, ◌++◌, OnOk, OnErr};
 ghost use Rattle.binlog_feed.specs.Changes.{view};
-ghost use Rattle.binlogfeed.specs.Lines.{change_line as line_of};
+ghost use Rattle.binlogfeed.specs.Lines.{change_line_as as line_of};
 
 use binlog_feed::Change;
-use binlog_json::LineWriter;
+use binlog_json::{LineWriter, Style};
 use std::alloc::AllocError;
 
-/// Appends the line of a change with its line feed: all of it, or nothing where a growth was refused.
+/// Appends the line of a change in a style with its line feed: all of it, or nothing where a growth was refused.
 pub(crate) fn change_line(
+    style: Style,
     change: &Change<'_>,
     writer: &mut LineWriter,
     waiting: &mut Vec<u8>,
 ) -> Result<(), AllocError>
-    ensures ok { OnOk result (waiting.new.items ≡ waiting.old.items ++ line_of (view change.now)) }
+    ensures ok { OnOk result (waiting.new.items ≡ waiting.old.items ++ line_of style (view change.now)) }
     ensures err { OnErr result (waiting.new.items ≡ waiting.old.items) }
 {
     let before = waiting.len();
-    writer.append_line(change, waiting)?;
+    writer.append_line_as(style, change, waiting)?;
     if waiting.push(b'\n').is_err() {
         waiting.truncate(before);
         return Err(AllocError);

@@ -1,19 +1,21 @@
 //! The command line: its subcommands, with their options and their help.
-ghost use Rattle.std.specs.Prelude.{◌≡◌, IfOk, false};
+ghost use Rattle.std.specs.Prelude.{◌≡◌, IfOk, Some, false};
 ghost use Rattle.clap.specs.Words.{App, rule_of, app_of, with_subcommand};
-ghost use Rattle.binlogfeed.specs.Words.{file_rule, program_app};
+ghost use Rattle.binlogfeed.specs.Words.{file_rule, flag_rule, option_rule, program_app};
 ghost use Rattle.binlogfeed.specs.Commands.{IsBuilt, HasApp, rule_of_words, app_of_words};
 
 use clap::{Arg, ArgAction, Command};
 use std::alloc::{AllocError, Global};
 
-/// The words of an option that has one value, and is given at most once.
+/// The words of an option, which is given at most once.
 #[derive(Clone, Copy)]
 struct OptionWords {
     name: &'static str,
     value: &'static str,
     help: &'static str,
     is_required: bool,
+    /// A flag has no value.
+    is_flag: bool,
 }
 
 /// The words of a subcommand, which takes files behind its options.
@@ -76,6 +78,12 @@ A line is one JSON object. This one is cut in three to fit here:
 Integers are numbers; DECIMAL, dates and times are strings. Text that isn't UTF-8 is
 {\"base64\":\"..\"}; FLOAT, DOUBLE, JSON and GEOMETRY are {\"raw\":\"..\"}, their bytes in base64.
 
+With --full a value is what the server means by it: an integer has its sign behind a YEAR
+column, too, text is read by its character set, and BINARY and BLOB are {\"base64\":\"..\"}; text
+that can't be read is {\"base64\":\"..\",\"charset\":\"..\"}. Two members are added:
+  key            the names of the primary key's columns
+  types          the type of each column, as `varchar latin1` or `int unsigned`
+
 The changes stand in the order of the log. Those of a transaction that was rolled back, or
 that isn't whole at the end of its file, are left out.
 
@@ -95,48 +103,62 @@ Examples:
   binlogfeed read --auto-position 3e11fa47-71ca-11e1-9e33-c80aa9429562:1-5:7 binlog.000001
   binlogfeed read --from 3406.1@binlog.000001 binlog.000001 binlog.000002";
 
-const READ_OPTIONS: [OptionWords; 7] = [
+const READ_OPTIONS: [OptionWords; 8] = [
     OptionWords {
         name: "only-events",
         value: "LIST",
         help: "Only changes of these kinds: insert, update, delete",
         is_required: false,
+        is_flag: false,
     },
     OptionWords {
         name: "only-tables",
         value: "LIST",
         help: "Only changes of tables with these names, in any schema",
         is_required: false,
+        is_flag: false,
     },
     OptionWords {
         name: "ignored-tables",
         value: "LIST",
         help: "No changes of tables with these names, in any schema",
         is_required: false,
+        is_flag: false,
     },
     OptionWords {
         name: "only-schemas",
         value: "LIST",
         help: "Only changes of tables in these schemas",
         is_required: false,
+        is_flag: false,
     },
     OptionWords {
         name: "ignored-schemas",
         value: "LIST",
         help: "No changes of tables in these schemas",
         is_required: false,
+        is_flag: false,
     },
     OptionWords {
         name: "auto-position",
         value: "SET",
         help: "No changes of transactions with these GTIDs",
         is_required: false,
+        is_flag: false,
     },
     OptionWords {
         name: "from",
         value: "TOKEN",
         help: "Only changes behind the one that has this token",
         is_required: false,
+        is_flag: false,
+    },
+    OptionWords {
+        name: "full",
+        value: "",
+        help: "Full lines: with the sign and the character set that the server declared, types and key",
+        is_required: false,
+        is_flag: true,
     },
 ];
 
@@ -155,34 +177,44 @@ as it is then, has the key: the row's whole story. An update that changes the ke
 the stories of both keys.
 
 A key is a JSON array of the values of the primary key's columns, in the order of the key,
-each as a line has it: integers are numbers, DECIMAL, dates and times are strings, bytes that
-aren't UTF-8 are {\"base64\":\"..\"}. However it is spelled, its compact form is compared. A
-table without a primary key has no keys. Names are compared byte for byte. Write a value that
-begins with `-` as --option=value.
+each as a line has it, with --full as a full line has it: integers are numbers, DECIMAL, dates
+and times are strings, bytes that aren't text are {\"base64\":\"..\"}, with --full also
+{\"base64\":\"..\",\"charset\":\"..\"}. However it is spelled, its compact form is compared. A table
+without a primary key has no keys. Names are compared byte for byte. Write a value that begins with `-` as --option=value.
 
 Examples, with a key of one column, of two, and one of bytes that aren't text:
   binlogfeed history --schema shop --table customer --key '[1]' binlog.000001 binlog.000002
   binlogfeed history --schema shop --table line --key '[7,2]' binlog.000001
   binlogfeed history --schema shop --table device --key '[{\"base64\":\"/+4=\"}]' binlog.000001";
 
-const HISTORY_OPTIONS: [OptionWords; 3] = [
+const HISTORY_OPTIONS: [OptionWords; 4] = [
     OptionWords {
         name: "schema",
         value: "NAME",
         help: "The schema of the table",
         is_required: true,
+        is_flag: false,
     },
     OptionWords {
         name: "table",
         value: "NAME",
         help: "The table, named without its schema",
         is_required: true,
+        is_flag: false,
     },
     OptionWords {
         name: "key",
         value: "JSON",
         help: "The values of the primary key's columns, as a JSON array",
         is_required: true,
+        is_flag: false,
+    },
+    OptionWords {
+        name: "full",
+        value: "",
+        help: "Full lines: with the sign and the character set that the server declared, types and key",
+        is_required: false,
+        is_flag: true,
     },
 ];
 
@@ -207,6 +239,29 @@ fn file_argument<'a>(alloc: Global) -> Arg<'a>
 
 fn option_argument<'a>(alloc: Global, words: &'a OptionWords) -> Arg<'a>
     ensures rule { rule_of result ≡ rule_of_words words.entry.now }
+    ensures local { result.global ≡ false }
+{
+    if words.is_flag {
+        flag_argument(alloc, words)
+    } else {
+        value_argument(alloc, words)
+    }
+}
+
+/// A flag, which is true where it is given.
+fn flag_argument<'a>(alloc: Global, words: &'a OptionWords) -> Arg<'a>
+    ensures rule { rule_of result ≡ flag_rule words.entry.now.name.now }
+    ensures local { result.global ≡ false }
+{
+    Arg::new(alloc, words.name)
+        .long(words.name)
+        .help(words.help)
+        .action(ArgAction::SetTrue)
+}
+
+/// An option with one value.
+fn value_argument<'a>(alloc: Global, words: &'a OptionWords) -> Arg<'a>
+    ensures rule { rule_of result ≡ record (option_rule words.entry.now.name.now) { required = words.entry.now.is_required } }
     ensures local { result.global ≡ false }
 {
     Arg::new(alloc, words.name)

@@ -3,12 +3,13 @@ ghost use Rattle.std.specs.Prelude.{◌≡◌, IsTrue, IfErr};
 ghost use Rattle.binlog_frame.specs.Logs.{KeepsSource};
 ghost use Rattle.binlog_feed.specs.Tokens.Judgement.{Fits};
 ghost use Rattle.binlogfeed.specs.Faults.{IsNamed};
-ghost use Rattle.binlogfeed.specs.Runs.{Answers, ReadsFailed, history_output};
+ghost use Rattle.binlogfeed.specs.Runs.{Answers, ReadsFailed, history_output, history_output_as};
 
 use crate::fault::RunFault;
 use crate::feed_lines::{Wanted, write_feed};
 use binlog_feed::Start;
 use binlog_frame::Logs;
+use binlog_json::Style;
 use binlog_select::Filter;
 use std::alloc::Global;
 use std::io::Write;
@@ -43,6 +44,40 @@ pub fn run_history<L: Logs, W: Write>(
         Filter::new(),
         Start::Beginning,
         &wanted,
+        Style::Plain,
+        window,
+        out,
+    )
+}
+
+/// Does what [`run_history`] does, with lines in a style, and with a key whose values are those of such lines: in the plain one they are
+/// the same lines.
+pub fn run_history_as<L: Logs, W: Write>(
+    style: Style,
+    alloc: Global,
+    logs: L,
+    schema: &str,
+    table: &str,
+    key: &str,
+    window: Vec<u8>,
+    out: &mut W,
+) -> (L, Result<u64, RunFault>)
+    ensures answers { IsTrue (L.honest result.0) → Answers (L.names logs) Fits
+        (history_output_as style (L.names logs) (L.contents logs) schema.now table.now key.now) (W.contents out.old) (W.contents out.new) result.1 }
+
+    // Over any source.
+    ensures source { KeepsSource L.names L.contents L.lengths L.honest L.failures logs result.0 }
+    ensures named { IfErr result.1 (IsNamed (L.names result.0)) }
+    ensures failed { IfErr result.1 (ReadsFailed (L.failures logs) (L.failures result.0)) }
+{
+    let wanted = Wanted::OfKey { schema, table, key };
+    write_feed(
+        alloc,
+        logs,
+        Filter::new(),
+        Start::Beginning,
+        &wanted,
+        style,
         window,
         out,
     )

@@ -1,9 +1,9 @@
 //! What the words of the command line ask for.
-ghost use Rattle.std.specs.Prelude.{◌≡◌, ◌∷◌, IfOk, IfErr, codes, true, Some};
+ghost use Rattle.std.specs.Prelude.{◌≡◌, ◌∷◌, IfOk, IfErr, codes, true, Some, option_map};
 ghost use Rattle.clap.specs.Words.{rows_of, found_of, subcommand_of, subcommand_rows_of, takes};
 ghost use Rattle.binlogfeed.specs.KeyWords.{value_given};
 ghost use Rattle.binlogfeed.specs.StartWords.{IsStart, IsTokenFault, token_text};
-ghost use Rattle.binlogfeed.specs.Words.{program_app, IsFaultOf, AnswersFound, AnswersWords, texts, files_given};
+ghost use Rattle.binlogfeed.specs.Words.{program_app, IsFaultOf, AnswersFound, AnswersWords, texts, files_given, style_given, style_of};
 
 use crate::commands::program;
 use crate::key_words::key_of;
@@ -11,6 +11,7 @@ use crate::options::{filter_given, text_given};
 use crate::start_words::start_given;
 use crate::words_fault::WordsFault;
 use binlog_feed::Start;
+use binlog_json::Style;
 use binlog_select::Filter;
 use clap::error::ErrorKind;
 use clap::{ArgMatches, Error};
@@ -27,6 +28,7 @@ pub enum Order<'a> {
     Read {
         filter: Filter,
         start: Start,
+        style: Style,
         files: Vec<&'a str>,
     },
     /// A line for each row change of these files that is of this table and has this key.
@@ -34,6 +36,7 @@ pub enum Order<'a> {
         schema: &'a str,
         table: &'a str,
         key: String,
+        style: Style,
         files: Vec<&'a str>,
     },
 }
@@ -97,6 +100,7 @@ fn read<'a>(alloc: Global, matches: &ArgMatches<'a>) -> Result<Order<'a>, WordsF
     Ok(Order::Read {
         filter,
         start,
+        style: style_given(matches),
         files,
     })
 }
@@ -118,14 +122,38 @@ fn files_and_start<'a>(
 fn history<'a>(alloc: Global, matches: &ArgMatches<'a>) -> Result<Order<'a>, WordsFault>
     ensures { AnswersFound (Some (codes "history", rows_of (found_of matches.now))) result }
 {
-    let key = key_of(alloc, value_of(matches, "key"))?;
+    let style = style_given(matches);
+    let key = key_of(alloc, style, value_of(matches, "key"))?;
     let files = files(alloc, matches)?;
     Ok(Order::History {
         schema: value_of(matches, "schema"),
         table: value_of(matches, "table"),
         key,
+        style,
         files,
     })
+}
+
+/// The style of lines: full ones where the flag is given.
+fn style_given(matches: &ArgMatches<'_>) -> Style
+    ensures { result ≡ style_given (rows_of (found_of matches.now)) }
+{
+    style_of(text_given(matches, "full"))
+}
+
+fn style_of(text: Option<&str>) -> Style
+    ensures { result ≡ style_of (option_map (λ text. text.now) text.entry) }
+{
+    match text {
+        None => Style::Plain,
+        Some(text) => {
+            if text == "true" {
+                Style::Full
+            } else {
+                Style::Plain
+            }
+        }
+    }
 }
 
 /// The value of an option that must be given.

@@ -54,12 +54,14 @@ fn perform(alloc: Global, case: &Case, order: Order<'_>, how: How) -> Result<Str
             filter,
             start,
             files,
+            ..
         } => perform_job(alloc, case, &files, Job::Changes { filter, start }, how),
         Order::History {
             schema,
             table,
             key,
             files,
+            ..
         } => {
             let text = key.as_str();
             let key = Key {

@@ -19,6 +19,7 @@ fn show_order(text: &mut Page, order: Order<'_>) {
             filter,
             start,
             files,
+            ..
         } => {
             show_start(text, &start);
             show_filter(text, filter);
@@ -29,6 +30,7 @@ fn show_order(text: &mut Page, order: Order<'_>) {
             table,
             key,
             files,
+            ..
         } => {
             show_history(text, schema, table, key.as_str());
             show_files(text, "files", &files);

@@ -5,20 +5,20 @@ use Rattle.binlog_json.proofs.key.image_key.Goals as goal
 
 pub loop-column-preserved : goal.loop-column-preserved
 loop-column-preserved c =
-    key_more c.args.image.now c.args.other c.key-columns.result.now c.loop-column.column-index
+    key_more c.args.style c.args.image.now c.args.other c.key-columns.result.now c.loop-column.column-index
     (line_bytes c.loop-column.text) (line_bytes c.append_comma.new.out) (line_bytes c.append_of_either.new.out) c.loop-column.later c.in_ok-later.later _
     c.loop-column-test.true c.in_ok-append_comma.ensures c.in_ok-later.ensures.text c.in_ok-later.ensures.has c.if-not-later.false c.loop-column.invariant
 
 pub returns-then-is_empty : goal.returns-then-is_empty
-returns-then-is_empty c = key_empty c.args.image.now c.args.other c.key-columns.result.now c.key-columns.ensures.value c.if-is_empty.ensures
+returns-then-is_empty c = key_empty c.args.style c.args.image.now c.args.other c.key-columns.result.now c.key-columns.ensures.value c.if-is_empty.ensures
 
 pub returns-then-not-later : goal.returns-then-not-later
 returns-then-not-later c =
-    key_lacks c.args.image.now c.args.other c.key-columns.result.now c.loop-column.column-index (line_bytes c.push_str.new.self) (line_bytes c.loop-column.text) c.loop-column.later
+    key_lacks c.args.style c.args.image.now c.args.other c.key-columns.result.now c.loop-column.column-index (line_bytes c.push_str.new.self) (line_bytes c.loop-column.text) c.loop-column.later
     c.in_ok-later.later c.key-columns.ensures.value c.loop-column-test.true c.in_ok-later.ensures.has c.if-not-later.true c.loop-column.invariant
 
 pub returns : goal.returns
 returns c =
-    ap Some c.into_string.ensures.value ∙ key_ends c.args.image.now c.args.other c.key-columns.result.now c.loop-column.column-index (line_bytes c.new-text.result) (line_bytes c.push_str.new.self) (line_bytes c.loop-column.text)
+    ap Some c.into_string.ensures.value ∙ key_ends c.args.style c.args.image.now c.args.other c.key-columns.result.now c.loop-column.column-index (line_bytes c.new-text.result) (line_bytes c.push_str.new.self) (line_bytes c.loop-column.text)
     (line_bytes c.push_str-2.new.self) c.loop-column.later c.key-columns.ensures.value c.if-is_empty.ensures c.loop-column-test.false c.new-text.ensures.bytes
     c.in_ok-push_str.ensures.bytes c.in_ok-push_str-2.ensures.bytes c.loop-column.invariant

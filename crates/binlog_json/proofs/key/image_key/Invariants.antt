@@ -7,5 +7,5 @@ use Rattle.binlog_json.proofs.key.image_key.Given as goal
 
 abbrev pub invariant-loop-column : goal.invariant-loop-column
 invariant-loop-column l =
-    option_map (λ values. (line_bytes l.text) ++ items_text l.later (items_of values)) (values_in l.image l.other (drop l.column-index l.columns))
-    ≡ option_map (λ values. (line_bytes l.initial.text) ++ items_text false (items_of values)) (values_in l.image l.other l.columns)
+    option_map (λ values. (line_bytes l.text) ++ items_text l.later (items_of values)) (values_in l.style l.image l.other (drop l.column-index l.columns))
+    ≡ option_map (λ values. (line_bytes l.initial.text) ++ items_text false (items_of values)) (values_in l.style l.image l.other l.columns)

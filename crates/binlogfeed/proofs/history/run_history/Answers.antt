@@ -1,5 +1,6 @@
 use Rattle.std.proofs.Common.{subst}
 use Rattle.binlog_feed.specs.Tokens.Judgement.{Fits}
+use Rattle.binlog_json.specs.declared.style.Style.TheVariants.{Plain}
 use Rattle.binlogfeed.specs.Runs.{Output, Answers}
 use Rattle.binlogfeed.proofs.Choosing.{history_wanted}
 use Rattle.binlogfeed.proofs.history.run_history.Goals as goal
@@ -10,7 +11,7 @@ returns-clause-answers g c = λ honest.
     let contents = g.L.Logs.contents c.args.logs in
     let open_filter = c.new.ensures in
     subst (λ (output : Output). Answers names Fits output (g.W.Write.contents c.args.out.now) (g.W.Write.contents c.write_feed.new.out) c.write_feed.result.1)
-    (history_wanted names contents c.new.result c.args.schema.now c.args.table.now c.args.key.now (record {
+    (history_wanted Plain names contents c.new.result c.args.schema.now c.args.table.now c.args.key.now (record {
       only_events = open_filter.only_events;
       only_tables = open_filter.only_tables;
       ignored_tables = open_filter.ignored_tables;

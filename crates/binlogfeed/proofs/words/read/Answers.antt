@@ -18,4 +18,4 @@ returns-in_err-files c =
 pub returns : goal.returns
 returns c =
     let given = c.in_ok-files.ensures in
-    (rows_of (found_of c.args.matches.now), refl, c.in_ok-filter.ensures, given.start, given.files)
+    (rows_of (found_of c.args.matches.now), refl, c.in_ok-filter.ensures, given.start, c.style_given.ensures, given.files)

@@ -4,9 +4,10 @@ use Rattle.std.specs.Str.{bytes_eq}
 use Rattle.std.proofs.lemmas.Result.{IfOk-weaker}
 use Rattle.binlog_table.specs.declared.row_view.Side.TheVariants.{Before, After}
 use Rattle.binlog_feed.specs.Changes.{RowChange, view}
-use Rattle.binlog_json.specs.Keys.{different_texts, has_key, is_text, key_text_of}
+use Rattle.binlog_json.specs.Keys.{different_texts, has_key_as, is_text, key_text_as}
+use Rattle.binlog_json.specs.declared.style.Style.{Style}
 use Rattle.binlog_json.proofs.KeyTexts.{is_second}
-use Rattle.binlog_json.proofs.key.has_key.Goals as goal
+use Rattle.binlog_json.proofs.key.has_key_as.Goals as goal
 
 first_of : (same : Bool) (key first second : List ℕ) → bytes_eq first key ≡ true → list_any (λ text. bytes_eq text key) (cond same (first ∷ []) (first ∷ (second ∷ []))) ≡ true
 first_of true key first second is = rw is refl
@@ -18,13 +19,13 @@ is_first key (Some first) None is = rw is refl
 is_first key (Some first) (Some second) is = first_of (bytes_eq first second) key first second is
 
 -- the change is one of the table, and the key that of the row as it was, or else it depends on the row as it is then
-has_first : (schema table key : List ℕ) (c : RowChange) → bytes_eq c.table.schema schema ≡ true → bytes_eq c.table.table table ≡ true
-    → is_text key (key_text_of c Before) ≡ true → true ≡ has_key schema table key c
-has_first schema table key c of_schema of_table is = rw (of_schema, of_table) (sym (is_first key (key_text_of c Before) (key_text_of c After) is))
+has_first : (style : Style) (schema table key : List ℕ) (c : RowChange) → bytes_eq c.table.schema schema ≡ true → bytes_eq c.table.table table ≡ true
+    → is_text key (key_text_as style c Before) ≡ true → true ≡ has_key_as style schema table key c
+has_first style schema table key c of_schema of_table is = rw (of_schema, of_table) (sym (is_first key (key_text_as style c Before) (key_text_as style c After) is))
 
-has_second : (schema table key : List ℕ) (c : RowChange) → bytes_eq c.table.schema schema ≡ true → bytes_eq c.table.table table ≡ true
-    → is_text key (key_text_of c Before) ≡ false → is_text key (key_text_of c After) ≡ has_key schema table key c
-has_second schema table key c of_schema of_table not = rw (of_schema, of_table) (sym (is_second key (key_text_of c Before) (key_text_of c After) not))
+has_second : (style : Style) (schema table key : List ℕ) (c : RowChange) → bytes_eq c.table.schema schema ≡ true → bytes_eq c.table.table table ≡ true
+    → is_text key (key_text_as style c Before) ≡ false → is_text key (key_text_as style c After) ≡ has_key_as style schema table key c
+has_second style schema table key c of_schema of_table not = rw (of_schema, of_table) (sym (is_second key (key_text_as style c Before) (key_text_as style c After) not))
 
 not_false : (b : Bool) → false ≡ not b → b ≡ true
 not_false true is = refl
@@ -36,11 +37,11 @@ same_name name own asked is same = subst (λ n. bytes_eq n asked ≡ true) is (n
 
 pub returns-then-branch : goal.returns-then-branch
 returns-then-branch c =
-    has_first c.args.schema.now c.args.table.now c.args.key.now (view c.args.change.now) (same_name _ _ _ c.schema.ensures c.if-ne.ensures)
+    has_first c.args.style c.args.schema.now c.args.table.now c.args.key.now (view c.args.change.now) (same_name _ _ _ c.schema.ensures c.if-ne.ensures)
     (same_name _ _ _ c.table.ensures c.if-ne-2.ensures) (sym c.in_ok-has_key_on.ensures ∙ c.if-branch.true)
 
 pub returns : goal.returns
 returns c =
-    let second = has_second c.args.schema.now c.args.table.now c.args.key.now (view c.args.change.now) (same_name _ _ _ c.schema.ensures c.if-ne.ensures)
+    let second = has_second c.args.style c.args.schema.now c.args.table.now c.args.key.now (view c.args.change.now) (same_name _ _ _ c.schema.ensures c.if-ne.ensures)
     (same_name _ _ _ c.table.ensures c.if-ne-2.ensures) (sym c.in_ok-has_key_on.ensures ∙ c.if-branch.false) in
     IfOk-weaker c.has_key_on-2.result _ _ (λ has is. is ∙ second) c.has_key_on-2.ensures

@@ -1,5 +1,5 @@
 use Rattle.binlogfeed.proofs.Building.{option_built}
-use Rattle.binlogfeed.proofs.commands.option_argument.Goals as goal
+use Rattle.binlogfeed.proofs.commands.value_argument.Goals as goal
 
 pub returns-clause-rule : goal.returns-clause-rule
 returns-clause-rule c =

@@ -1,0 +1,10 @@
+use Rattle.binlog_json.specs.LineBytes.{line_bytes}
+use Rattle.std.proofs.Common.{◌≡◌, ◌++◌, drop, false}
+use Rattle.serde_json.specs.Written.{members_text}
+use Rattle.binlog_json.specs.Listed.{listed_by}
+use Rattle.binlog_json.specs.FullValues.{full_value}
+use Rattle.binlog_json.proofs.full_image.append_full_image.Given as goal
+
+abbrev pub invariant-loop-column : goal.invariant-loop-column
+invariant-loop-column l =
+    (line_bytes l.out) ++ members_text l.later (listed_by (full_value l.image) l.image (drop l.column-index l.column-items)) ≡ line_bytes l.initial.out ++ members_text false (listed_by (full_value l.image) l.image l.column-items)

@@ -1,0 +1,83 @@
+-- The texts of columns' types, as a server's own statements name them.
+use Rattle.std.specs.Prelude.{ℕ, List, [], ◌∷◌, ◌++◌, replicate, length, Bool, ◌==◌, ◌||◌, ◌&&◌, not, Option, Some, None, decimal, codes, if◌then◌else◌}
+use Rattle.std.specs.Option.{option_map_or}
+use Rattle.serde_json.specs.Data.{Data, string, object}
+use Rattle.binlog_table.specs.Map.{Map}
+use Rattle.binlog_table.specs.RowImage.{RowImage}
+use Rattle.binlog_table.specs.Value.{null}
+use Rattle.binlog_types.specs.Charsets.{charset_name, encoding_of}
+use Rattle.binlog_types.specs.ColumnTypes.{is_named}
+use Rattle.binlog_types.specs.declared.column_type.ColumnType.{ColumnType}
+use Rattle.binlog_types.specs.declared.charsets.Charset.{Charset}
+use Rattle.binlog_json.specs.Images.{members_by}
+use Rattle.binlog_json.specs.FullValues.{type_in, is_binary}
+
+-- a blank and the character set, where there is one that is known
+abbrev pub charset_text : Option Charset → List ℕ
+charset_text None = []
+charset_text (Some charset) = 32 ∷ charset_name charset
+
+abbrev pub size_text : ℕ → List ℕ
+size_text n = 40 ∷ (decimal n ++ 41 ∷ [])
+
+abbrev pub fraction_size : ℕ → List ℕ
+fraction_size n = if n == 0 then [] else size_text n
+
+abbrev pub sign_of : Bool → List ℕ
+sign_of unsigned = if unsigned then codes " unsigned" else []
+
+-- TEXT and BLOB, by the bytes of their length
+abbrev pub lob_size : ℕ → List ℕ
+lob_size n = if n == 1 then codes "tiny" else (if n == 3 then codes "medium" else (if n == 4 then codes "long" else []))
+
+abbrev pub number_name : ℕ → List ℕ
+number_name code =
+    if code == 1 then codes "tinyint" else (if code == 2 then codes "smallint" else (if code == 9 then codes "mediumint" else
+    (if code == 3 then codes "int" else (if code == 8 then codes "bigint" else (if code == 4 then codes "float" else codes "double")))))
+
+abbrev pub is_number : ℕ → Bool
+is_number code = code == 1 || (code == 2 || (code == 9 || (code == 3 || (code == 8 || (code == 4 || code == 5)))))
+
+abbrev pub other_name : ColumnType → List ℕ
+other_name t =
+    if t.code == 10 then codes "date" else (if t.code == 13 then codes "year" else (if t.code == 245 then codes "json" else
+    (if t.code == 255 then codes "geometry" else (if t.code == 16 then codes "bit" ++ size_text t.size else
+    (if t.code == 17 then codes "timestamp" ++ fraction_size t.size else (if t.code == 18 then codes "datetime" ++ fraction_size t.size else
+    (if t.code == 19 then codes "time" ++ fraction_size t.size else codes "unknown")))))))
+
+abbrev pub bytes_name : ColumnType → List ℕ
+bytes_name t =
+    if t.code == 252 then lob_size t.size ++ codes "blob" else
+    (if t.code == 254 then codes "binary" ++ size_text t.size else codes "varbinary" ++ size_text t.size)
+
+abbrev pub text_name : ColumnType → List ℕ
+text_name t =
+    if t.code == 252 then lob_size t.size ++ codes "text" else
+    (if t.code == 254 then codes "char" else (if t.code == 247 then codes "enum" else (if t.code == 248 then codes "set" else codes "varchar")))
+
+abbrev pub has_charset : ℕ → Bool
+has_charset code = code == 252 || (code == 254 || (code == 247 || (code == 248 || (code == 15 || code == 253))))
+
+-- bytes are named by types of their own; an ENUM or a SET stays one
+abbrev pub is_bytes : ColumnType → Bool
+is_bytes t = option_map_or (λ charset. is_binary (encoding_of charset) && not (is_named t.code)) t.charset Bool.false
+
+abbrev pub charset_type : ColumnType → List ℕ
+charset_type t = if is_bytes t then bytes_name t else text_name t ++ charset_text t.charset
+
+abbrev pub type_text : ColumnType → List ℕ
+type_text t =
+    if is_number t.code then number_name t.code ++ sign_of t.unsigned else
+    (if t.code == 246 then codes "decimal(" ++ (decimal t.size ++ (44 ∷ (decimal t.scale ++ (41 ∷ sign_of t.unsigned)))) else
+    (if has_charset t.code then charset_type t else other_name t))
+
+-- an image that has every column
+abbrev pub every_column : Map → RowImage
+every_column table = record { table = table; cells = replicate (length table.names) null }
+
+abbrev pub type_of_column : Map → ℕ → Data
+type_of_column table column = string (type_text (type_in table column))
+
+-- the types of all columns, in byte order of their names
+abbrev pub types_data : Map → Data
+types_data table = object (members_by (type_of_column table) (every_column table))

@@ -1,0 +1,189 @@
+//! The texts of columns' types, as a server's own statements name them.
+ghost use Rattle.std.specs.Prelude.{◌≡◌, ◌++◌, ◌∷◌, [], OnOk};
+ghost use Rattle.std.specs.Option.{option_or};
+ghost use Rattle.binlog_types.specs.ColumnTypes.{is_named};
+ghost use Rattle.binlog_json.specs.TypeTexts.{is_bytes, size_text, fraction_size, sign_of, lob_size, number_name, is_number, other_name, bytes_name, text_name, has_charset, charset_type, type_text};
+ghost use Rattle.binlog_json.specs.LineBytes.{line_bytes};
+
+use crate::append::append_number;
+use crate::full_values::is_binary;
+use crate::lines::Line;
+use binlog_types::{ColumnType, charset_name, encoding_of};
+use std::alloc::AllocError;
+
+fn append_size(out: &mut Line, size: u16) -> Result<(), AllocError>
+    ensures { OnOk result (line_bytes out.new ≡ line_bytes out.old ++ size_text size) }
+{
+    out.push_str("(")?;
+    append_number(out, u64::from(size))?;
+    out.push_str(")")
+}
+
+fn append_fraction(out: &mut Line, size: u16) -> Result<(), AllocError>
+    ensures { OnOk result (line_bytes out.new ≡ line_bytes out.old ++ fraction_size size) }
+{
+    if size == 0 {
+        return Ok(());
+    }
+    append_size(out, size)
+}
+
+fn sign_of(unsigned: bool) -> &'static str
+    ensures { result.now ≡ sign_of unsigned }
+{
+    if unsigned { " unsigned" } else { "" }
+}
+
+fn lob_size(size: u16) -> &'static str
+    ensures { result.now ≡ lob_size size }
+{
+    match size {
+        1 => "tiny",
+        3 => "medium",
+        4 => "long",
+        _ => "",
+    }
+}
+
+fn number_name(code: u8) -> &'static str
+    ensures { result.now ≡ number_name code }
+{
+    match code {
+        1 => "tinyint",
+        2 => "smallint",
+        9 => "mediumint",
+        3 => "int",
+        8 => "bigint",
+        4 => "float",
+        _ => "double",
+    }
+}
+
+fn is_number(code: u8) -> bool
+    ensures { result ≡ is_number code }
+{
+    matches!(code, 1 | 2 | 9 | 3 | 8 | 4 | 5)
+}
+
+fn has_charset(code: u8) -> bool
+    ensures { result ≡ has_charset code }
+{
+    matches!(code, 252 | 254 | 247 | 248 | 15 | 253)
+}
+
+fn append_sized(out: &mut Line, name: &str, size: u16) -> Result<(), AllocError>
+    ensures { OnOk result (line_bytes out.new ≡ line_bytes out.old ++ (name.now ++ size_text size)) }
+{
+    out.push_str(name)?;
+    append_size(out, size)
+}
+
+fn append_fractional(out: &mut Line, name: &str, size: u16) -> Result<(), AllocError>
+    ensures { OnOk result (line_bytes out.new ≡ line_bytes out.old ++ (name.now ++ fraction_size size)) }
+{
+    out.push_str(name)?;
+    append_fraction(out, size)
+}
+
+fn append_other(out: &mut Line, column_type: &ColumnType) -> Result<(), AllocError>
+    ensures { OnOk result (line_bytes out.new ≡ line_bytes out.old ++ other_name column_type.now) }
+{
+    let size = column_type.size;
+    match column_type.code {
+        10 => out.push_str("date"),
+        13 => out.push_str("year"),
+        245 => out.push_str("json"),
+        255 => out.push_str("geometry"),
+        16 => append_sized(out, "bit", size),
+        17 => append_fractional(out, "timestamp", size),
+        18 => append_fractional(out, "datetime", size),
+        19 => append_fractional(out, "time", size),
+        _ => out.push_str("unknown"),
+    }
+}
+
+fn append_two(out: &mut Line, first: &str, second: &str) -> Result<(), AllocError>
+    ensures { OnOk result (line_bytes out.new ≡ line_bytes out.old ++ (first.now ++ second.now)) }
+{
+    out.push_str(first)?;
+    out.push_str(second)
+}
+
+fn append_bytes_name(out: &mut Line, column_type: &ColumnType) -> Result<(), AllocError>
+    ensures { OnOk result (line_bytes out.new ≡ line_bytes out.old ++ bytes_name column_type.now) }
+{
+    match column_type.code {
+        252 => append_two(out, lob_size(column_type.size), "blob"),
+        254 => append_sized(out, "binary", column_type.size),
+        _ => append_sized(out, "varbinary", column_type.size),
+    }
+}
+
+fn append_text_name(out: &mut Line, column_type: &ColumnType) -> Result<(), AllocError>
+    ensures { OnOk result (line_bytes out.new ≡ line_bytes out.old ++ text_name column_type.now) }
+{
+    match column_type.code {
+        252 => append_two(out, lob_size(column_type.size), "text"),
+        254 => out.push_str("char"),
+        247 => out.push_str("enum"),
+        248 => out.push_str("set"),
+        _ => out.push_str("varchar"),
+    }
+}
+
+/// Whether a column's type is named as one of bytes.
+fn is_bytes(column_type: &ColumnType) -> bool
+    ensures { result ≡ is_bytes column_type.now }
+{
+    match column_type.charset {
+        None => false,
+        Some(charset) => is_binary(encoding_of(charset)) && !is_named(column_type.code),
+    }
+}
+
+fn is_named(code: u8) -> bool
+    ensures { result ≡ is_named code }
+{
+    matches!(code, 247 | 248)
+}
+
+fn append_charset_type(out: &mut Line, column_type: &ColumnType) -> Result<(), AllocError>
+    ensures { OnOk result (line_bytes out.new ≡ line_bytes out.old ++ charset_type column_type.now) }
+{
+    if is_bytes(column_type) {
+        return append_bytes_name(out, column_type);
+    }
+    append_text_name(out, column_type)?;
+    match column_type.charset {
+        None => Ok(()),
+        Some(charset) => append_two(out, " ", charset_name(charset)),
+    }
+}
+
+fn append_decimal_type(out: &mut Line, column_type: &ColumnType) -> Result<(), AllocError>
+    requires { column_type.now.code ≡ 246 }
+    ensures { OnOk result (line_bytes out.new ≡ line_bytes out.old ++ type_text column_type.now) }
+{
+    out.push_str("decimal(")?;
+    append_number(out, u64::from(column_type.size))?;
+    out.push_str(",")?;
+    append_number(out, u64::from(column_type.scale))?;
+    append_two(out, ")", sign_of(column_type.unsigned))
+}
+
+/// The text of a type.
+pub(crate) fn append_type(out: &mut Line, column_type: &ColumnType) -> Result<(), AllocError>
+    ensures { OnOk result (line_bytes out.new ≡ line_bytes out.old ++ type_text column_type.now) }
+{
+    let code = column_type.code;
+    if is_number(code) {
+        return append_two(out, number_name(code), sign_of(column_type.unsigned));
+    }
+    if code == 246 {
+        return append_decimal_type(out, column_type);
+    }
+    if has_charset(code) {
+        return append_charset_type(out, column_type);
+    }
+    append_other(out, column_type)
+}

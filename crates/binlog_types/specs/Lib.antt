@@ -1,0 +1,3 @@
+pub mod Charsets
+pub mod ColumnTypes
+pub mod Found

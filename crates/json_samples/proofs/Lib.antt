@@ -1,0 +1,3 @@
+pub mod OnTypes
+pub mod OnValues
+pub mod OnLines

@@ -1,0 +1,18 @@
+-- What is unfolded besides to compute lines, and the changes of a file.
+use Rattle.std.specs.Prelude.{⊤}
+use Rattle.uuid.specs.Text.{by_index}
+use Rattle.binlog_frame.specs.Header.{length_field, header_of}
+use Rattle.binlog_frame.specs.Reading.{stop_of, reading_from, algorithm_in, checksum_after, magic_stop, reading_of}
+use Rattle.binlog_table.specs.Extent.{extent_len}
+use Rattle.binlog_table.specs.Image.{value_at, cell_at, cells_at, image_at}
+use Rattle.binlog_table.specs.Rows.{optional_image_at, row_at, rows_at, rows_in, rows_of}
+use Rattle.binlog_table.specs.RowsBody.{rows_parts_at}
+use Rattle.binlog_table.specs.Value.{value_of}
+use Rattle.binlog_feed.specs.Bodies.{text_of, gtid_of, is_xid, next_name_of}
+use Rattle.binlog_feed.specs.Symbols.{class, symbol}
+use Rattle.binlog_feed.specs.Faults.{lacks_reading, structure_fault}
+use Rattle.binlog_feed.specs.AllFaults.{any_fault}
+
+unfoldable pub on_lines : ⊤
+unfolding by_index length_field header_of stop_of reading_from algorithm_in checksum_after magic_stop reading_of extent_len value_at cell_at cells_at image_at optional_image_at row_at rows_at rows_in rows_of rows_parts_at value_of text_of gtid_of is_xid next_name_of class symbol lacks_reading structure_fault any_fault
+on_lines = tt

@@ -1,0 +1,10 @@
+pub mod Bytes
+pub mod Types
+pub mod Collations
+pub mod Integers
+pub mod Texts
+pub mod Names
+pub mod Others
+pub mod Lines
+pub mod Keys
+pub mod Histories

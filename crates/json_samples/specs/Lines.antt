@@ -1,0 +1,113 @@
+-- Lines of a change, plain and full, and the table maps that they need.
+use Prim.Native.String.{String}
+use Rattle.std.specs.Prelude.{◌≡◌, ℕ, negsuc, List, [], ◌∷◌, Option, Some, None, Result, Ok, Err, codes}
+use Rattle.binlog_select.specs.declared.kind.ChangeKind.TheVariants.{Insert, Update}
+use Rattle.binlog_table.specs.Map.{Map, map_at, no_sections}
+use Rattle.binlog_table.specs.Rows.{Row}
+use Rattle.binlog_table.specs.Value.{Content}
+use Rattle.binlog_table.specs.Value.Content.{absent, null, int, uint, year, bytes}
+use Rattle.binlog_table.specs.declared.fault.MapFault.{MapFault}
+use Rattle.binlog_feed.specs.Changes.{RowChange}
+use Rattle.binlog_json.specs.declared.style.Style.{Style}
+use Rattle.binlog_json.specs.declared.style.Style.TheVariants.{Plain, Full}
+use Rattle.binlog_json.specs.FullLine.{text_as}
+use Rattle.json_samples.specs.Bytes.{hex, utf8}
+use Rattle.json_samples.specs.Types.{behind_year, charsets_of_each, body_with}
+
+abbrev pub map_or_none : Result Map MapFault → Map
+map_or_none (Ok map) = map
+map_or_none (Err fault) =
+    record { table_id = 0; schema = []; table = []; columns = []; names = []; key = []; value_names = []; sections = no_sections }
+
+abbrev pub table_in : List ℕ → Map
+table_in body = map_or_none (map_at body)
+
+-- the server's own identity
+abbrev pub source : List ℕ
+source = hex "c0 c3 ab b2 e9 92 11 f1 b8 61 02 fc 00 00 00 01"
+
+abbrev pub inserted : List Content → Row
+inserted cells = record { before = None; after = Some cells }
+
+abbrev pub Writes : Style → RowChange → String → Type 0
+Writes style change line = text_as style change ≡ utf8 line
+
+-- ---- a line with a YEAR column
+
+-- The row is 4000000000, 2024, 4000000000, -5 and 200. The plain reading takes the bit of YEAR for b, that of b for c, and that of c for d.
+abbrev pub year_change : RowChange
+year_change = record {
+  file = codes "binlog.000001";
+  position = 573;
+  number = 1;
+  gtid = Some (source, 3);
+  kind = Insert;
+  timestamp = 1795695202;
+  table = table_in behind_year;
+  row = inserted (uint 4000000000 ∷ year 2024 ∷ uint 4000000000 ∷ uint 18446744073709551611 ∷ int (negsuc 55) ∷ []);
+}
+
+abbrev pub LineWithYear : Type 0
+LineWithYear =
+    Writes Full year_change
+    "{\"after\":{\"a\":4000000000,\"b\":4000000000,\"c\":-5,\"d\":200,\"y\":\"2024\"},\"before\":null,\"gtid\":\"c0c3abb2-e992-11f1-b861-02fc00000001:3\",\"key\":[],\"types\":{\"a\":\"int unsigned\",\"b\":\"int unsigned\",\"c\":\"bigint\",\"d\":\"tinyint unsigned\",\"y\":\"year\"},\"kind\":\"insert\",\"schema\":\"full\",\"table\":\"y\",\"timestamp\":1795695202,\"token\":\"573.1@binlog.000001\"}"
+    × Writes Plain year_change
+    "{\"after\":{\"a\":4000000000,\"b\":4000000000,\"c\":18446744073709551611,\"d\":-56,\"y\":\"2024\"},\"before\":null,\"gtid\":\"c0c3abb2-e992-11f1-b861-02fc00000001:3\",\"kind\":\"insert\",\"schema\":\"full\",\"table\":\"y\",\"timestamp\":1795695202,\"token\":\"573.1@binlog.000001\"}"
+
+-- ---- a line with character sets
+
+-- the second row of a table with a text of each
+abbrev pub charsets_change : RowChange
+charsets_change = record {
+  file = codes "binlog.000001";
+  position = 1367;
+  number = 2;
+  gtid = Some (source, 5);
+  kind = Insert;
+  timestamp = 1795695203;
+  table = table_in charsets_of_each;
+  row = inserted
+      (uint 2 ∷ bytes (hex "e9 20 80") ∷ bytes (hex "d6 d0") ∷ bytes (hex "00 e9 20 ac") ∷ bytes (hex "f0 9f 98 80 c3 a9") ∷ bytes (hex "c3 a9") ∷ bytes (hex "61")
+      ∷ bytes (hex "00 ff") ∷ bytes (hex "00 ff 00") ∷ bytes (hex "c3 a9") ∷ bytes (hex "c3 a9") ∷ []);
+}
+
+abbrev pub LineWithCharsets : Type 0
+LineWithCharsets =
+    Writes Full charsets_change
+    "{\"after\":{\"a\":\"a\",\"b\":{\"base64\":\"AP8AAA==\"},\"bl\":{\"base64\":\"w6k=\"},\"g\":{\"base64\":\"1tA=\",\"charset\":\"gbk\"},\"id\":2,\"l\":\"é €\",\"tx\":\"Ã©\",\"u16\":\"é€\",\"u3\":\"é\",\"u8\":\"😀é\",\"vb\":{\"base64\":\"AP8A\"}},\"before\":null,\"gtid\":\"c0c3abb2-e992-11f1-b861-02fc00000001:5\",\"key\":[\"id\"],\"types\":{\"a\":\"varchar ascii\",\"b\":\"binary(4)\",\"bl\":\"blob\",\"g\":\"varchar gbk\",\"id\":\"int unsigned\",\"l\":\"varchar latin1\",\"tx\":\"text latin1\",\"u16\":\"varchar utf16\",\"u3\":\"varchar utf8mb3\",\"u8\":\"varchar utf8mb4\",\"vb\":\"varbinary(10)\"},\"kind\":\"insert\",\"schema\":\"full\",\"table\":\"t\",\"timestamp\":1795695203,\"token\":\"1367.2@binlog.000001\"}"
+    × Writes Plain charsets_change
+    "{\"after\":{\"a\":\"a\",\"b\":{\"base64\":\"AP8=\"},\"bl\":\"é\",\"g\":{\"base64\":\"1tA=\"},\"id\":2,\"l\":{\"base64\":\"6SCA\"},\"tx\":\"é\",\"u16\":{\"base64\":\"AOkgrA==\"},\"u3\":\"é\",\"u8\":\"😀é\",\"vb\":{\"base64\":\"AP8A\"}},\"before\":null,\"gtid\":\"c0c3abb2-e992-11f1-b861-02fc00000001:5\",\"kind\":\"insert\",\"schema\":\"full\",\"table\":\"t\",\"timestamp\":1795695203,\"token\":\"1367.2@binlog.000001\"}"
+
+-- ---- an update with a key
+
+-- y YEAR, v INT, l VARCHAR(20) of latin1, b BINARY(4) and n TINYINT UNSIGNED; the bits are 1, 0 and 1, and the key is l, v, b, y
+abbrev pub keyed_body : List ℕ
+keyed_body = body_with "05 0d 03 0f fe 01 04 14 00 fe 04 1f 01 01 a0 03 02 08 3f 04 0a 01 79 01 76 01 6c 01 62 01 6e 08 04 02 01 03 00"
+
+abbrev pub keyed_change : Option (List Content) → Option (List Content) → RowChange
+keyed_change before after = record {
+  file = codes "binlog.000002";
+  position = 4;
+  number = 7;
+  gtid = None;
+  kind = Update;
+  timestamp = 1;
+  table = table_in keyed_body;
+  row = record { before = before; after = after };
+}
+
+-- From 2024, -5, é, 00 ff 00 00 and 200 to 2025 and null. The plain reading takes the bit of YEAR for v, and that of v for n. The new
+-- image has no l, v and b.
+abbrev pub keyed_update : RowChange
+keyed_update =
+    keyed_change (Some (year 2024 ∷ uint 4294967291 ∷ bytes (hex "e9") ∷ bytes (hex "00 ff") ∷ int (negsuc 55) ∷ []))
+    (Some (year 2025 ∷ absent ∷ absent ∷ absent ∷ null ∷ []))
+
+-- `types` has the columns that an image lacks
+abbrev pub LineWithKey : Type 0
+LineWithKey =
+    Writes Full keyed_update
+    "{\"after\":{\"n\":null,\"y\":\"2025\"},\"before\":{\"b\":{\"base64\":\"AP8AAA==\"},\"l\":\"é\",\"n\":200,\"v\":-5,\"y\":\"2024\"},\"gtid\":null,\"key\":[\"l\",\"v\",\"b\",\"y\"],\"types\":{\"b\":\"binary(4)\",\"l\":\"varchar latin1\",\"n\":\"tinyint unsigned\",\"v\":\"int\",\"y\":\"year\"},\"kind\":\"update\",\"schema\":\"s\",\"table\":\"t\",\"timestamp\":1,\"token\":\"4.7@binlog.000002\"}"
+    × Writes Plain keyed_update
+    "{\"after\":{\"n\":null,\"y\":\"2025\"},\"before\":{\"b\":{\"base64\":\"AP8=\"},\"l\":{\"base64\":\"6Q==\"},\"n\":-56,\"v\":4294967291,\"y\":\"2024\"},\"gtid\":null,\"kind\":\"update\",\"schema\":\"s\",\"table\":\"t\",\"timestamp\":1,\"token\":\"4.7@binlog.000002\"}"
+    × (Writes Full keyed_update "{}" → ⊥)

@@ -1,0 +1,40 @@
+-- Values that full lines have as plain lines do.
+use Prim.Native.String.{String}
+use Rattle.std.specs.Prelude.{◌≡◌, ℕ, ◌-◌, true, false, List, map, None, codes}
+use Rattle.serde_json.specs.Written.{compact_text}
+use Rattle.binlog_table.specs.Value as cell
+use Rattle.binlog_table.specs.Value.{Content}
+use Rattle.binlog_json.specs.Values.{content_data}
+use Rattle.binlog_json.specs.FullValues.{full_data}
+use Rattle.json_samples.specs.Bytes.{hex}
+use Rattle.json_samples.specs.Texts.{text_type}
+
+-- a value of a type has this JSON in both
+abbrev pub Both : ℕ → Content → String → Type 0
+Both code content json = (compact_text (full_data (text_type code 0 None) None content) ≡ codes json) × (compact_text (content_data None content) ≡ codes json)
+
+-- two years, a date, a time below zero, a date and time, and seconds since 1970
+abbrev pub Times : Type 0
+Times =
+    Both 13 (cell.year 2024) "\"2024\"" × Both 13 (cell.year 0) "\"0000\"" × Both 10 (cell.date (record { year = 2024; month = 2; day = 3 })) "\"2024-02-03\""
+    × Both 19 (cell.time (record { negative = true; hour = 1; minute = 2; second = 3; fraction = 0; precision = 0 })) "\"-01:02:03\""
+    × Both 18 (cell.date_time (record { year = 2024; month = 1; day = 2; hour = 3; minute = 4; second = 5; fraction = 6780; precision = 3 })) "\"2024-01-02 03:04:05.678\""
+    × Both 17 (cell.timestamp (record { seconds = 1714982400; fraction = 0; precision = 0 })) "\"1714982400\""
+
+abbrev pub digits : String → List ℕ
+digits text = map (λ code. code - 48) (codes text)
+
+-- a zero that is stored with a sign has none
+abbrev pub Decimals : Type 0
+Decimals =
+    Both 246 (cell.decimal (record { negative = false; digits = digits "0000000314"; scale = 2 })) "\"3.14\""
+    × Both 246 (cell.decimal (record { negative = true; digits = digits "0005"; scale = 2 })) "\"-0.05\""
+    × Both 246 (cell.decimal (record { negative = true; digits = digits "0000"; scale = 2 })) "\"0.00\""
+    × Both 246 (cell.decimal (record { negative = false; digits = digits "120"; scale = 0 })) "\"120\""
+
+-- BIT(9), FLOAT 1.5, DOUBLE 0.1, the JSON {"a":1}, and null
+abbrev pub RawValues : Type 0
+RawValues =
+    Both 16 (cell.bits 257) "257" × Both 4 (cell.raw (hex "00 00 c0 3f")) "{\"raw\":\"AADAPw==\"}"
+    × Both 5 (cell.raw (hex "9a 99 99 99 99 99 b9 3f")) "{\"raw\":\"mpmZmZmZuT8=\"}"
+    × Both 245 (cell.raw (hex "00 01 00 0c 00 0b 00 01 00 05 01 00 61")) "{\"raw\":\"AAEADAALAAEABQEAYQ==\"}" × Both 15 cell.null "null"

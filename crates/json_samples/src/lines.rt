@@ -1,0 +1,23 @@
+//! The definitions of lines, keys and histories in both styles.
+ghost use Rattle.json_samples.specs.Lines.{LineWithYear, LineWithCharsets, LineWithKey};
+ghost use Rattle.json_samples.specs.Keys.{FourColumns, MissingColumns, KeysOfUpdate};
+ghost use Rattle.json_samples.specs.Histories.{FullKey, PlainKey, OtherStyle};
+
+/// The plain line and the full one of a change, and its keys in both styles.
+#[tactic(auto, unfolding(crate::proofs::OnTypes::on_types, crate::proofs::OnValues::on_values, crate::proofs::OnLines::on_lines))]
+pub fn sample_lines()
+    ensures line_with_year { LineWithYear }
+    ensures line_with_charsets { LineWithCharsets }
+    ensures line_with_key { LineWithKey }
+    ensures four_columns { FourColumns }
+    ensures missing_columns { MissingColumns }
+    ensures keys_of_update { KeysOfUpdate }
+{}
+
+/// The history of a key over a file of two changes.
+#[tactic(auto, unfolding(crate::proofs::OnTypes::on_types, crate::proofs::OnValues::on_values, crate::proofs::OnLines::on_lines))]
+pub fn sample_histories()
+    ensures full_key { FullKey }
+    ensures plain_key { PlainKey }
+    ensures other_style { OtherStyle }
+{}

@@ -1,0 +1,165 @@
+"""Full lines beside plain ones: over the logs of servers they tell the same changes, go on behind tokens, and tell the stories of keys.
+What is kept of a table's map is never another one's."""
+import json
+import struct
+from functools import partial
+from itertools import cycle, islice
+from pathlib import Path
+from typing import NamedTuple
+
+from built.check import Check, Wanted, differs, run
+from built.logs import MAP_BODY, SOURCE_ID, TABLE_MAP, TIME, WRITE_ROWS, front, full_lines, put, transaction, worked_log
+from built.server_logs import BANK, KEYS, SHOP, SHOP_KEYS, logs_of
+from built.truth import TRUTH
+
+# The names of each table's key, in key order.
+KEY_NAMES = {**{table: list(names) for table, names in SHOP_KEYS.items()}, **{table: [name] for table, name in KEYS.items()}}
+
+# What a plain line has that a full line has as it is.
+SAME = ("gtid", "kind", "schema", "table", "timestamp", "token")
+# The first words of types whose values are as in plain lines, of which YEAR is one.
+SAME_TYPES = ("decimal", "float", "double", "year", "date", "time", "datetime", "timestamp", "bit", "json", "geometry")
+
+# How many reasons a check gives.
+REASONS = 4
+
+# So many tables, gone round by so many transactions. The maps of a few tables are kept, those of others are read anew.
+MAPS = ((1, 25), (7, 200), (41, 500))
+
+Line = dict[str, object]
+
+
+class Charset(NamedTuple):
+    """A collation, with a VARCHAR column's type in it, and the text of the byte e9."""
+
+    collation: int
+    type: str
+    text: str
+
+
+CHARSETS = (
+    Charset(8, "varchar latin1", '"é"'),
+    Charset(28, "varchar gbk", '{"base64":"6Q==","charset":"gbk"}'),
+    Charset(45, "varchar utf8mb4", '{"base64":"6Q==","charset":"utf8mb4"}'),
+    Charset(63, "varbinary(80)", '{"base64":"6Q=="}'),
+    Charset(17, "varchar", '{"base64":"6Q=="}'),
+)
+
+
+def told(program: Path, folder: Path, logs: list[str], *options: str) -> tuple[list[bytes], list[str]]:
+    """The lines of `read` with these options, and what is wrong with the run."""
+    came = run(program, ["read", *options, *logs], folder)
+    return came.stdout.splitlines(keepends=True), differs(came, Wanted(0, None))
+
+
+def size(type_text: str) -> str:
+    """A type without its size, sign and character set."""
+    return type_text.split("(")[0].split(" ")[0]
+
+
+def unlike_image(plain: Line | None, full: Line | None, types: dict[str, str]) -> list[str]:
+    """What an image tells otherwise than a plain line's: its columns, and values of the types that are the same."""
+    if plain is None or full is None:
+        return [] if plain is full else ["an image is there in one of them only"]
+    if list(plain) != list(full):
+        return [f"the columns are {list(full)}"]
+    same = [name for name in full if full[name] is None or size(types[name]) in SAME_TYPES]
+    return [f"{name} is {full[name]}" for name in same if full[name] != plain[name]]
+
+
+def unlike(plain: Line, full: Line) -> list[str]:
+    """What a full line tells otherwise than its plain one."""
+    reasons = [] if list(full) == ["after", "before", "gtid", "key", "types", *SAME[1:]] else [f"the members are {list(full)}"]
+    reasons += [f"{name} is {full[name]}" for name in SAME if full[name] != plain[name]]
+    types = full["types"]
+    reasons += [] if list(types) == sorted(types, key=str.encode) else [f"the types are {types}"]
+    for image in ("before", "after"):
+        reasons += [f"{image}: {reason}" for reason in unlike_image(plain[image], full[image], types)]
+    wanted = KEY_NAMES.get(plain["table"], ["id"])
+    return reasons + ([] if full["key"] == wanted else [f"the key is {full['key']}"])
+
+
+def judge_same(log_folder: Path, program: Path, folder: Path) -> list[str]:
+    """Full lines tell the changes of plain ones."""
+    plain, reasons = told(program, folder, logs_of(log_folder))
+    full, more = told(program, folder, logs_of(log_folder), "--full")
+    if len(plain) != len(full) or not full:
+        return [*reasons, *more, f"there are {len(full)} full lines, and {len(plain)} plain ones"]
+    pairs = [(json.loads(one), json.loads(other)) for one, other in zip(plain, full)]
+    found = [f"{one['token']}: {reason}" for one, other in pairs for reason in unlike(one, other)]
+    return [*reasons, *more, *found[:REASONS]]
+
+
+def judge_going_on(log_folder: Path, step: int, program: Path, folder: Path) -> list[str]:
+    """Behind a full line's token the others follow. One of so many lines is gone on from, and the last."""
+    lines, reasons = told(program, folder, logs_of(log_folder), "--full")
+    for number in range(len(lines) - 1, -1, -step):
+        token = json.loads(lines[number])["token"]
+        rest, more = told(program, folder, logs_of(log_folder), "--full", "--from", token)
+        reasons += more if rest == lines[number + 1 :] else [*more, f"behind {token} stand {len(rest)} lines, or others"]
+    return reasons[:REASONS]
+
+
+def stories_of(lines: list[bytes], table: str) -> dict[str, list[bytes]]:
+    """The story of each key of a table, by the names of the key that its full lines tell."""
+    stories: dict[str, list[bytes]] = {}
+    for text in lines:
+        line = json.loads(text)
+        images = [image for image in (line["before"], line["after"]) if image] if line["table"] == table else []
+        for key in sorted({json.dumps([image[name] for name in line["key"]]) for image in images}):
+            stories.setdefault(key, []).append(text)
+    return stories
+
+
+def judge_stories(table: str, program: Path, folder: Path) -> list[str]:
+    """`history --full` tells the full lines of each key."""
+    lines, reasons = told(program, folder, logs_of(SHOP), "--full")
+    stories = stories_of(lines, table)
+    for key, story in stories.items():
+        words = ["history", "--full", "--schema", "shop", "--table", table, "--key", key, *logs_of(SHOP)]
+        reasons += [f"{key}: {reason}" for reason in differs(run(program, words, folder), Wanted(0, b"".join(story)))]
+    return reasons if stories else [*reasons, f"no line is of the table {table}"]
+
+
+def unit(place: int, number: int, table: str, charset: Charset) -> tuple[bytes, str]:
+    """A transaction that inserts (1, e9) into a table whose texts are in a character set, and its line."""
+    name = table.encode()
+    table_map = MAP_BODY[:11] + bytes([len(name)]) + name + MAP_BODY[13:] + bytes([2, 1, charset.collation])
+    rows = bytes.fromhex("6400000000000100020002fffc0100000001e9")
+    line = (
+        f'{{"after":{{"id":1,"v":{charset.text}}},"before":null,"gtid":"{SOURCE_ID}:{number}","key":["id"],'
+        f'"types":{{"id":"int","v":"{charset.type}"}},"kind":"insert","schema":"s","table":"{table}",'
+        f'"timestamp":{TIME},"token":"{place}.1@log"}}\n'
+    )
+    return transaction(place, number, (TABLE_MAP, table_map), (WRITE_ROWS, rows)), line
+
+
+def judge_maps(tables: int, count: int, program: Path, folder: Path) -> list[str]:
+    """So many transactions, which go round so many tables and all character sets: the maps of two may differ in one byte alone."""
+    parts, lines = [front()], []
+    place = len(parts[0])
+    for number, charset in enumerate(islice(cycle(CHARSETS), count), 1):
+        part, line = unit(place, number, f"t{number % tables}", charset)
+        parts.append(part)
+        lines.append(line)
+        place += len(part)
+    put(folder, ["log"], b"".join(parts))
+    return differs(run(program, ["read", "--full", "log"], folder), Wanted(0, "".join(lines).encode()))
+
+
+def judge_long(count: int, program: Path, folder: Path) -> list[str]:
+    """All full lines of a long log come out."""
+    put(folder, ["log"], worked_log(count))
+    return differs(run(program, ["read", "--full", "log"], folder), Wanted(0, full_lines(count, "log")))
+
+
+def checks() -> list[Check]:
+    """The checks of full lines. Of the truth's 720 lines, and of the bank's, some are gone on from."""
+    logs = (("the shop", SHOP, 1), ("the bank", BANK, 40), ("the truth", TRUTH, 60))
+    return [
+        *[Check(f"{what}: full lines tell what plain ones do", partial(judge_same, folder)) for what, folder, _ in logs],
+        *[Check(f"{what}: full lines go on", partial(judge_going_on, folder, step)) for what, folder, step in logs],
+        *[Check(f"the shop's stories of {table} in full lines", partial(judge_stories, table)) for table in SHOP_KEYS],
+        *[Check(f"full lines of {count} maps of {tables} tables", partial(judge_maps, tables, count)) for tables, count in MAPS],
+        Check("a long log in full lines", partial(judge_long, 12_000)),
+    ]
