@@ -82,37 +82,44 @@ def unit_line(place: int, number: int, name: str) -> str:
     return f"{place}\t{place + 218}\t{SOURCE_ID}:{number}\txid\t{name}\n"
 
 
+def lines_of(line: Callable[[int, int, str], str], count: int, name: str) -> bytes:
+    """The lines for a worked log, by the line for one of its transactions."""
+    return "".join(line(153 + 218 * number, number + 1, name) for number in range(count)).encode()
+
+
 def unit_lines(count: int, name: str) -> bytes:
     """The lines of `transactions` for a worked log."""
-    return "".join(unit_line(153 + 218 * number, number + 1, name) for number in range(count)).encode()
+    return lines_of(unit_line, count, name)
+
+
+def row_line(value: str, declared: str, place: int, number: int, name: str, table: str) -> str:
+    """The line of a row for one of these transactions: the value of `v`, and what is said of the table's columns."""
+    return (
+        f'{{"after":{{"id":1,"v":{value}}},"before":null,'
+        f'"gtid":"{SOURCE_ID}:{number}",{declared}"kind":"insert","schema":"s","table":"{table}",'
+        f'"timestamp":{TIME},"token":"{place}.1@{name}"}}\n'
+    )
 
 
 def change_line(place: int, number: int, name: str, table: str = "t") -> str:
     """The line of `read` for one of these transactions."""
-    return (
-        '{"after":{"id":1,"v":"a"},"before":null,'
-        f'"gtid":"{SOURCE_ID}:{number}","kind":"insert","schema":"s","table":"{table}",'
-        f'"timestamp":{TIME},"token":"{place}.1@{name}"}}\n'
-    )
+    return row_line('"a"', "", place, number, name, table)
 
 
 def change_lines(count: int, name: str) -> bytes:
     """The lines of `read` for a worked log."""
-    return "".join(change_line(153 + 218 * number, number + 1, name) for number in range(count)).encode()
+    return lines_of(change_line, count, name)
 
 
 def full_line(place: int, number: int, name: str, table: str = "t") -> str:
     """The full line of `read --full` for one of these transactions. The table map says nothing of character sets."""
-    return (
-        '{"after":{"id":1,"v":{"base64":"YQ=="}},"before":null,'
-        f'"gtid":"{SOURCE_ID}:{number}","key":["id"],"types":{{"id":"int","v":"varchar"}},"kind":"insert","schema":"s","table":"{table}",'
-        f'"timestamp":{TIME},"token":"{place}.1@{name}"}}\n'
-    )
+    declared = '"key":["id"],"types":{"id":"int","v":"varchar"},'
+    return row_line('{"base64":"YQ=="}', declared, place, number, name, table)
 
 
 def full_lines(count: int, name: str) -> bytes:
     """The lines of `read --full` for a worked log."""
-    return "".join(full_line(153 + 218 * number, number + 1, name) for number in range(count)).encode()
+    return lines_of(full_line, count, name)
 
 
 def insert_into_own_table(place: int, number: int) -> bytes:
