@@ -1,7 +1,8 @@
--- The loop over packed numbers.
-use Rattle.std.proofs.Common.{◌≡◌, ℕ, zero, suc, ◌+◌, ◌-◌, ◌<◌, ◌≤◌, List, [], ◌∷◌, ◌++◌, drop, Some, None, append_assoc, append-nil, sym, subst, ◌∙◌, arith}
+-- Packed numbers, one after another.
+use Rattle.std.proofs.Common.{◌≡◌, ℕ, zero, suc, ◌+◌, ◌-◌, ◌<◌, ◌≤◌, min, List, [], ◌∷◌, ◌++◌, length, drop, slice_get, option_map, unwrap_or, Some, None, append_assoc, append-nil, refl, ap, sym, subst, ◌∙◌, ⊎_elim, arith}
+use Rattle.std.proofs.lemmas.Bool.{cases_lt}
 use Rattle.binlog_table.specs.Packed.{packed_at}
-use Rattle.binlog_types.specs.ColumnTypes.{numbers_from}
+use Rattle.binlog_types.specs.ColumnTypes.{numbers_from, numbers_in}
 
 left_one : (n i : ℕ) → i < n → n - i ≡ suc (n - (i + 1))
 left_one n i h = omega arith
@@ -24,3 +25,23 @@ numbers-end numbers bytes total n i past so_far =
     let none : n - i ≡ 0 = omega arith in
     let last : numbers ++ numbers_from zero bytes ≡ total = subst (λ (k : ℕ). numbers ++ numbers_from k bytes ≡ total) none so_far in
     sym (append-nil numbers) ∙ last
+
+-- the number at an index, where as many are read as that needs
+read_at : (m n i : ℕ) (bytes : List ℕ) → i < m → i < n → slice_get (numbers_from m bytes) i ≡ slice_get (numbers_from n bytes) i
+unfolding numbers_from
+read_at zero n i bytes a b = absurd (omega arith)
+read_at (suc m) zero i bytes a b = absurd (omega arith)
+read_at (suc m) (suc n) zero bytes a b =
+    elim (packed_at bytes) as (λ p. slice_get (unwrap_or (option_map (λ x. x.0 ∷ numbers_from m (drop x.1 bytes)) p) []) zero ≡ slice_get (unwrap_or (option_map (λ x. x.0 ∷ numbers_from n (drop x.1 bytes)) p) []) zero)
+    [ None ↦ refl | Some x ↦ refl ]
+read_at (suc m) (suc n) (suc i) bytes a b =
+    elim (packed_at bytes) as (λ p. slice_get (unwrap_or (option_map (λ x. x.0 ∷ numbers_from m (drop x.1 bytes)) p) []) (suc i) ≡ slice_get (unwrap_or (option_map (λ x. x.0 ∷ numbers_from n (drop x.1 bytes)) p) []) (suc i))
+    [ None ↦ refl | Some x ↦ read_at m n i (drop x.1 bytes) (omega arith) (omega arith) ]
+
+-- No more numbers are read than there are columns.
+pub enough : (count index : ℕ) (bytes : List ℕ) → index < count → slice_get (numbers_from (min count (length bytes)) bytes) index ≡ slice_get (numbers_in bytes) index
+enough count index bytes below =
+    ⊎_elim
+    (λ (within : index < length bytes). read_at (min count (length bytes)) (length bytes) index bytes (omega arith) within)
+    (λ (past : length bytes ≤ index). let all : min count (length bytes) ≡ length bytes = omega arith in ap (λ (n : ℕ). slice_get (numbers_from n bytes) index) all)
+    (cases_lt index (length bytes))

@@ -1,11 +1,13 @@
--- The types of a table's columns as a server declares them, by the sections of the body of its table map.
-use Rattle.std.specs.Prelude.{ℕ, zero, suc, ◌+◌, ◌*◌, Bool, ◌&&◌, ◌||◌, List, [], ◌∷◌, length, drop, slice_get, slice_index, Option, Some, None, option_map, option_and_then, unwrap_or, ◌==◌, if◌then◌else◌}
+-- The types of a table's columns as a server declares them, by the sections of the body of its table map. Which field has what:
+-- `Optional_metadata_field_type` in MySQL's `Table_map_event`; how a server writes them: `sql/log_event.cc`.
+use Rattle.std.specs.Prelude.{ℕ, zero, suc, ◌+◌, ◌*◌, Bool, ◌&&◌, ◌||◌, List, [], ◌∷◌, length, drop, take, map, count_by, sum_by, slice_get, slice_index, Option, Some, None, option_map, option_and_then, unwrap_or, ◌==◌, if◌then◌else◌}
+use Rattle.std.specs.List.{range_with_len}
 use Rattle.std.specs.Option.{option_or}
 use Rattle.binlog_table.specs.Packed.{packed_at}
 use Rattle.binlog_table.specs.Columns.{has_byte, has_pair, is_numeric, high_bit, real_type, string_len}
+use Rattle.binlog_table.specs.Fields.{Fields}
 use Rattle.binlog_table.specs.Map.{Sections}
 use Rattle.binlog_types.specs.Charsets.{charset_of}
-use Rattle.binlog_types.specs.declared.charsets.Charset.{Charset}
 use Rattle.binlog_types.specs.declared.column_type.ColumnType.{ColumnType}
 
 -- ---- character sets
@@ -18,29 +20,33 @@ numbers_from (suc fuel) bytes = unwrap_or (option_map (λ x. x.0 ∷ numbers_fro
 abbrev pub numbers_in : List ℕ → List ℕ
 numbers_in bytes = numbers_from (length bytes) bytes
 
--- the collations that two fields give to columns: one for each, or else a usual one, and those of the columns that have another one
+-- The numbers of two fields: a collation for each column; or else a usual one, and behind it pairs of a column's place among those that
+-- have a collation, and its own one.
 pub record Collations : Type 0 where
   pub each : List ℕ
   pub usual : List ℕ
 
--- the number that stands behind an index, among pairs of both
+-- the number that stands behind an index, in the first of the pairs that is for it
 abbrev pub other_for : ℕ → List ℕ → Option ℕ
 other_for index [] = None
 other_for index (i ∷ []) = None
 other_for index (i ∷ (collation ∷ pairs)) = if i == index then Some collation else other_for index pairs
 
-abbrev pub usual_for : ℕ → List ℕ → Option ℕ
-usual_for index [] = None
-usual_for index (collation ∷ pairs) = Some (unwrap_or (other_for index pairs) collation)
-
 -- the collation of a column that is so many-th among those that have one, from 0
 abbrev pub collation_at : Collations → ℕ → Option ℕ
-collation_at c index = option_or (slice_get c.each index) (usual_for index c.usual)
+collation_at c index = option_or (slice_get c.each index) (option_or (other_for index (drop 1 c.usual)) (slice_get c.usual 0))
 
-abbrev pub collations_of : Option (List ℕ) → Option (List ℕ) → Collations
-collations_of each usual = record { each = numbers_in (unwrap_or each []); usual = numbers_in (unwrap_or usual []) }
+abbrev pub collations_of : List ℕ → List ℕ → Collations
+collations_of each usual = record { each = numbers_in each; usual = numbers_in usual }
 
--- ---- columns
+-- those of columns of text, and those of ENUM and SET
+abbrev pub text_collations : Fields → Collations
+text_collations fields = collations_of (unwrap_or fields.column_charset []) (unwrap_or fields.default_charset [])
+
+abbrev pub name_collations : Fields → Collations
+name_collations fields = collations_of (unwrap_or fields.column_name_charset []) (unwrap_or fields.default_name_charset [])
+
+-- ---- what a type and its metadata say
 
 -- how many bytes of metadata a type has
 abbrev pub metadata_len : ℕ → ℕ
@@ -52,13 +58,10 @@ has_sign t = is_numeric t || t == 13
 
 -- VARCHAR, VAR_STRING, BLOB and STRING have a character set, and ENUM and SET have theirs
 abbrev pub is_text : ℕ → Bool
-is_text code = code == 15 || (code == 253 || (code == 252 || code == 254))
+is_text real = real == 15 || (real == 253 || (real == 252 || real == 254))
 
 abbrev pub is_named : ℕ → Bool
-is_named code = code == 247 || code == 248
-
-abbrev pub next_if : Bool → ℕ → ℕ
-next_if test n = if test then n + 1 else n
+is_named real = real == 247 || real == 248
 
 -- the type, which for CHAR, BINARY, ENUM and SET stands in the metadata
 abbrev pub code_of : ℕ → List ℕ → ℕ
@@ -79,46 +82,39 @@ size_of t metadata =
 abbrev pub scale_of : ℕ → List ℕ → ℕ
 scale_of t metadata = if t == 246 then slice_index metadata 1 else 0
 
--- What stands in front of a column: so many that have a bit of signedness, a character set, names of values.
-pub record Front : Type 0 where
-  pub signs : ℕ
-  pub texts : ℕ
-  pub names : ℕ
-
-abbrev pub collation_of : ℕ → Collations → Collations → Front → Option ℕ
-collation_of code texts names front =
-    if is_text code then collation_at texts front.texts else (if is_named code then collation_at names front.names else None)
-
-abbrev pub charset_at : ℕ → Collations → Collations → Front → Option Charset
-charset_at code texts names front = option_and_then charset_of (collation_of code texts names front)
-
-abbrev pub type_at : ℕ → List ℕ → List ℕ → Collations → Collations → Front → ColumnType
-type_at t metadata signs texts names front = record {
+abbrev pub column_type : ℕ → List ℕ → Bool → Option ℕ → ColumnType
+column_type t metadata unsigned collation = record {
   code = code_of t metadata;
   size = size_of t metadata;
   scale = scale_of t metadata;
-  unsigned = has_sign t && high_bit signs front.signs;
-  charset = charset_at (code_of t metadata) texts names front;
+  unsigned = unsigned;
+  charset = option_and_then charset_of collation;
 }
 
-abbrev pub behind : ℕ → List ℕ → Front → Front
-behind t metadata front = record {
-  signs = next_if (has_sign t) front.signs;
-  texts = next_if (is_text (code_of t metadata)) front.texts;
-  names = next_if (is_named (code_of t metadata)) front.names;
-}
+-- ---- columns, from 0
 
--- the types of columns behind others
-unfoldable pub types_from : List ℕ → List ℕ → List ℕ → Collations → Collations → Front → List ColumnType
-types_from [] metadata signs texts names front = []
-types_from (t ∷ ts) metadata signs texts names front =
-    type_at t metadata signs texts names front ∷ types_from ts (drop (metadata_len t) metadata) signs texts names (behind t metadata front)
+-- A column's metadata, and that of the columns behind it: it stands behind that of the columns in front.
+abbrev pub metadata_at : Sections → ℕ → List ℕ
+metadata_at s n = drop (sum_by metadata_len (take n s.types)) s.metadata
 
-abbrev pub no_front : Front
-no_front = record { signs = 0; texts = 0; names = 0 }
+abbrev pub code_at : Sections → ℕ → ℕ
+code_at s n = code_of (slice_index s.types n) (metadata_at s n)
+
+-- A column that has a bit of signedness has the one behind those of the columns in front (`Table_map_log_event::init_signedness_field`).
+abbrev pub is_unsigned : Sections → ℕ → Bool
+is_unsigned s n = has_sign (slice_index s.types n) && high_bit (unwrap_or s.fields.signs []) (count_by has_sign (take n s.types))
+
+-- Columns of text have their collations in order, and so have those of ENUM and SET: each of the two kinds is counted by itself
+-- (`Table_map_log_event::init_charset_field`, which is called for each).
+abbrev pub collation_of : Sections → ℕ → Option ℕ
+collation_of s n =
+    let front = map (code_at s) (range_with_len 0 n) in
+    if is_text (code_at s n) then collation_at (text_collations s.fields) (count_by is_text front) else
+    (if is_named (code_at s n) then collation_at (name_collations s.fields) (count_by is_named front) else None)
+
+abbrev pub type_at : Sections → ℕ → ColumnType
+type_at s n = column_type (slice_index s.types n) (metadata_at s n) (is_unsigned s n) (collation_of s n)
 
 -- the types of all columns
-abbrev pub types_of : Sections → List ColumnType
-types_of s =
-    types_from s.types s.metadata (unwrap_or s.fields.signs []) (collations_of s.fields.column_charset s.fields.default_charset)
-    (collations_of s.fields.column_name_charset s.fields.default_name_charset) no_front
+unfoldable pub types_of : Sections → List ColumnType
+types_of s = map (type_at s) (range_with_len 0 (length s.types))

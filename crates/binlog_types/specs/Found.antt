@@ -1,10 +1,9 @@
--- Collations that were read, without where they lie in memory.
-use Rattle.binlog_types.specs.declared.collations.Collations.{Collations}
-use Rattle.binlog_types.specs.ColumnTypes as spec
+-- The words of private functions.
+use Rattle.std.specs.Prelude.{ℕ, List, Option, None, slice_index_or, if◌then◌else◌}
+use Rattle.binlog_types.specs.ColumnTypes.{is_text, is_named}
 use Rattle.binlog_types.specs.declared.types.Seen.{Seen}
 
-abbrev pub collations_view : Collations → spec.Collations
-collations_view c = record { each = c.each.items; usual = c.usual.items }
-
-abbrev pub front_view : Seen → spec.Front
-front_view s = record { signs = s.signs; texts = s.texts; names = s.names }
+-- the collation of a column of this type behind those that were seen, where the collations of texts, and of ENUM and SET, are listed
+abbrev pub listed_collation : ℕ → List (Option ℕ) → List (Option ℕ) → Seen → Option ℕ
+listed_collation real texts names seen =
+    if is_text real then slice_index_or texts seen.texts None else (if is_named real then slice_index_or names seen.names None else None)

@@ -1,27 +1,19 @@
 //! The collations of a table's columns, by two optional fields of its map.
-ghost use Rattle.std.specs.Prelude.{◌≡◌, [], unwrap_or, option_map, IfOk};
-ghost use Rattle.binlog_types.specs.ColumnTypes.{numbers_in, other_for, collation_at, collations_of};
-ghost use Rattle.binlog_types.specs.Found.{collations_view};
+ghost use Rattle.std.specs.Prelude.{◌≡◌, [], None, map, drop, slice_get, slice_index_or, IfOk};
+ghost use Rattle.std.specs.List.{range_with_len};
+ghost use Rattle.std.specs.Option.{option_or};
+ghost use Rattle.binlog_types.specs.ColumnTypes.{numbers_from, other_for, collation_at, collations_of};
 
 use binlog_table::packed_at;
 use std::alloc::{AllocError, Global};
 
-/// The numbers of two fields.
-#[derive(Drop)]
-pub(crate) struct Collations {
-    /// One for each column.
-    pub(crate) each: Vec<u64>,
-    /// A usual one, and behind it pairs of a column's index and its own one.
-    pub(crate) usual: Vec<u64>,
-}
-
-/// The packed numbers that stand one after another.
-fn numbers_in(alloc: Global, bytes: &[u8]) -> Result<Vec<u64>, AllocError>
-    ensures { IfOk result (λ v. v.items ≡ numbers_in bytes.now) }
+/// The packed numbers that stand one after another, and no more than so many.
+fn numbers_from(alloc: Global, most: usize, bytes: &[u8]) -> Result<Vec<u64>, AllocError>
+    ensures { IfOk result (λ v. v.items ≡ numbers_from most bytes.now) }
 {
     let mut numbers = Vec::new(alloc);
     let mut rest = bytes;
-    for _ in 0..bytes.len() {
+    for _ in 0..most {
         let Some((number, len)) = packed_at(rest) else {
             return Ok(numbers);
         };
@@ -31,46 +23,51 @@ fn numbers_in(alloc: Global, bytes: &[u8]) -> Result<Vec<u64>, AllocError>
     Ok(numbers)
 }
 
-/// The number that stands behind an index, among pairs of both.
-fn other_for(index: u64, pairs: &[u64]) -> Option<u64>
-    ensures { result ≡ other_for index pairs.now }
+/// For each index below the count, the number that stands behind it in the first of the pairs of both that is for it. A pair is
+/// looked at once, however many columns there are.
+fn others_of(alloc: Global, count: usize, pairs: &[u64]) -> Result<Vec<Option<u64>>, AllocError>
+    ensures { IfOk result (λ v. v.items ≡ map (λ index. other_for index pairs.now) (range_with_len 0 count)) }
 {
+    let mut others = vec![in alloc; None; count]?;
     let mut rest = pairs;
-    while let [other, collation, more @ ..] = rest {
-        if *other == index {
-            return Some(*collation);
+    while let [index, collation, more @ ..] = rest {
+        let place = *index as usize;
+        if place < count && others[place].is_none() {
+            others[place] = Some(*collation);
         }
         rest = more;
     }
-    None
+    Ok(others)
 }
 
-/// The collations by the fields for each column and for the usual one.
+/// The collation by a column's own number, else by the pair that is for it, and else the usual one, the first of its field.
+fn collation_at(own: &[u64], others: &[Option<u64>], usual: &[u64], index: usize) -> Option<u64>
+    ensures { result ≡ option_or (slice_get own.now index) (option_or (slice_index_or others.now index None) (slice_get usual.now 0)) }
+{
+    if let Some(collation) = own.get(index) {
+        return Some(*collation);
+    }
+    if let Some(Some(collation)) = others.get(index) {
+        return Some(*collation);
+    }
+    usual.first().copied()
+}
+
+/// The collations of so many columns, by the fields for each one and for the usual one.
 pub(crate) fn collations_of(
     alloc: Global,
-    each: Option<&[u8]>,
-    usual: Option<&[u8]>,
-) -> Result<Collations, AllocError>
-    ensures { IfOk result (λ c. collations_view c ≡ collations_of (option_map (λ b. b.now) each.entry) (option_map (λ b. b.now) usual.entry)) }
+    count: usize,
+    each: &[u8],
+    usual: &[u8],
+) -> Result<Vec<Option<u64>>, AllocError>
+    ensures { IfOk result (λ v. v.items ≡ map (collation_at (collations_of each.now usual.now)) (range_with_len 0 count)) }
 {
-    Ok(Collations {
-        each: numbers_in(alloc, each.unwrap_or(&[]))?,
-        usual: numbers_in(alloc, usual.unwrap_or(&[]))?,
-    })
-}
-
-/// The collation of a column that is so many-th among those that have one.
-pub(crate) fn collation_at(collations: &Collations, index: usize) -> Option<u64>
-    ensures { result ≡ collation_at (collations_view collations.now) index }
-{
-    if let Some(own) = collations.each.get(index) {
-        return Some(*own);
+    let own = numbers_from(alloc, count.min(each.len()), each)?;
+    let usual = numbers_from(alloc, usual.len(), usual)?;
+    let others = others_of(alloc, count, &usual[usual.len().min(1)..])?;
+    let mut collations = Vec::with_capacity(alloc, count)?;
+    for index in 0..count {
+        collations.push(collation_at(&own, &others, &usual, index))?;
     }
-    let [usual, pairs @ ..] = collations.usual.as_slice() else {
-        return None;
-    };
-    match other_for(index as u64, pairs) {
-        Some(other) => Some(other),
-        None => Some(*usual),
-    }
+    Ok(collations)
 }

@@ -1,12 +1,11 @@
 //! The types of a table's columns, from the left.
-ghost use Rattle.std.specs.Prelude.{◌≡◌, ◌≤◌, ◌<◌, ◌+◌, ◌^◌, ◌&&◌, [], unwrap_or, slice_index, IfOk, length};
-ghost use Rattle.binlog_table.specs.Columns.{has_byte, has_pair, is_numeric, high_bit, real_type, string_len};
-ghost use Rattle.binlog_table.specs.SectionsShown.{sections_view};
-ghost use Rattle.binlog_types.specs.ColumnTypes.{metadata_len, has_sign, is_text, is_named, code_of, size_of, scale_of, type_at, behind, types_from, types_of, no_front, collation_of, charset_at};
-ghost use Rattle.binlog_types.specs.Found.{collations_view, front_view};
+ghost use Rattle.std.specs.Prelude.{◌≡◌, ◌+◌, ◌<◌, ◌^◌, ◌&&◌, None, slice_index, slice_index_or, IfOk, if◌then◌else◌};
+ghost use Rattle.binlog_table.specs.Columns.{has_byte, has_pair, high_bit};
+ghost use Rattle.binlog_types.specs.ColumnTypes.{metadata_len, has_sign, is_text, is_named, code_of, size_of, scale_of, column_type, types_of};
+ghost use Rattle.binlog_types.specs.Found.{listed_collation};
 
-use crate::charsets::{Charset, charset_of};
-use crate::collations::{Collations, collation_at, collations_of};
+use crate::charsets::charset_of;
+use crate::collations::collations_of;
 use crate::column_type::ColumnType;
 use binlog_table::TableMap;
 use std::alloc::{AllocError, Global};
@@ -116,6 +115,29 @@ fn high_bit(bitmap: &[u8], place: usize) -> bool
     }
 }
 
+/// Whether a column is unsigned, by the place of its bit.
+fn is_unsigned(code: u8, signs: &[u8], place: usize) -> bool
+    ensures { result ≡ (has_sign code && high_bit signs.now place) }
+{
+    has_sign(code) && high_bit(signs, place)
+}
+
+/// A column's type, by its type and metadata in the map, its sign and its collation.
+fn column_type(code: u8, metadata: &[u8], unsigned: bool, collation: Option<u64>) -> ColumnType
+    ensures { result ≡ column_type code metadata.now unsigned collation }
+{
+    ColumnType {
+        code: code_of(code, metadata),
+        size: size_of(code, metadata),
+        scale: scale_of(code, metadata),
+        unsigned,
+        charset: match collation {
+            None => None,
+            Some(known) => charset_of(known),
+        },
+    }
+}
+
 /// How many columns were seen that have a bit of signedness, a character set, names of values.
 #[derive(Clone, Copy)]
 struct Seen {
@@ -124,53 +146,40 @@ struct Seen {
     names: usize,
 }
 
-fn collation_of(code: u8, texts: &Collations, names: &Collations, seen: Seen) -> Option<u64>
-    ensures { result ≡ collation_of code (collations_view texts.now) (collations_view names.now) (front_view seen) }
+fn listed(collations: &[Option<u64>], index: usize) -> Option<u64>
+    ensures { result ≡ slice_index_or collations.now index None }
 {
-    if is_text(code) {
-        collation_at(texts, seen.texts)
-    } else if is_named(code) {
-        collation_at(names, seen.names)
+    match collations.get(index) {
+        None => None,
+        Some(collation) => *collation,
+    }
+}
+
+/// The collation of a column behind those that were seen.
+fn listed_collation(
+    real: u8,
+    texts: &[Option<u64>],
+    names: &[Option<u64>],
+    seen: Seen,
+) -> Option<u64>
+    ensures { result ≡ listed_collation real texts.now names.now seen }
+{
+    if is_text(real) {
+        listed(texts, seen.texts)
+    } else if is_named(real) {
+        listed(names, seen.names)
     } else {
         None
     }
 }
 
-fn charset_at(code: u8, texts: &Collations, names: &Collations, seen: Seen) -> Option<Charset>
-    ensures { result ≡ charset_at code (collations_view texts.now) (collations_view names.now) (front_view seen) }
-{
-    match collation_of(code, texts, names, seen) {
-        None => None,
-        Some(collation) => charset_of(collation),
-    }
-}
-
-fn type_at(
-    code: u8,
-    metadata: &[u8],
-    signs: &[u8],
-    texts: &Collations,
-    names: &Collations,
-    seen: Seen,
-) -> ColumnType
-    ensures { result ≡ type_at code metadata.now signs.now (collations_view texts.now) (collations_view names.now) (front_view seen) }
-{
-    let real = code_of(code, metadata);
-    ColumnType {
-        code: real,
-        size: size_of(code, metadata),
-        scale: scale_of(code, metadata),
-        unsigned: has_sign(code) && high_bit(signs, seen.signs),
-        charset: charset_at(real, texts, names, seen),
-    }
-}
-
-fn behind(code: u8, metadata: &[u8], seen: Seen) -> Seen
+/// How many were seen behind one more column, of which its type in the map and the real one are given.
+fn behind(code: u8, real: u8, seen: Seen) -> Seen
     requires { (seen.signs + 1 < 2 ^ 64) × (seen.texts + 1 < 2 ^ 64) × (seen.names + 1 < 2 ^ 64) }
-    ensures value { front_view result ≡ behind code metadata.now (front_view seen) }
-    ensures bounds { (result.signs ≤ seen.signs + 1) × (result.texts ≤ seen.texts + 1) × (result.names ≤ seen.names + 1) }
+    ensures signs { result.signs ≡ seen.signs + (if has_sign code then 1 else 0) }
+    ensures texts { result.texts ≡ seen.texts + (if is_text real then 1 else 0) }
+    ensures names { result.names ≡ seen.names + (if is_named real then 1 else 0) }
 {
-    let real = code_of(code, metadata);
     Seen {
         signs: if has_sign(code) {
             seen.signs + 1
@@ -190,50 +199,40 @@ fn behind(code: u8, metadata: &[u8], seen: Seen) -> Seen
     }
 }
 
-/// The types of columns.
-fn types_from(
-    alloc: Global,
-    types: &[u8],
-    metadata: &[u8],
-    signs: &[u8],
-    texts: &Collations,
-    names: &Collations,
-) -> Result<Vec<ColumnType>, AllocError>
-    ensures { IfOk result (λ v. v.items ≡ types_from types.now metadata.now signs.now (collations_view texts.now) (collations_view names.now) no_front) }
-{
-    let mut columns = Vec::with_capacity(alloc, types.len())?;
-    let mut rest = metadata;
-    let mut seen = Seen {
-        signs: 0,
-        texts: 0,
-        names: 0,
-    };
-    for code in types {
-        columns.push(type_at(*code, rest, signs, texts, names, seen))?;
-        seen = behind(*code, rest, seen);
-        rest = &rest[metadata_len(*code).min(rest.len())..];
-    }
-    Ok(columns)
-}
-
 /// The types of the columns of a table. The only error is a refused growth.
 pub fn types_of(alloc: Global, map: &TableMap) -> Result<Vec<ColumnType>, AllocError>
     ensures { IfOk result (λ v. v.items ≡ types_of map.now.sections) }
 {
     let sections = map.sections();
     let fields = &sections.fields;
-    let texts = collations_of(alloc, fields.column_charset, fields.default_charset)?;
+    let count = sections.types.len();
+    let signs = fields.signs.unwrap_or(&[]);
+    let texts = collations_of(
+        alloc,
+        count,
+        fields.column_charset.unwrap_or(&[]),
+        fields.default_charset.unwrap_or(&[]),
+    )?;
     let names = collations_of(
         alloc,
-        fields.column_name_charset,
-        fields.default_name_charset,
+        count,
+        fields.column_name_charset.unwrap_or(&[]),
+        fields.default_name_charset.unwrap_or(&[]),
     )?;
-    types_from(
-        alloc,
-        sections.types,
-        sections.metadata,
-        fields.signs.unwrap_or(&[]),
-        &texts,
-        &names,
-    )
+    let mut columns = Vec::with_capacity(alloc, count)?;
+    let mut rest = sections.metadata;
+    let mut seen = Seen {
+        signs: 0,
+        texts: 0,
+        names: 0,
+    };
+    for code in sections.types {
+        let real = code_of(*code, rest);
+        let unsigned = is_unsigned(*code, signs, seen.signs);
+        let collation = listed_collation(real, &texts, &names, seen);
+        columns.push(column_type(*code, rest, unsigned, collation))?;
+        seen = behind(*code, real, seen);
+        rest = &rest[metadata_len(*code).min(rest.len())..];
+    }
+    Ok(columns)
 }
