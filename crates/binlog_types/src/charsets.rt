@@ -3,7 +3,7 @@ ghost use Rattle.std.specs.Prelude.{◌≡◌};
 ghost use Rattle.binlog_types.specs.Charsets.{charset_in, charset_of, charset_name, encoding_of};
 
 /// The character sets of a MySQL 9.7.4.
-#[derive(Clone, Copy)]
+#[derive(Clone, Copy, Debug, PartialEq, Eq)]
 pub enum Charset {
     Armscii8,
     Ascii,
@@ -48,8 +48,17 @@ pub enum Charset {
     Utf8mb4,
 }
 
+/// Their names, as MySQL writes them, in the order of the variants.
+const NAMES: [&str; 41] = [
+    "armscii8", "ascii", "big5", "binary", "cp1250", "cp1251", "cp1256", "cp1257", "cp850",
+    "cp852", "cp866", "cp932", "dec8", "eucjpms", "euckr", "gb18030", "gb2312", "gbk", "geostd8",
+    "greek", "hebrew", "hp8", "keybcs2", "koi8r", "koi8u", "latin1", "latin2", "latin5", "latin7",
+    "macce", "macroman", "sjis", "swe7", "tis620", "ucs2", "ujis", "utf16", "utf16le", "utf32",
+    "utf8mb3", "utf8mb4",
+];
+
 /// How the bytes of a text are to be read.
-#[derive(Clone, Copy)]
+#[derive(Clone, Copy, Debug, PartialEq, Eq)]
 pub enum Encoding {
     /// As UTF-8: utf8mb4, utf8mb3 and ascii.
     Utf8,
@@ -207,47 +216,5 @@ pub fn encoding_of(charset: Charset) -> Encoding
 pub fn charset_name(charset: Charset) -> &'static str
     ensures { result.now ≡ charset_name charset }
 {
-    match charset {
-        Charset::Armscii8 => "armscii8",
-        Charset::Ascii => "ascii",
-        Charset::Big5 => "big5",
-        Charset::Binary => "binary",
-        Charset::Cp1250 => "cp1250",
-        Charset::Cp1251 => "cp1251",
-        Charset::Cp1256 => "cp1256",
-        Charset::Cp1257 => "cp1257",
-        Charset::Cp850 => "cp850",
-        Charset::Cp852 => "cp852",
-        Charset::Cp866 => "cp866",
-        Charset::Cp932 => "cp932",
-        Charset::Dec8 => "dec8",
-        Charset::Eucjpms => "eucjpms",
-        Charset::Euckr => "euckr",
-        Charset::Gb18030 => "gb18030",
-        Charset::Gb2312 => "gb2312",
-        Charset::Gbk => "gbk",
-        Charset::Geostd8 => "geostd8",
-        Charset::Greek => "greek",
-        Charset::Hebrew => "hebrew",
-        Charset::Hp8 => "hp8",
-        Charset::Keybcs2 => "keybcs2",
-        Charset::Koi8r => "koi8r",
-        Charset::Koi8u => "koi8u",
-        Charset::Latin1 => "latin1",
-        Charset::Latin2 => "latin2",
-        Charset::Latin5 => "latin5",
-        Charset::Latin7 => "latin7",
-        Charset::Macce => "macce",
-        Charset::Macroman => "macroman",
-        Charset::Sjis => "sjis",
-        Charset::Swe7 => "swe7",
-        Charset::Tis620 => "tis620",
-        Charset::Ucs2 => "ucs2",
-        Charset::Ujis => "ujis",
-        Charset::Utf16 => "utf16",
-        Charset::Utf16le => "utf16le",
-        Charset::Utf32 => "utf32",
-        Charset::Utf8mb3 => "utf8mb3",
-        Charset::Utf8mb4 => "utf8mb4",
-    }
+    NAMES[charset as usize]
 }

@@ -3,7 +3,7 @@
 use crate::charsets::Charset;
 
 /// What a table map says of a column's type.
-#[derive(Clone, Copy)]
+#[derive(Clone, Copy, Debug, PartialEq, Eq)]
 pub struct ColumnType {
     /// The type's number, for CHAR, BINARY, ENUM and SET the real one.
     pub code: u8,
