@@ -162,3 +162,26 @@ abbrev pub LongChar : Type 0
 LongChar =
     types_in (map_at (body_with "01 fe 02 ce fc 01 02 03 fc ff 00 04 02 01 61"))
     ≡ record { code = 254; size = 1020; scale = 0; unsigned = false; charset = Some charsets.Utf8mb4 } ∷ []
+
+-- ---- all kinds of columns in one map
+
+-- INT, YEAR, VARCHAR(80), ENUM, SET, CHAR(20), BLOB, BIT(9), DECIMAL(10,2), TINYINT and VARCHAR(40): the metadata has no byte for the
+-- first two and for TINYINT, one for BLOB, and two for each of the others. INT, YEAR, DECIMAL and TINYINT have bits of signs, the texts
+-- 0 to 3 are VARCHAR, CHAR, BLOB and VARCHAR, and ENUM and SET are 0 and 1 among themselves.
+abbrev pub Mixed : String → List String → Type 0
+Mixed fields =
+    Declares
+    (body_with "0b 03 0d 0f fe fe fe fc 10 f6 01 0f 0f 50 00 f7 01 f8 01 fe 14 02 01 01 0a 02 28 00 ff 07 04 16 01 61 01 62 01 63 01 64 01 65 01 66 01 67 01 68 01 69 01 6a 01 6b" ++ hex fields)
+
+-- The bits 1, 1, 0 and 1. Field 2: utf8mb4, but binary for text 2, of whose two pairs the first counts, and gbk for text 3, whose pair
+-- stands behind one for a text 12, which there is not. Field 11: latin1 and utf8mb3.
+-- Then the bits 0, 0, 1 and 0. Field 3: latin1, binary, utf8mb3 and gbk. Field 10: utf16, but latin1 for SET, of whose two pairs the
+-- first counts.
+abbrev pub MixedColumns : Type 0
+MixedColumns =
+    Mixed "01 01 d0 02 0b fc ff 00 02 3f 0c 08 02 08 03 1c 0b 02 08 21"
+    ("int unsigned" ∷ "year" ∷ "varchar utf8mb4" ∷ "enum latin1" ∷ "set utf8mb3" ∷ "char utf8mb4" ∷ "blob" ∷ "bit(9)" ∷ "decimal(10,2)"
+    ∷ "tinyint unsigned" ∷ "varchar gbk" ∷ [])
+    × Mixed "01 01 20 03 04 08 3f 21 1c 0a 05 36 01 08 01 21"
+    ("int" ∷ "year" ∷ "varchar latin1" ∷ "enum utf16" ∷ "set latin1" ∷ "binary(20)" ∷ "text utf8mb3" ∷ "bit(9)" ∷ "decimal(10,2) unsigned" ∷ "tinyint"
+    ∷ "varchar gbk" ∷ [])
