@@ -7,12 +7,12 @@ use Rattle.binlog_types.proofs.collations.numbers_from.Goals as goal
 
 pub returns-in_default : goal.returns-in_default
 returns-in_default c =
-    let none : packed_at c.loop.rest.now ≡ None = cc (c.in_default.ensures.value, c.in_default.is) in
+    let none : packed_at c.loop.rest.now ≡ None = cc c.in_default.ensures.value in
     numbers-none c.loop.numbers.items c.loop.rest.now (numbers_from c.args.most c.args.bytes.now) (c.args.most - c.loop.counter) c.loop.invariant none
 
 pub loop-preserved : goal.loop-preserved
 loop-preserved c =
-    let some : packed_at c.loop.rest.now ≡ Some (c.in-Some.number, c.in-Some.len) = cc (c.in-Some.ensures.value, c.in-Some.number-is, c.in-Some.len-is) in
+    let some : packed_at c.loop.rest.now ≡ Some (c.in-Some.number, c.in-Some.len) = cc c.in-Some.ensures.value in
     rw (c.in_ok-push.ensures.items, take_rest c.loop.rest.now c.in-Some.len)
     (numbers-more c.loop.numbers.items c.loop.rest.now (numbers_from c.args.most c.args.bytes.now) c.args.most c.loop.counter (c.in-Some.number, c.in-Some.len) c.loop-test.true c.loop.invariant some)
 
