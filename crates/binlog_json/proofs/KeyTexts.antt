@@ -12,12 +12,16 @@ use Rattle.binlog_table.specs.declared.cell.Cell.{Cell}
 use Rattle.binlog_table.specs.declared.cell.Cell.TheVariants as cells
 use Rattle.binlog_table.specs.MapWords.{value_names_in}
 use Rattle.binlog_table.specs.RowImage.{RowImage}
-use Rattle.binlog_table.specs.Value.{view, absent}
+use Rattle.binlog_table.specs.Map.{Map}
+use Rattle.binlog_table.specs.Value.{Content, view, absent}
+use Rattle.binlog_table.specs.declared.row_view.Side.TheVariants.{Before, After}
+use Rattle.binlog_feed.specs.Changes.{RowChange}
 use Rattle.binlog_types.specs.ColumnTypes.{types_of}
 use Rattle.binlog_types.specs.declared.column_type.ColumnType.{ColumnType}
 use Rattle.binlog_json.specs.FullValues.{full_data, type_in, unknown_type}
 use Rattle.binlog_json.specs.Joining.{comma_if}
-use Rattle.binlog_json.specs.Keys.{HasTypes, different_texts, image_key, is_text, key_of, value_as, value_in, value_in_either, values_in}
+use Rattle.binlog_json.specs.Line.{before_of}
+use Rattle.binlog_json.specs.Keys.{HasTypes, different_texts, image_key, is_text, key_of, key_text_as, keys_as, value_as, value_in, value_in_either, values_in}
 use Rattle.binlog_json.specs.declared.style.Style.{Style}
 use Rattle.binlog_json.specs.declared.style.Style.TheVariants.{Plain, Full}
 use Rattle.binlog_json.specs.Values.{content_data}
@@ -207,3 +211,30 @@ is_second key None (Some second) none = or_false (bytes_eq second key)
 is_second key (Some first) None none = rw none refl
 is_second key (Some first) (Some second) none =
     second_of (bytes_eq first second) key first second (λ same. ap (λ text. bytes_eq text key) ((bytes_eq-Decides first second).0 same)) none
+
+-- ---- a table without a key
+
+no_key_of : (style : Style) (table : Map) (cells : Option (List Content)) (other : Option RowImage) → table.key ≡ []
+    → option_and_then (λ image. image_key style image other) (option_map (λ cells. record { table = table; cells = cells }) cells) ≡ None
+no_key_of style table None other none = refl
+no_key_of style table (Some cells) other none = ap (λ (key : List ℕ). key_of style (record { table = table; cells = cells }) other key) none
+
+no_texts : (key : List ℕ) (first second : Option (List ℕ)) → first ≡ None → second ≡ None → list_any (λ text. bytes_eq text key) (different_texts first second) ≡ false
+no_texts key None None first_none second_none = refl
+no_texts key None (Some second) first_none second_none = absurd (cc)
+no_texts key (Some first) second first_none second_none = absurd (cc)
+
+empty_list : (columns : List ℕ) → true ≡ (length columns == 0) → columns ≡ []
+empty_list [] none = refl
+empty_list (column ∷ columns) none =
+    let zero_long : length (column ∷ columns) ≡ 0 = eqb-true (length (column ∷ columns)) 0 (sym none) in
+    absurd (omega arith)
+
+-- no change of such a table has a key
+pub no_keys : (style : Style) (key : List ℕ) (c : RowChange) (columns : List ℕ) → columns ≡ c.table.key → true ≡ (length columns == 0)
+    → list_any (λ text. bytes_eq text key) (keys_as style c) ≡ false
+no_keys style key c columns of_key none =
+    let empty : c.table.key ≡ [] = sym of_key ∙ empty_list columns none in
+    no_texts key (key_text_as style c Before) (key_text_as style c After)
+    (ap (option_map compact_text) (no_key_of style c.table c.row.before None empty))
+    (ap (option_map compact_text) (no_key_of style c.table c.row.after (before_of c) empty))

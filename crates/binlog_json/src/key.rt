@@ -1,22 +1,25 @@
 //! The keys of a row change.
 ghost use Rattle.std.specs.Prelude.{◌≡◌, ◌<◌, ◌++◌, Some, length, slice_get, is_some, IfOk, IfSome, OnOk, option_map, string_bytes};
+ghost use Rattle.std.specs.List.{list_any};
+ghost use Rattle.std.specs.Str.{bytes_eq};
 ghost use Rattle.serde_json.specs.Written.{compact_text};
 ghost use Rattle.binlog_table.specs.Value.{view as cell_view};
 ghost use Rattle.binlog_feed.specs.Changes.{view};
-ghost use Rattle.binlog_json.specs.Keys.{HasTypes, has_key as is_of_key, has_key_as as is_of_key_as, image_key as key_of_image, is_text, key_text_as as text_of_key, key_text_of, value_as, value_in, value_in_either};
+ghost use Rattle.binlog_json.specs.Keys.{HasTypes, has_key as is_of_key, has_key_as as is_of_key_as, image_key as key_of_image, is_text, key_text_as as text_of_key, key_text_of, keys_as, value_as, value_in, value_in_either};
 ghost use Rattle.binlog_json.specs.Written.{text_if};
 ghost use Rattle.binlog_json.specs.LineBytes.{line_bytes};
 
 use crate::append::append_comma;
 use crate::full_image::type_at;
 use crate::full_values::append_full_value;
+use crate::key_finder::KeyFinder;
 use crate::lines::Line;
 use crate::room::Room;
 use crate::style::Style;
 use crate::values::append_value;
 use binlog_feed::Change;
 use binlog_table::{Cell, RowView, Side};
-use binlog_types::{ColumnType, types_of};
+use binlog_types::ColumnType;
 use std::alloc::{AllocError, Global};
 
 /// The key of the row as it was, or as it is then: the values of the primary key's columns as a compact JSON array, in key order.
@@ -188,28 +191,25 @@ pub fn has_key_as(
 ) -> Result<bool, AllocError>
     ensures { IfOk result (λ has. has ≡ is_of_key_as style schema.now table.now key.now (view change.now)) }
 {
-    if change.schema() != schema || change.table() != table {
-        return Ok(false);
-    }
-    let types = types_for(alloc, style, change)?;
-    if has_key_on(alloc, style, &types, change, Side::Before, key)? {
-        return Ok(true);
-    }
-    has_key_on(alloc, style, &types, change, Side::After, key)
+    let mut finder = KeyFinder::new(alloc);
+    finder.has_key_as(style, change, schema, table, key)
 }
 
-/// The types of the columns of a change's table, where values in the style need them.
-fn types_for(
+/// Whether the key is one of a change's keys.
+pub(crate) fn is_among_keys(
     alloc: Global,
     style: Style,
+    types: &[ColumnType],
     change: &Change<'_>,
-) -> Result<Vec<ColumnType>, AllocError>
-    ensures { IfOk result (λ types. HasTypes style types.items (view change.now).table) }
+    key: &str,
+) -> Result<bool, AllocError>
+    requires { HasTypes style types.now (view change.now).table }
+    ensures { IfOk result (λ has. has ≡ list_any (λ text. bytes_eq text key.now) (keys_as style (view change.now))) }
 {
-    match style {
-        Style::Plain => Ok(Vec::new(alloc)),
-        Style::Full => types_of(alloc, change.map()),
+    if has_key_on(alloc, style, types, change, Side::Before, key)? {
+        return Ok(true);
     }
+    has_key_on(alloc, style, types, change, Side::After, key)
 }
 
 /// Whether the key on a side of a change is this one.
