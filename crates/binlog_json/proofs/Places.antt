@@ -1,5 +1,5 @@
 -- Texts at places of bytes that have room for them.
-use Rattle.std.proofs.Common.{◌≡◌, ◌∙◌, ℕ, ◌+◌, ◌≤◌, List, ◌++◌, Bool, true, false, if◌then◌else◌, length, take, replicate, length-append, length-take-le, take-add, take-take, take_at, drop_at, ap, sym, subst, arith}
+use Rattle.std.proofs.Common.{◌≡◌, ◌∙◌, ℕ, ◌+◌, ◌≤◌, List, ◌++◌, Bool, true, false, if◌then◌else◌, length, take, drop, replicate, refl, length-append, length-take-le, take-add, take-take, take_at, drop_at, ap, sym, subst, arith}
 use Rattle.std.specs.Str.{IsUtf8}
 use Rattle.std.proofs.lemmas.List.{take_all, take-append-le}
 use Rattle.std.proofs.lemmas.Str.{IsUtf8-append, IsUtf8-had}
@@ -14,6 +14,18 @@ placed_less {a} {b} {xs} {i} {j} n within few p =
           ∙ (λ k. take_at (take i a) xs i front k ++ take n (drop_at (take i a) xs i front k));
       moved = omega (arith, length-take-le n xs few);
       len = p.len;
+    }
+
+-- digits that end where their room does
+pub placed_digits : {a b xs : List ℕ} (rest : List ℕ) (i s j : ℕ) → s + length xs ≡ j → j ≡ i + length xs → drop s b ≡ xs ++ rest → take s b ≡ take s a → length b ≡ length a → Placed a b i xs j
+placed_digits {a} {b} {xs} rest i s j ends moved written before len =
+    let same : s ≡ i = omega arith in
+    let front : take i b ≡ take i a = subst (λ (n : ℕ). take n b ≡ take n a) same before in
+    let digits : take (length xs) (drop i b) ≡ xs = ap (take (length xs)) (subst (λ (n : ℕ). drop n b ≡ xs ++ rest) same written) ∙ take_at xs rest (length xs) refl in
+    record {
+      bytes = ap (λ (n : ℕ). take n b) moved ∙ take-add i (length xs) b ∙ (λ k. front k ++ digits k);
+      moved = moved;
+      len = len;
     }
 
 -- what was text is text behind another one too
