@@ -163,6 +163,13 @@ LongChar =
     types_in (map_at (body_with "01 fe 02 ce fc 01 02 03 fc ff 00 04 02 01 61"))
     ≡ record { code = 254; size = 1020; scale = 0; unsigned = false; charset = Some charsets.Utf8mb4 } ∷ []
 
+-- FLOAT, DOUBLE, JSON, GEOMETRY, an ENUM of one byte and one of two, a SET of eight, and INT, which has no metadata: their texts have no sizes
+abbrev pub UntoldSizes : Type 0
+UntoldSizes =
+    map (λ (t : ColumnType). t.size) (types_in (map_at
+    (body_with "08 04 05 f5 ff fe fe fe 03 0a 04 08 04 04 f7 01 f7 02 f8 08 00 01 01 00 04 10 01 61 01 62 01 63 01 64 01 65 01 66 01 67 01 68")))
+    ≡ 4 ∷ 8 ∷ 4 ∷ 4 ∷ 1 ∷ 2 ∷ 8 ∷ 0 ∷ []
+
 -- ---- all kinds of columns in one map
 
 -- INT, YEAR, VARCHAR(80), ENUM, SET, CHAR(20), BLOB, BIT(9), DECIMAL(10,2), TINYINT and VARCHAR(40): the metadata has no byte for the

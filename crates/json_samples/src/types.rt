@@ -1,5 +1,5 @@
 //! The definitions of the types that table maps declare, and of the character sets of collations.
-ghost use Rattle.json_samples.specs.Types.{BehindYear, CharsetsOfEach, CharsetsOfNames, Sizes, NoCharsets, FieldsOfTexts, FieldsOfNames, UnknownCollations, TwoFields, ShortFields, Exceptions, SignBits, LastSign, OtherTypes, Widths, Digits, LongChar, MixedColumns};
+ghost use Rattle.json_samples.specs.Types.{BehindYear, CharsetsOfEach, CharsetsOfNames, Sizes, NoCharsets, FieldsOfTexts, FieldsOfNames, UnknownCollations, TwoFields, ShortFields, Exceptions, SignBits, LastSign, OtherTypes, Widths, Digits, LongChar, UntoldSizes, MixedColumns};
 ghost use Rattle.json_samples.specs.Collations.{Unicode, WesternLetters, OtherLetters, EastAsian, Unknown};
 
 /// What the maps of real servers and maps by hand declare, and the character set of each collation.
@@ -21,6 +21,7 @@ pub fn sample_types()
     ensures widths { Widths }
     ensures digits { Digits }
     ensures long_char { LongChar }
+    ensures untold_sizes { UntoldSizes }
     ensures mixed_columns { MixedColumns }
     ensures unicode { Unicode }
     ensures western_letters { WesternLetters }
