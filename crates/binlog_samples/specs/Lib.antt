@@ -8,6 +8,7 @@ pub mod Maps
 pub mod Files
 pub mod Changes
 pub mod Tokens
+pub mod Continuations
 pub mod Frames
 pub mod Sources
 pub mod Statuses

@@ -1,10 +1,9 @@
--- Tokens over small files: how they are judged, and what stands behind them; and such files read apart, and gone on.
+-- Tokens over small files: how they are judged, and what stands behind them; and such files read apart.
 use Rattle.std.specs.Prelude.{◌≡◌, ℕ, List, [], ◌∷◌, ◌++◌, take, map, Option, Some, None, Bool, true, codes}
 use Rattle.binlog_select.specs.declared.kind.ChangeKind.TheVariants.{Insert}
 use Rattle.binlog_select.specs.declared.token.Token.{Token}
 use Rattle.binlog_feed.specs.Parsing.{LogFile}
 use Rattle.binlog_feed.specs.Changes.{RowChange}
-use Rattle.binlog_feed.specs.Continues.{Continues}
 use Rattle.binlog_feed.specs.FeedLaws.{changes_read_apart}
 use Rattle.binlog_feed.specs.Tokens.{Judgement, judge, rest, end_after}
 use Rattle.binlog_feed.specs.Tokens.Judgement.{NoFile, Fits, NoChange, Faulty, NoTransaction}
@@ -178,26 +177,3 @@ FilesApart =
     ComeApartTo two_files (first_change ∷ second_change ∷ []) None × ComeApartTo bad_in_second (first_change ∷ []) (fault_at 1 306 BadRows)
     × ComeApartTo rotates_past (first_change ∷ []) (fault_at 0 371 RotationMismatch)
     × ComeApartTo second_rotates_past (first_change ∷ second_change ∷ []) (fault_at 1 371 RotationMismatch) × ComeApartTo bad_before [] (fault_at 0 0 BadMagic)
-
--- ---- files that go on
-
--- the beginning of a transaction, and later another one in its place
-abbrev pub cut_file : List LogFile
-cut_file = alone (one_row ++ take 100 (one_more 2 (image 2 (codes "b")) xid_event))
-
-abbrev pub other_end : List ℕ
-other_end = one_more 2 (image 3 (codes "c")) xid_event
-
-abbrev pub grown_file : List LogFile
-grown_file = alone (one_row ++ other_end)
-
-abbrev pub FileGrows : Type 0
-FileGrows = Continues grown_file cut_file × Rests grown_file (token 153 1 first_name) (change_at 2 371 1 Insert None (Some (cells 3 (codes "c"))) ∷ [])
-
--- the first of two files is gone, and a third has come
-abbrev pub later_files : List LogFile
-later_files = second_file [] ∷ third_file ∷ []
-
-abbrev pub FilesGoOn : Type 0
-FilesGoOn =
-    Continues later_files two_files × Rests later_files (token 153 1 second_name) (third_change ∷ []) × Judges later_files 153 1 first_name NoFile

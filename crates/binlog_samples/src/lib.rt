@@ -1,6 +1,7 @@
 //! The definitions at work: what they say of bytes, files, tokens and faults whose meaning is known without them. Nothing runs here.
 #![tactic(auto, unfolding(crate::proofs::OnBytes::on_bytes))]
 
+mod continuations;
 mod files;
 mod frames;
 mod sources;
@@ -10,11 +11,12 @@ mod tokens;
 mod values;
 mod words;
 
+pub use continuations::sample_continuations;
 pub use files::sample_files;
 pub use frames::sample_frames;
 pub use sources::{sample_honesty, sample_paths, sample_sources};
 pub use statuses::sample_statuses;
 pub use tables::sample_tables;
-pub use tokens::{sample_continuations, sample_tokens};
+pub use tokens::sample_tokens;
 pub use values::sample_values;
 pub use words::sample_words;

@@ -12,6 +12,7 @@ mod opening;
 mod options;
 pub mod program;
 pub mod run;
+pub mod run_on;
 mod start_words;
 pub mod transactions;
 mod unit_line;

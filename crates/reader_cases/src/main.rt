@@ -5,6 +5,7 @@ mod bodies;
 mod feed;
 mod filters;
 mod frames;
+mod going_on;
 mod looks;
 mod lookups;
 mod opening;
