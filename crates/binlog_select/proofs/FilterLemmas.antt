@@ -1,4 +1,4 @@
--- The condition of a filter as a test.
+-- The condition of a filter as a test, and copies of its lists.
 use Rattle.std.proofs.Common.{◌≡◌, ℕ, Bool, true, not, List, [], ◌∷◌, Option, Some, None, refl, sym, ap, ◌∙◌, arith, Decides, IfSome, IsTrue, Contains}
 use Rattle.std.specs.FinSet as set
 use Rattle.std.specs.List.{list_any}
@@ -76,3 +76,16 @@ passes_decides filter kind schema table gtid =
 -- a test of the condition is the test
 pub is_passes : (result : Bool) (filter : Filter) (kind : ChangeKind) (schema table : List ℕ) (gtid : Option (List ℕ × ℕ)) → Decides result (Passes filter kind schema table gtid) → result ≡ passes filter kind schema table gtid
 is_passes result filter kind schema table gtid d = same_from_decides result (passes filter kind schema table gtid) d (passes_decides filter kind schema table gtid)
+
+-- no list, as the copy of none; or a list that equals the one it is copied from
+abbrev pub IsCopied : {A : Type 0} → Option A → Option A → Type 0
+IsCopied None None = Unit {0}
+IsCopied None (Some copy) = ⊥
+IsCopied (Some list) None = ⊥
+IsCopied (Some list) (Some copy) = copy ≡ list
+
+pub copied : {A : Type 0} (list copy : Option A) → IsCopied list copy → copy ≡ list
+copied None None same = refl
+copied None (Some copy) same = absurd same
+copied (Some list) None same = absurd same
+copied (Some list) (Some copy) same = ap (λ v. Some v) same

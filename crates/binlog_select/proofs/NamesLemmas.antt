@@ -1,7 +1,7 @@
--- A set of names doesn't depend on their order, and a binary search finds what is in it.
-use Rattle.std.proofs.Common.{◌≡◌, ℕ, ◌<◌, Bool, ◌||◌, List, [], ◌∷◌, length, map, get_or, true, string_bytes, Result, Ok, Err, is_ok, sym, ap, ◌∙◌, arith, refl, inl, inr}
+-- A set of names doesn't depend on their order, a binary search finds what is in it, and copies of texts make the same set.
+use Rattle.std.proofs.Common.{◌≡◌, ℕ, ◌+◌, ◌<◌, Bool, ◌||◌, List, [], ◌∷◌, length, map, get_or, true, string_bytes, Result, Ok, Err, is_ok, sym, ap, ◌∙◌, arith, refl, inl, inr}
 use Rattle.std.proofs.lemmas.Bool.{cases_lt}
-use Rattle.std.specs.List.{list_any}
+use Rattle.std.specs.List.{list_any, AllZip}
 use Rattle.std.specs.List.Sorted.{IsPermutation, IsBinarySearchResult, IsSearchInRange}
 use Rattle.std.specs.Ordering.{nat_cmp, eq_by_cmp, is_eq, ordering_reverse}
 use Rattle.std.specs.Cmp.Lexicographic.{slice_cmp, nat_list_cmp_total}
@@ -10,6 +10,7 @@ use Rattle.std.specs.declared.string.String.{String}
 use Rattle.std.specs.declared.alloc.Global.{Global}
 use Rattle.std.specs.declared.cmp.Ordering.{Ordering}
 use Rattle.std.specs.declared.cmp.Ordering.TheVariants.{Less, Equal, Greater}
+use Rattle.std.proofs.lemmas.List.Elements.{length_all_zip, AllZip-get_or}
 use Rattle.std.proofs.lemmas.List.Folds.{list_any_none, list_any_at}
 use Rattle.std.proofs.lemmas.List.Sorted.{list_any-IsPermutation, IsPermutation-map, searchable_from_sorted}
 use Rattle.binlog_select.specs.Names.{AreInByteOrder}
@@ -61,3 +62,19 @@ found_in texts name r within found ordered =
     found_so texts name ordered r within found
     ∙ list_any-bytes (eq_by_cmp by_bytes name) texts
     ∙ sym (set.contains-from_list nat_list_cmp_total (bytes_of texts) name)
+
+-- the same bytes, as a copy of a text has them
+abbrev pub IsCopied : String Global → String Global → Type 0
+IsCopied text copy = string_bytes copy ≡ string_bytes text
+
+pub bytes_of-copied : (texts copies : List (String Global)) → AllZip IsCopied texts copies → bytes_of copies ≡ bytes_of texts
+bytes_of-copied [] [] same = refl
+bytes_of-copied [] (c ∷ copies) same = absurd same
+bytes_of-copied (t ∷ texts) [] same = absurd same
+bytes_of-copied (t ∷ texts) (c ∷ copies) same = rw (same.0, bytes_of-copied texts copies same.1)
+
+-- copies of texts in the order of their bytes are in that order
+pub AreInByteOrder-copied : (texts copies : List (String Global)) → AllZip IsCopied texts copies → AreInByteOrder texts → AreInByteOrder copies
+AreInByteOrder-copied texts copies same ordered = λ k d low below.
+    let within : k + 1 < length texts = omega (arith, length_all_zip IsCopied texts copies same, below) in
+    rw (AllZip-get_or IsCopied texts copies (k + 1) d d same within, AllZip-get_or IsCopied texts copies k d d same (omega arith)) (ordered k d low within)

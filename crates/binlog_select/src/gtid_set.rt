@@ -1,5 +1,5 @@
 //! Sets of GTIDs: read from a text, written, and asked for a transaction.
-ghost use Rattle.std.specs.Prelude.{◌≡◌, ◌↔◌, ℕ, ◌++◌, Err, IfOk, OnOk, OnErr, IsTrue, List, string_bytes};
+ghost use Rattle.std.specs.Prelude.{◌≡◌, ◌↔◌, ℕ, ◌++◌, Err, IfOk, MatchResult, OnOk, OnErr, IsTrue, List, string_bytes};
 ghost use Rattle.binlog_select.specs.Gtid.{HasGtid};
 ghost use Rattle.binlog_select.specs.Intervals.{IsJoined, IsMember, SameNumbers};
 ghost use Rattle.binlog_select.specs.SetForm.{written};
@@ -33,6 +33,21 @@ impl Model for GtidSet {
     ghost view = { λ s. s.intervals.items };
 
     ghost invariant = { λ s. IsJoined s.intervals.items };
+}
+
+impl Clone for GtidSet {
+    ghost is_clone = { λ set copy. copy ≡ set };
+
+    /// The same set, in memory of its own.
+    fn clone(&self) -> Result<GtidSet, AllocError>
+        // What the trait says of each `clone`.
+        ensures cases { MatchResult result (λ copy. copy ≡ self.now) (λ _. ¬ ⊥) }
+        ensures same { IfOk result (λ copy. copy ≡ self.now) }
+    {
+        Ok(GtidSet {
+            intervals: self.intervals.clone()?,
+        })
+    }
 }
 
 impl GtidSet {

@@ -1,6 +1,7 @@
 //! Kinds of row changes, and lists of them.
-ghost use Rattle.std.specs.Prelude.{◌≡◌, ◌↔◌, List, IsTrue, Contains};
+ghost use Rattle.std.specs.Prelude.{◌≡◌, ◌↔◌, List, IfOk, IsTrue, Contains, MatchResult};
 
+use std::alloc::AllocError;
 use std::marker::Model;
 
 /// What a row change does: MySQL's `WRITE_ROWS`, `UPDATE_ROWS` and `DELETE_ROWS` events.
@@ -32,6 +33,21 @@ impl From<Vec<ChangeKind>> for Kinds {
     /// The kinds of a `Vec`. It takes no memory.
     fn from(kinds: Vec<ChangeKind>) -> Kinds {
         Kinds { kinds }
+    }
+}
+
+impl Clone for Kinds {
+    ghost is_clone = { λ kinds copy. copy ≡ kinds };
+
+    /// The same kinds in the same order, in memory of their own.
+    fn clone(&self) -> Result<Kinds, AllocError>
+        // What the trait says of each `clone`.
+        ensures cases { MatchResult result (λ copy. copy ≡ self.now) (λ _. ¬ ⊥) }
+        ensures same { IfOk result (λ copy. copy ≡ self.now) }
+    {
+        Ok(Kinds {
+            kinds: self.kinds.clone()?,
+        })
     }
 }
 

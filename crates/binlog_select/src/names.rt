@@ -1,7 +1,8 @@
 //! Sets of names, which a filter looks schemas and tables up in.
-ghost use Rattle.std.specs.Prelude.{◌≡◌, map, string_bytes};
+ghost use Rattle.std.specs.Prelude.{◌≡◌, IfOk, MatchResult, map, string_bytes};
 ghost use Rattle.std.specs.FinSet as set;
 
+use std::alloc::AllocError;
 use std::marker::Model;
 
 /// A set of names of schemas or tables, which compare byte for byte.
@@ -38,6 +39,21 @@ impl From<Vec<String>> for Names {
         let mut names = names;
         names.sort_unstable();
         Names { names }
+    }
+}
+
+impl Clone for Names {
+    ghost is_clone = { λ names copy. copy ≡ names };
+
+    /// The same names, in memory of their own.
+    fn clone(&self) -> Result<Names, AllocError>
+        // What the trait says of each `clone`.
+        ensures cases { MatchResult result (λ copy. copy ≡ self.now) (λ _. ¬ ⊥) }
+        ensures same { IfOk result (λ copy. copy ≡ self.now) }
+    {
+        Ok(Names {
+            names: self.names.clone()?,
+        })
     }
 }
 
