@@ -97,7 +97,7 @@ class Watch:
         """The lines that are new in these logs, where one of them has changed."""
         marks = {log.path: self._seen[log.path].mark for log in logs}
         self.is_empty = not logs
-        if not logs or self._closed or marks == self._finished:
+        if not logs or self._closed or marks.items() <= self._finished.items():
             return
         whole = False
         try:
