@@ -259,6 +259,25 @@ class Growing(ServerTest):
         self.assertEqual(self.followed(), line(2, 371, "binlog.000001"))
 
 
+    def test_within_a_slow_look(self):
+        """Lines are out at once, and the place is kept behind each second, though the look goes on."""
+        self.addCleanup(setattr, following, "KEEP_SECONDS", following.KEEP_SECONDS)
+        self.index("binlog.000001")
+        self.log("binlog.000001", log(1, 2))
+        lines = [line(1, 153, "binlog.000001").decode(), line(2, 371, "binlog.000001").decode()]
+        for seconds, kept in ((0.0, "153.1@binlog.000001"), (60.0, None)):
+            following.KEEP_SECONDS = seconds
+            self.state.unlink(missing_ok=True)
+            said = f"cat {self.state} > {self.folder}/kept 2>/dev/null"
+            program = self.stub(f"read line\ncat <<'END'\n{lines[0]}END\nsleep 0.2\n{said}\ncat <<'END'\n{lines[1]}\nEND\nread line")
+            follower = Follower(str(self.data), self.state, (), program, io.BytesIO())
+            follower.catch_up()
+            follower.close()
+            text = (self.folder / "kept").read_text()
+            self.assertEqual(Place.from_text(text).token if text else None, kept)
+            self.assertEqual(read_state(self.state).token, "371.1@binlog.000001")
+
+
 class Purged(ServerTest):
     """Logs that are gone."""
 
