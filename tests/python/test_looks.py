@@ -198,7 +198,8 @@ class Watching(FolderTest):
 
     def asking(self):
         """The program, and a file that has what it is told."""
-        return self.stub(f'tee -a {self.folder}/told | {PROGRAM} "$@"')
+        told = f'while IFS= read -r line; do echo "$line" >> {self.folder}/told; echo "$line"; done'
+        return self.stub(f'{told} | {PROGRAM} "$@"')
 
     def test_what_the_program_is_told(self):
         """A list where the logs are others, an empty line where they have grown, and else nothing."""
