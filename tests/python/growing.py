@@ -4,12 +4,11 @@ import select
 import subprocess
 import time
 
-from support import PROGRAM
+from support import PROGRAM, SECONDS
 
 # In its format event, a server's flag says that the log is in use. It is cleared when the log is closed.
 FLAGS = slice(21, 23)
 IN_USE, CLOSED = b"\x01\x00", b"\x00\x00"
-SECONDS = 60
 
 
 class Server:

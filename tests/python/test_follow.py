@@ -15,8 +15,8 @@ from binlogfeed import follow as following
 from binlogfeed import watch as watching
 from binlogfeed.follow import Follower, read_state, write_state
 from built import logs
-from growing import SECONDS, Server
-from support import BANK, PROGRAM, SHOP, TOP, FolderTest
+from growing import Server
+from support import BANK, PROGRAM, SECONDS, SHOP, TOP, FolderTest, running
 
 ROTATE = 4
 ENVIRONMENT = {**os.environ, "PYTHONPATH": str(TOP / "python")}
@@ -73,10 +73,17 @@ class ServerTest(FolderTest):
         """Writes a log."""
         (self.data / name).write_bytes(content)
 
+    def follower(self, out=None, words=(), program=PROGRAM, place=None, state=None):
+        """A follower. It ends with the test."""
+        follower = Follower(str(place or self.data), state or self.state, words, program, out or io.BytesIO())
+        self.addCleanup(follower.close)
+        self.in_time(follower.stop)
+        return follower
+
     def followed(self, out=None, place=None, words=()):
         """What a follower that starts now prints until the logs end."""
         out = out or io.BytesIO()
-        follower = Follower(str(place or self.data), self.state, words, PROGRAM, out)
+        follower = self.follower(out, words, place=place)
         try:
             follower.catch_up()
         finally:
@@ -108,8 +115,7 @@ class Growing(ServerTest):
     def test_each_byte_by_one_follower(self):
         """Two logs grow by a byte, and rotate. One follower takes each line as soon as its transaction is whole."""
         whole, out = log(1, 2, following="binlog.000002"), io.BytesIO()
-        follower = Follower(str(self.data), self.state, (), PROGRAM, out)
-        self.addCleanup(follower.close)
+        follower = self.follower(out)
         self.index("binlog.000001")
         ends, lines = {371: (1, 153), 589: (2, 371)}, b""
         for name, content in (("binlog.000001", whole), ("binlog.000002", log(1, 2))):
@@ -134,7 +140,7 @@ class Growing(ServerTest):
                     if follower is None or chance.random() < 0.2:
                         if follower:
                             follower.close()
-                        follower = Follower(str(folder), state, words, PROGRAM, out)
+                        follower = self.follower(out, words, place=folder, state=state)
                     follower.catch_up()
                     # The server purges what was read.
                     if chance.random() < 0.2:
@@ -155,7 +161,7 @@ class Growing(ServerTest):
             ended.set()
 
         thread = threading.Thread(target=serve)
-        follower = Follower(str(self.data), self.state, (), PROGRAM, out)
+        follower = self.follower(out)
         thread.start()
         while not ended.is_set():
             follower.catch_up()
@@ -170,8 +176,7 @@ class Growing(ServerTest):
         self.log("binlog.000001", log(1))
         self.index("binlog.000001")
         out = io.BytesIO()
-        follower = Follower(str(self.data), self.state, (), PROGRAM, out)
-        self.addCleanup(follower.close)
+        follower = self.follower(out)
         follower.catch_up()
         index, kept = self.data / "binlog.index", self.data / "binlog.index.kept"
         self.log("binlog.000001", log(1, 2))
@@ -209,17 +214,46 @@ class Growing(ServerTest):
                 kept.append((read_state(state).token, self.getvalue()))
                 return super().write(block)
 
-        lines = self.followed(Watched())
-        self.assertEqual(lines, logs.change_lines(3_000, "binlog.000001"))
+        out = Watched()
+        follower = self.follower(out)
+        follower.catch_up()
+        self.assertEqual(out.getvalue(), logs.change_lines(3_000, "binlog.000001"))
         self.assertGreater(len(kept), 3)
         for token, before in kept:
             self.assertEqual(json.loads(before.splitlines()[-1])["token"] if before else None, token)
+
+    def test_bytes_behind_within_a_long_look(self):
+        """Those behind the last whole look, until the place that is kept is further on."""
+        self.addCleanup(setattr, following, "KEEP_BYTES", following.KEEP_BYTES)
+        following.KEEP_BYTES = 1
+        said = []
+
+        class Watched(io.BytesIO):
+            """An output that notes what is said as the next block comes."""
+
+            def write(self, block):
+                """Notes what is said."""
+                said.append((read_state(state).token, follower.status()))
+                return super().write(block)
+
+        state = self.state
+        follower = self.follower(Watched())
+        self.index("binlog.000001")
+        for count, done in ((1_500, 0), (3_000, len(logs.worked_log(1_500)))):
+            self.log("binlog.000001", logs.worked_log(count))
+            said.clear()
+            follower.catch_up()
+            self.assertGreater(len(said), 3)
+            for token, status in said:
+                place = max(done, int(token.partition(".")[0]) if token else 0)
+                self.assertIn(f" {len(logs.worked_log(count)) - place} bytes behind,", status)
+        self.assertIn(" 0 bytes behind,", follower.status())
 
     def test_nothing_new(self):
         self.index("binlog.000001")
         self.log("binlog.000001", log(1))
         out = io.BytesIO()
-        follower = Follower(str(self.data), self.state, (), self.counted(), out)
+        follower = self.follower(out, program=self.counted())
         for _ in range(3):
             follower.catch_up()
         self.log("binlog.000001", log(1, 2))
@@ -228,6 +262,18 @@ class Growing(ServerTest):
         # One run goes on.
         self.assertEqual((self.folder / "runs").read_text(), "run\n")
         self.assertEqual(out.getvalue(), line(1, 153, "binlog.000001") + line(2, 371, "binlog.000001"))
+
+    def test_close(self):
+        """The program ends with its follower."""
+        self.index("binlog.000001")
+        self.log("binlog.000001", log(1))
+        follower = self.follower(program=self.stub(f'echo $$ > {self.folder}/process\nexec {PROGRAM} "$@"'))
+        follower.catch_up()
+        process = int((self.folder / "process").read_text())
+        os.kill(process, 0)
+        follower.close()
+        with self.assertRaises(ProcessLookupError):
+            os.kill(process, 0)
 
     def counted(self):
         """The program, and a file that has a line for each of its runs."""
@@ -270,7 +316,7 @@ class Growing(ServerTest):
             self.state.unlink(missing_ok=True)
             said = f"cat {self.state} > {self.folder}/kept 2>/dev/null"
             program = self.stub(f"read line\ncat <<'END'\n{lines[0]}END\nsleep 0.2\n{said}\ncat <<'END'\n{lines[1]}\nEND\nread line")
-            follower = Follower(str(self.data), self.state, (), program, io.BytesIO())
+            follower = self.follower(program=program)
             follower.catch_up()
             follower.close()
             text = (self.folder / "kept").read_text()
@@ -339,8 +385,7 @@ class Purged(ServerTest):
         self.assertEqual(self.followed(), line(2, 371, "binlog.000001"))
 
     def test_logs_that_begin_anew_while_they_are_followed(self):
-        follower = Follower(str(self.data), self.state, (), PROGRAM, io.BytesIO())
-        self.addCleanup(follower.close)
+        follower = self.follower()
         follower.catch_up()
         new = bytearray(log(9, 10, 11))
         new[4:8] = (logs.TIME + 1).to_bytes(4, "little")
@@ -350,8 +395,7 @@ class Purged(ServerTest):
         self.assertIn("another log has its name", caught.exception.line)
 
     def test_a_log_that_lost_its_end_while_it_is_followed(self):
-        follower = Follower(str(self.data), self.state, (), PROGRAM, io.BytesIO())
-        self.addCleanup(follower.close)
+        follower = self.follower()
         self.log("binlog.000001", log(1, 2))
         follower.catch_up()
         self.log("binlog.000001", log(1))
@@ -384,7 +428,7 @@ class Purged(ServerTest):
         program = self.stub(
             f"rm -f {self.data}/binlog.000001; printf './binlog.000002\\n' > {self.data}/binlog.index\nexec {PROGRAM} \"$@\""
         )
-        follower = Follower(str(self.data), self.state, (), program, io.BytesIO())
+        follower = self.follower(program=program)
         with self.assertRaises(LogsGone):
             follower.catch_up()
         follower.close()
@@ -429,9 +473,9 @@ class States(ServerTest):
             self.assertEqual(read_state(self.state), place)
 
     def test_two_followers(self):
-        first = Follower(str(self.data), self.state, (), PROGRAM, io.BytesIO())
+        first = self.follower()
         with self.assertRaises(FileFault) as caught:
-            Follower(str(self.data), self.state, (), PROGRAM, io.BytesIO())
+            self.follower()
         self.assertIn("another process uses", caught.exception.line)
         first.close()
         self.assertEqual(len(self.followed().splitlines()), 2)
@@ -475,9 +519,9 @@ class CommandLine(ServerTest):
     """The command."""
 
     def run_follow(self, *words, **options):
-        """Runs the command, and answers its process."""
+        """Runs the command, and gives its process."""
         command = [sys.executable, "-m", "binlogfeed", "follow", "--program", PROGRAM, "--state", str(self.state), *words]
-        return subprocess.Popen(command, env=ENVIRONMENT, stderr=subprocess.PIPE, **options)
+        return running(command, env=ENVIRONMENT, stderr=subprocess.PIPE, **options)
 
     def bank(self):
         """The bank's lines, and where its logs are."""
@@ -548,8 +592,7 @@ class CommandLine(ServerTest):
 
     def test_bytes_behind(self):
         """The bytes of the logs behind the last whole look, or behind the place that is kept."""
-        follower = Follower(str(self.data), self.state, (), PROGRAM, io.BytesIO())
-        self.addCleanup(follower.close)
+        follower = self.follower()
         self.assertIn("place -, - bytes behind, - seconds", follower.status())
         self.index("binlog.000001")
         self.log("binlog.000001", log(1))
@@ -564,7 +607,7 @@ class CommandLine(ServerTest):
         self.assertIn("place binlog.000002, 0 bytes behind", follower.status())
         follower.close()
         # A new follower knows only what is kept.
-        again = Follower(str(self.data), self.state, (), PROGRAM, io.BytesIO())
+        again = self.follower()
         self.assertIn("place binlog.000002, 153 bytes behind, - seconds", again.status())
         again.close()
 
@@ -598,7 +641,7 @@ class CommandLine(ServerTest):
         endless = self.stub("read line\nexec yes '" + line(1, 153, "binlog.000001").decode().rstrip() + "'")
         code = "import sys; from binlogfeed import __main__ as main; main.GRACE = 0.1; sys.exit(main.main())"
         command = [sys.executable, "-c", code, "follow", "--program", endless, "--state", str(self.state), str(self.data)]
-        with subprocess.Popen(command, env=ENVIRONMENT, stdout=subprocess.PIPE, stderr=subprocess.PIPE) as process:
+        with running(command, env=ENVIRONMENT, stdout=subprocess.PIPE, stderr=subprocess.PIPE) as process:
             process.stdout.readline()
             process.send_signal(signal.SIGTERM)
             out, said = process.communicate(timeout=SECONDS)
@@ -659,7 +702,7 @@ class CommandLine(ServerTest):
         code = "import sys; from binlogfeed import __main__ as main, follow; follow.KEEP_BYTES = 1; sys.exit(main.main())"
         command = [sys.executable, "-c", code, "follow", "--program", PROGRAM, "--state", str(self.state), str(self.data)]
         for _ in range(8):
-            with open(taken, "ab") as out, subprocess.Popen(command, env=ENVIRONMENT, stdout=out) as process:
+            with open(taken, "ab") as out, running(command, env=ENVIRONMENT, stdout=out) as process:
                 time.sleep(0.1 + chance.random() * 0.15)
                 process.kill()
             self.cut_back(taken)

@@ -117,6 +117,7 @@ class Blocks(FolderTest):
         """The blocks of a look that a stub answers, and whether it came to its end."""
         run = LookingRun([self.stub(f"read line\n{script}\nread line")])
         self.addCleanup(run.end)
+        self.in_time(run.end)
         look, found = run.look([]), []
         while True:
             try:
@@ -186,6 +187,7 @@ class Watching(FolderTest):
         """A watch of the folder's logs."""
         watch = Watch(where or str(self.folder), [program, "read", "--follow"], place)
         self.addCleanup(watch.end)
+        self.in_time(watch.end)
         return watch
 
     def index(self, *names):

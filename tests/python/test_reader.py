@@ -26,7 +26,7 @@ from binlogfeed import (
     texts,
 )
 from built import logs
-from growing import SECONDS, Server
+from growing import Server
 from support import BANK, PROGRAM, SHOP, TOP, FolderTest, bank_rows
 
 SERVER = "3e11fa47-71ca-11e1-9e33-c80aa9429562"
@@ -319,9 +319,7 @@ class Blocking(FolderTest):
     def reader(self, files, **options):
         """A reader that waits. Where it waits for too long it is closed, and gives no event."""
         events = reader(files, blocking=True, interval=0.001, **options)
-        late = threading.Timer(SECONDS, events.close)
-        late.start()
-        self.addCleanup(late.cancel)
+        self.in_time(events.close)
         self.addCleanup(events.close)
         return events
 

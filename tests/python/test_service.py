@@ -9,10 +9,9 @@ import time
 import unittest
 from pathlib import Path
 
-from support import PROGRAM, SHOP, TOP, FolderTest
+from support import PROGRAM, SECONDS, SHOP, TOP, FolderTest, running
 
 UNIT = TOP / "examples/service/binlogfeed-follow.service"
-SECONDS = 60
 
 
 def settings():
@@ -61,7 +60,7 @@ class Service(FolderTest):
         environment = dict(pair.split("=") for pair in settings()["Environment"].replace("/opt/binlogfeed", str(TOP)).split())
         for text in (first, wanted):
             subprocess.run(self.words("ExecStartPre"), check=True)
-            with subprocess.Popen(self.words("ExecStart"), env=environment) as process:
+            with running(self.words("ExecStart"), env=environment) as process:
                 until = time.monotonic() + SECONDS
                 while (not lines.exists() or lines.stat().st_size < len(text)) and time.monotonic() < until:
                     time.sleep(0.01)
