@@ -638,7 +638,8 @@ class CommandLine(ServerTest):
         """The look is ended behind lines that are out, and the place is kept behind them."""
         self.index("binlog.000001")
         self.log("binlog.000001", log(1))
-        endless = self.stub("read line\nexec yes '" + line(1, 153, "binlog.000001").decode().rstrip() + "'")
+        text = line(1, 153, "binlog.000001").decode()
+        endless = self.stub(f"read line\nwhile :; do\ncat <<'END'\n{text}END\nsleep 0.01\ndone")
         code = "import sys; from binlogfeed import __main__ as main; main.GRACE = 0.1; sys.exit(main.main())"
         command = [sys.executable, "-c", code, "follow", "--program", endless, "--state", str(self.state), str(self.data)]
         with running(command, env=ENVIRONMENT, stdout=subprocess.PIPE, stderr=subprocess.PIPE) as process:
