@@ -6,16 +6,17 @@ import json
 import os
 import pathlib
 import threading
+import warnings
 from collections.abc import Callable, Iterable, Iterator, Mapping
 from types import TracebackType
 from typing import Any, Optional, Union
 
 from binlogfeed.events import KINDS, RowsEvent, Transaction, Values, token_parts
-from binlogfeed.faults import ConversionFailed, LogFault, TokenRefused
+from binlogfeed.faults import ConversionFailed, LogFault, TokenRefused, WordsRefused
 from binlogfeed.logs import is_log
 from binlogfeed.place import Place
 from binlogfeed.program import Run
-from binlogfeed.watch import Logs, Watch
+from binlogfeed.watch import Watch
 
 Path = Union[str, "os.PathLike[str]"]
 Converter = Callable[[Any], Any]
@@ -63,7 +64,7 @@ class BinLogStreamReader:
             *([] if auto_position is None else [f"--auto-position={auto_position}"]),
         ]
         self._command = [os.fspath(program), "read", *words]
-        self._files: Logs = files if isinstance(files, (str, os.PathLike)) else [pathlib.Path(path) for path in files]
+        self._files: Union[Path, list[Path]] = files if isinstance(files, (str, os.PathLike)) else list(files)
         self._resume = resume
         self._blocking = blocking
         self._interval = interval
@@ -164,19 +165,26 @@ class BinLogStreamReader:
 
     def _watched(self) -> Iterator[Optional[bytes]]:
         """The lines of logs that grow, and None behind each look."""
-        logs = self._files
-        if isinstance(logs, (str, os.PathLike)) and is_log(logs):
-            logs = [pathlib.Path(logs)]
+        files = self._files
+        paths = [files] if isinstance(files, (str, os.PathLike)) else files
+        if not paths:
+            raise WordsRefused("binlogfeed: no file is given")
+        is_place = isinstance(files, (str, os.PathLike)) and not is_log(files)
+        logs = paths[0] if is_place else [pathlib.Path(path) for path in paths]
         watch = Watch(logs, [*self._command, "--follow"], _place_behind(self._resume))
         self._run = watch
         return self._looked(watch)
 
     def _looked(self, watch: Watch) -> Iterator[Optional[bytes]]:
         """The lines of one look after the other, and None behind each."""
+        is_empty = False
         while not self._closed:
             for block in watch.look():
                 yield from block.split(b"\n")[:-1]
             yield None
+            if watch.is_empty and not is_empty:
+                is_empty = True
+                warnings.warn(f"binlogfeed: no log matches {self._files} yet", stacklevel=4)
             self._closing.wait(self._interval)
 
     def _event(self, line: bytes) -> RowsEvent:

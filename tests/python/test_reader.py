@@ -402,6 +402,17 @@ class Blocking(FolderTest):
         self.assertEqual(list(events), [])
         with self.assertRaises(LogsGone):
             next(self.reader(f"{self.folder}/binlog.0*", resume="153.1@binlog.000002"))
+        with self.assertRaises(WordsRefused):
+            next(self.reader([]))
+
+    def test_a_pattern_that_matches_nothing_yet(self):
+        """It is warned of once."""
+        events = self.reader(f"{self.folder}/binlog.0*")
+        late = threading.Timer(0.1, self.put, ("binlog.000001", logs.worked_log()))
+        late.start()
+        with self.assertWarns(UserWarning) as caught:
+            self.assertEqual(next(events).token, "153.1@binlog.000001")
+        self.assertEqual([str(one.message) for one in caught.warnings], [f"binlogfeed: no log matches {self.folder}/binlog.0* yet"])
 
     def test_close(self):
         """By another thread: while the reader waits for the program, while it waits for more, and while it begins."""
