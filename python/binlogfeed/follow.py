@@ -17,7 +17,7 @@ from binlogfeed.place import Place
 from binlogfeed.watch import Watch
 
 # The place is kept behind each look, and within one behind so many bytes or seconds.
-KEEP_BYTES = 8 << 20
+KEEP_BYTES = 16 << 20
 KEEP_SECONDS = 1.0
 
 
