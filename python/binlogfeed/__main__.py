@@ -3,7 +3,9 @@ from __future__ import annotations
 
 import argparse
 import os
+import signal
 import sys
+import threading
 import time
 from pathlib import Path
 
@@ -11,9 +13,11 @@ from binlogfeed.faults import BinlogfeedError
 from binlogfeed.follow import Follower
 
 FILTERS = ("only-events", "only-tables", "ignored-tables", "only-schemas", "ignored-schemas", "auto-position")
+# A look that goes on when SIGTERM comes has so many seconds to come to its end.
+GRACE = 5.0
 HELP = """LOGS is the server's index file (binlog.index), the folder that has one, or a pattern in quotes ('/copies/binlog.*').
 The place in FILE is kept once the lines before it are written and flushed. After a kill the last lines may come again; a
-line's token tells them. One process uses FILE at a time, and FILE.lock says so.
+line's token tells them. One process uses FILE at a time, and FILE.lock says so. SIGTERM ends it behind a look, with status 0.
 
 Exit status: that of `binlogfeed read`; 3 also where FILE keeps no place, 4 where another process uses it; 6 where logs that
 were still to be read are gone, and 70 where the program can't be started. docs/USAGE.md says what to do."""
@@ -33,7 +37,9 @@ def given_words() -> argparse.Namespace:
     follow.add_argument("--state", metavar="FILE", required=True, type=Path, help="keeps the place; made where there is none")
     follow.add_argument("--once", action="store_true", help="end where the logs end by now")
     follow.add_argument("--interval", metavar="SECONDS", type=float, default=1.0, help="how often to look for more (1)")
+    follow.add_argument("--status", metavar="SECONDS", type=float, help="say on standard error how far it is, so often")
     follow.add_argument("--program", metavar="PATH", default="binlogfeed", help="the program (binlogfeed)")
+    follow.add_argument("--full", action="store_true", help="print full lines")
     for name in FILTERS:
         metavar = "SET" if name == "auto-position" else "LIST"
         follow.add_argument(f"--{name}", metavar=metavar, help="that of `binlogfeed read`")
@@ -44,12 +50,40 @@ def follow(given: argparse.Namespace) -> None:
     """Prints lines until something ends it, or the logs end."""
     chosen = ((name, getattr(given, name.replace("-", "_"))) for name in FILTERS)
     words = [f"--{name}={value}" for name, value in chosen if value is not None]
+    if given.full:
+        words.insert(0, "--full")
     follower = Follower(given.logs, given.state, words, given.program)
-    while True:
+    stopped = threading.Event()
+    if given.once:
+        stopped.set()
+    else:
+        # No thread takes SIGTERM but the one that waits for it, and the program doesn't either: what ends all processes of a
+        # service must not end the program within a look.
+        signal.pthread_sigmask(signal.SIG_BLOCK, [signal.SIGTERM])
+        threading.Thread(target=wait_for_stop, args=(follower, stopped), daemon=True).start()
+    if given.status:
+        threading.Thread(target=say_status, args=(follower, given.status), daemon=True).start()
+    try:
         follower.catch_up()
-        if given.once:
-            return
-        time.sleep(given.interval)
+        while not stopped.wait(given.interval):
+            follower.catch_up()
+    finally:
+        follower.close()
+
+
+def wait_for_stop(follower: Follower, stopped: threading.Event) -> None:
+    """Waits for SIGTERM. A look that takes too long then is ended behind the lines that it has given."""
+    signal.sigwait([signal.SIGTERM])
+    stopped.set()
+    time.sleep(GRACE)
+    follower.stop()
+
+
+def say_status(follower: Follower, seconds: float) -> None:
+    """Says again and again how far it is."""
+    while True:
+        time.sleep(seconds)
+        print(follower.status(), file=sys.stderr, flush=True)
 
 
 def main() -> int:

@@ -6,6 +6,7 @@ import re
 # What the program says of a log that it can't take in. A file's name may have any character but a slash.
 LOG_FAULT = re.compile(r"^binlogfeed: log fault at (.*):(\d+): (\w+(?:\(\d+\))?)\Z", re.DOTALL | re.MULTILINE)
 TOKEN_REFUSED = re.compile(r"^binlogfeed: token refused: (\w+)\Z", re.MULTILINE)
+LOG_LOST = re.compile(r"^binlogfeed: file (?:gone|shorter): (.*)\Z", re.DOTALL | re.MULTILINE)
 
 
 class BinlogfeedError(Exception):
@@ -51,6 +52,17 @@ class TokenRefused(BinlogfeedError):
         self.name = name
 
 
+class LogLost(BinlogfeedError):
+    """The log that was read last is shorter than what was read of it, or it isn't among the files any more. `file` is its name."""
+
+    status = 3
+
+    def __init__(self, line: str, file: str) -> None:
+        """A loss with the log's name."""
+        super().__init__(line)
+        self.file = file
+
+
 class FileFault(BinlogfeedError):
     """A file can't be opened, read or written, logs can't be listed, or another process uses the kept place."""
 
@@ -89,6 +101,9 @@ def told(said: str, status: int) -> BinlogfeedError:
     refusal = TOKEN_REFUSED.search(said)
     if status == 3 and refusal:
         return TokenRefused(refusal[0], refusal[1])
+    loss = LOG_LOST.search(said)
+    if status == 3 and loss:
+        return LogLost(loss[0], loss[1])
     line = said.rpartition("\n")[2]
     for kind in (WordsRefused, FileFault, OutOfMemory):
         if kind.status == status:

@@ -1,25 +1,24 @@
 """Follows a server's logs while it writes them: prints the lines of `binlogfeed read`, and keeps the place behind them."""
 from __future__ import annotations
 
+import contextlib
 import fcntl
-import json
 import os
 import sys
 import time
-from collections.abc import Sequence
+from collections.abc import Iterable, Sequence
 from pathlib import Path
-from typing import BinaryIO, Optional, TextIO
+from typing import BinaryIO, TextIO
 
+from binlogfeed.events import token_parts
 from binlogfeed.faults import BinlogfeedError, FileFault
-from binlogfeed.logs import Log, listed
+from binlogfeed.logs import is_pattern, listed
 from binlogfeed.place import Place
-from binlogfeed.program import Run
+from binlogfeed.watch import Watch
 
-# Lines are written, and the place is kept behind them, at the end of a run, and before that after so many bytes or seconds.
-KEEP_BYTES = 1 << 20
+# The place is kept behind each look, and within one behind so many bytes or seconds.
+KEEP_BYTES = 16 << 20
 KEEP_SECONDS = 1.0
-# What stands before and behind the token, which is a line's last member. A text in JSON has no bare quotes.
-TOKEN_AT, TOKEN_END = b',"token":', b"}\n"
 
 
 class Follower:
@@ -31,69 +30,80 @@ class Follower:
         """A follower of the logs at a place (an index, its folder, or a pattern), which keeps its own place in a file."""
         self._logs = place
         self._state = state
-        self._command = [program, "read", *words]
         # Without a buffer of its own, which a failed write would leave in an unknown state.
         self._out: BinaryIO = out or open(sys.stdout.fileno(), "wb", buffering=0, closefd=False)
         self._lock = _locked(state)
-        self._place = read_state(state)
-        self._seen: Optional[list[tuple[Path, int]]] = None
+        self._kept = read_state(state)
+        self._watch = Watch(place, [program, "read", "--follow", *words], self._kept)
+        self._said_none = False
 
     def catch_up(self) -> None:
         """Prints all lines that are there by now, and keeps the place. Raises what ended the reading early."""
         try:
-            self._catch_up()
-        except FileFault:
-            # The server takes a log off its index before it purges it. The new index says whether that one was still needed.
-            self._catch_up()
-
-    def _catch_up(self) -> None:
-        """Prints the lines of the logs that are listed by now, where one of them has changed."""
-        logs = self._place.rest(listed(self._logs))
-        seen = [(log.path, _size(log.path)) for log in logs]
-        if logs and seen != self._seen:
-            self._print(logs)
-        self._seen = seen
-
-    def close(self) -> None:
-        """Gives the state's file free for another."""
-        self._lock.close()
-
-    def _print(self, logs: list[Log]) -> None:
-        """Prints the lines of these logs behind the place."""
-        place = self._place
-        resume = [f"--from={place.resume}"] if place.resume else []
-        run = Run([*self._command, *resume, "--", *(str(log.path) for log in logs)])
-        lines, due = bytearray(), time.monotonic() + KEEP_SECONDS
-        try:
-            for line in run.lines():
-                lines += line
-                place = place.behind(_token(line), logs)
-                if len(lines) >= KEEP_BYTES or time.monotonic() >= due:
-                    self._keep(lines, place)
-                    lines, due = bytearray(), time.monotonic() + KEEP_SECONDS
+            with contextlib.closing(self._watch.look()) as blocks:
+                self._print(blocks)
         except BinlogfeedError:
             # The lines before a fault stand.
-            self._keep(lines, place)
+            self._keep()
             raise
-        finally:
-            run.end()
-        self._keep(lines, place.at_end(logs))
+        self._keep()
+        if self._watch.is_empty and is_pattern(self._logs) and not self._said_none:
+            self._said_none = True
+            print(f"binlogfeed: no log matches {self._logs} yet", file=sys.stderr, flush=True)
 
-    def _keep(self, lines: bytearray, place: Place) -> None:
-        """Writes whole lines, and keeps the place behind them once they are out."""
-        left = memoryview(bytes(lines))
-        while left:
-            left = left[self._out.write(left) :]
+    def stop(self) -> None:
+        """Ends a look that goes on, from another thread. The place is kept behind the lines that were printed."""
+        self._watch.end()
+
+    def close(self) -> None:
+        """Ends the program, and gives the state's file free for another."""
+        self._watch.end()
+        self._lock.close()
+
+    def status(self) -> str:
+        """A line that says which place is kept, and how far the printed lines are behind the logs."""
+        time_of_line = self._watch.last_time
+        seconds = "-" if time_of_line is None else int(time.time()) - time_of_line
+        place = self._kept.resume or self._kept.file or "-"
+        return f"binlogfeed: place {place}, {self._bytes_behind()} bytes behind, {seconds} seconds behind"
+
+    def _bytes_behind(self) -> int | str:
+        """How many bytes the logs have behind the last whole look's end, or behind the kept place where that is further on.
+
+        Bytes that give no line count, too. Where the logs can't be listed there is no such number.
+        """
+        kept = self._kept
+        position = token_parts(kept.resume).position if kept.resume else 0
+        file, end = self._watch.reached
+        if file == kept.file:
+            position = max(position, end)
+        try:
+            sizes = {path.name: path.stat().st_size for path in listed(self._logs)}
+        except (FileFault, OSError):
+            return "-"
+        names = list(sizes)
+        behind = names[names.index(kept.file) :] if kept.file in sizes else names
+        return max(0, sum(sizes[name] for name in behind) - (position if kept.file in sizes else 0))
+
+    def _print(self, blocks: Iterable[bytes]) -> None:
+        """Writes whole lines. Within a long look the place is kept, too."""
+        written, due = 0, time.monotonic() + KEEP_SECONDS
+        for lines in blocks:
+            left = memoryview(lines)
+            while left:
+                left = left[self._out.write(left) :]
+            written += len(lines)
+            if written >= KEEP_BYTES or time.monotonic() >= due:
+                self._keep()
+                written, due = 0, time.monotonic() + KEEP_SECONDS
+
+    def _keep(self) -> None:
+        """Keeps the place behind the lines that were written, once they are out."""
         self._out.flush()
-        if place != self._place:
+        place = self._watch.place
+        if place != self._kept:
             write_state(self._state, place)
-            self._place = place
-
-
-def _token(line: bytes) -> str:
-    """The token of a line."""
-    token: str = json.loads(line[line.rindex(TOKEN_AT) + len(TOKEN_AT) : -len(TOKEN_END)])
-    return token
+            self._kept = place
 
 
 def _locked(state: Path) -> TextIO:
@@ -105,14 +115,6 @@ def _locked(state: Path) -> TextIO:
         lock.close()
         raise FileFault(f"binlogfeed: another process uses {state}") from error
     return lock
-
-
-def _size(path: Path) -> int:
-    """A file's size."""
-    try:
-        return path.stat().st_size
-    except OSError as error:
-        raise FileFault(f"binlogfeed: cannot open {path}") from error
 
 
 def read_state(state: Path) -> Place:

@@ -36,9 +36,26 @@ def listed(place: str | os.PathLike[str]) -> list[Path]:
     path = Path(place)
     if path.is_dir():
         return _of_index(_index_of(path))
-    if glob.has_magic(str(place)) and not path.exists():
-        return _of_pattern(str(place))
-    return _of_index(path)
+    return _of_pattern(str(place)) if is_pattern(place) else _of_index(path)
+
+
+def is_pattern(place: str | os.PathLike[str]) -> bool:
+    """Whether a place of logs is a pattern, and neither an index nor a folder."""
+    return glob.has_magic(str(place)) and not Path(place).exists()
+
+
+def is_log(place: str | os.PathLike[str]) -> bool:
+    """Whether a place is a log itself: by its name, or by what it begins with."""
+    path = Path(place)
+    if path.is_dir():
+        return False
+    if NAME.fullmatch(path.name):
+        return not is_pattern(place)
+    try:
+        with open(path, "rb") as file:
+            return file.read(len(MAGIC)) == MAGIC
+    except OSError:
+        return False
 
 
 def _index_of(folder: Path) -> Path:

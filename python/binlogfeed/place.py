@@ -2,7 +2,7 @@
 from __future__ import annotations
 
 import json
-from collections.abc import Sequence
+from collections.abc import Callable, Sequence
 from dataclasses import asdict, dataclass, replace
 from pathlib import Path
 from typing import Optional
@@ -31,8 +31,11 @@ class Place:
         """The token to go on behind, over the files that `rest` gives; None where they are read from their beginning."""
         return self.token if self.token and token_parts(self.token).file == self.file else None
 
-    def rest(self, paths: Sequence[Path]) -> list[Log]:
-        """The logs that are still to be read, of those that are there. Raises `LogsGone` where some of them aren't there."""
+    def rest(self, paths: Sequence[Path], begins: Callable[[Path], Optional[str]] = beginning) -> list[Log]:
+        """The logs that are still to be read, of those that are there. Raises `LogsGone` where some of them aren't there.
+
+        `begins` answers the digest of a log's first event, for who has it already.
+        """
         rest = list(paths)
         if self.file is not None:
             while rest and rest[0].name != self.file:
@@ -41,7 +44,7 @@ class Place:
                 left = f"the first that is left is {paths[0].name}" if paths else "none is left"
                 raise LogsGone(f"binlogfeed: {self.file} is gone, and wasn't read to its end: {left}")
         check_without_gap(rest)
-        logs = [Log(path, beginning(path)) for path in rest]
+        logs = [Log(path, begins(path)) for path in rest]
         if self.begins and logs[0].begins != self.begins:
             raise LogsGone(f"binlogfeed: {self.file} is gone: another log has its name")
         return logs

@@ -1,33 +1,68 @@
-"""A run of the program: its lines, one by one, and its end."""
+"""Runs of the program: one that ends, line by line, and one that goes on, look after look."""
 from __future__ import annotations
 
+import contextlib
 import os
 import subprocess
 import tempfile
 import threading
-from collections.abc import Iterator, Sequence
+from collections.abc import Generator, Iterator, Sequence
+from pathlib import Path
 
-from binlogfeed.faults import ProgramFailed, ProgramMissing, told
+from binlogfeed.faults import FileFault, ProgramFailed, ProgramMissing, told
 
 BUFFER = 1 << 16
 
 
-class Run:
-    """A run of the program. Only what stands between the program and the caller is held in memory."""
+class Program:
+    """The program as it runs. Only what stands between it and the caller is held in memory."""
 
-    def __init__(self, command: Sequence[str | os.PathLike[str]]) -> None:
+    def __init__(self, command: Sequence[str | os.PathLike[str]], stdin: int) -> None:
         """Starts the program."""
         self._ended = False
         self._ending = threading.RLock()
         # A file takes what the program says on standard error, so that it never waits for a reader.
         self._said = tempfile.TemporaryFile()
         try:
-            self._process = subprocess.Popen(
-                command, bufsize=BUFFER, stdin=subprocess.DEVNULL, stdout=subprocess.PIPE, stderr=self._said
-            )
+            self._process = subprocess.Popen(command, bufsize=BUFFER, stdin=stdin, stdout=subprocess.PIPE, stderr=self._said)
         except OSError as error:
             self._said.close()
             raise ProgramMissing(f"binlogfeed: the program can't be started: {error}") from error
+
+    def _outcome(self) -> tuple[int, str] | None:
+        """The status that the program ended with, and what it said on standard error; None where `end` ended it."""
+        status = self._process.wait()
+        try:
+            self._said.seek(0)
+            said = self._said.read().decode("utf-8", "surrogateescape").rstrip("\n")
+        except ValueError:  # `end` closed it meanwhile
+            return None
+        if self._ended:
+            return None
+        self.end()
+        return status, said
+
+    def end(self) -> None:
+        """Ends the program, if it still runs, and waits for it. Several threads may call it at once."""
+        self._ended = True
+        with self._ending:
+            if self._process.poll() is None:
+                self._process.kill()
+            self._process.wait()
+            for pipe in (self._process.stdin, self._process.stdout):
+                # What an ended program didn't take is lost with it.
+                with contextlib.suppress(BrokenPipeError):
+                    if pipe is not None:
+                        pipe.close()
+            self._said.close()
+
+
+class Run(Program):
+    """A run that ends."""
+
+    def __init__(self, command: Sequence[str | os.PathLike[str]]) -> None:
+        """Starts the program."""
+        super().__init__(command, subprocess.DEVNULL)
 
     def lines(self) -> Iterator[bytes]:
         """Each line with its line feed, then the error where the program ended with one. After `end` there are no more."""
@@ -45,27 +80,77 @@ class Run:
 
     def _judge(self, rest: bytes) -> None:
         """Raises the error that the program ended with."""
-        status = self._process.wait()
-        try:
-            self._said.seek(0)
-            said = self._said.read().decode("utf-8", "surrogateescape").rstrip("\n")
-        except ValueError:  # `end` closed it meanwhile
+        outcome = self._outcome()
+        if outcome is None:
             return
-        if self._ended:
-            return
-        self.end()
+        status, said = outcome
         if status:
             raise told(said, status)
         if rest:
             raise ProgramFailed("binlogfeed: the program's last line is cut")
 
-    def end(self) -> None:
-        """Ends the program, if it still runs, and waits for it. Several threads may call it at once."""
-        self._ended = True
-        with self._ending:
-            if self._process.poll() is None:
-                self._process.kill()
-            self._process.wait()
-            if self._process.stdout is not None:
-                self._process.stdout.close()
-            self._said.close()
+
+class LookingRun(Program):
+    """A run that goes on, of `read --follow`. It answers a list of files with the lines that are new in them, and an empty line."""
+
+    def __init__(self, command: Sequence[str | os.PathLike[str]]) -> None:
+        """Starts the program."""
+        super().__init__(command, subprocess.PIPE)
+
+    def look(self, paths: Sequence[Path]) -> Generator[bytes, None, bool]:
+        """The lines that are new in these files, in blocks of whole lines. Without a path the files are those of the look before.
+
+        Then the error where the program ended with one. Answers whether the look came to its end: after `end` it didn't.
+        """
+        self._ask(paths)
+        cut: list[bytes] = []
+        while True:
+            block = self._read()
+            if not block:
+                self._judge()
+                return False
+            whole = block.rfind(b"\n") + 1
+            if not whole:
+                cut.append(block)
+                continue
+            lines = b"".join((*cut, memoryview(block)[:whole]))
+            cut = [block[whole:]]
+            # No line is empty but the one that ends a look, and nothing follows that one until the program is asked again.
+            ended = lines == b"\n" or lines.endswith(b"\n\n")
+            if ended:
+                lines = lines[:-1]
+            if lines:
+                yield lines
+            if ended:
+                return True
+
+    def _judge(self) -> None:
+        """Raises the error that the program ended with. It had no reason to end while it is asked."""
+        outcome = self._outcome()
+        if outcome is not None:
+            status, said = outcome
+            raise told(said, status) if status else ProgramFailed("binlogfeed: the program ended within a look")
+
+    def _ask(self, paths: Sequence[Path]) -> None:
+        """Gives the program its list, which an empty line ends."""
+        names = [os.fsencode(path) for path in paths]
+        for name in names:
+            if b"\n" in name:
+                raise FileFault(f"binlogfeed: a path with a line feed can't be followed: {os.fsdecode(name)!r}")
+        pipe = self._process.stdin
+        assert pipe is not None
+        try:
+            pipe.write(b"".join(name + b"\n" for name in names) + b"\n")
+            pipe.flush()
+        except (BrokenPipeError, ValueError):
+            # The program ended, which the reading tells; or `end` closed the pipe.
+            pass
+
+    def _read(self) -> bytes:
+        """What the program wrote by now; nothing where it ended."""
+        output = self._process.stdout
+        assert output is not None
+        try:
+            return output.read1(BUFFER)
+        except ValueError:  # `end` closed it meanwhile
+            return b""

@@ -1,8 +1,11 @@
 """What the Python tests share: the program, logs, and programs that stand in for it."""
+import contextlib
 import json
 import os
 import shutil
+import subprocess
 import tempfile
+import threading
 import unittest
 from pathlib import Path
 
@@ -10,6 +13,8 @@ TOP = Path(__file__).resolve().parents[2]
 PROGRAM = os.environ.get("BINLOGFEED_PROGRAM") or str(TOP / "crates/program/out/program")
 SHOP = sorted((TOP / "examples/shop").glob("binlog.*"))
 BANK = sorted((TOP / "tests/bank").glob("binlog.*"))
+# What takes longer than so many seconds hangs.
+SECONDS = 60
 
 
 def bank_rows():
@@ -19,6 +24,21 @@ def bank_rows():
         told = json.loads(line)
         rows[told["table"]].append(told["row"])
     return rows
+
+
+@contextlib.contextmanager
+def running(command, **options):
+    """A process that doesn't outlive a test that fails."""
+    with subprocess.Popen(command, **options) as process:
+        late = threading.Timer(SECONDS, process.kill)
+        late.start()
+        try:
+            yield process
+        except BaseException:
+            process.kill()
+            raise
+        finally:
+            late.cancel()
 
 
 class FolderTest(unittest.TestCase):
@@ -34,6 +54,13 @@ class FolderTest(unittest.TestCase):
         path = self.folder / name
         path.write_bytes(content)
         return path
+
+    def in_time(self, end):
+        """Has something ended where the test takes too long."""
+        late = threading.Timer(SECONDS, end)
+        late.daemon = True
+        late.start()
+        self.addCleanup(late.cancel)
 
     def stub(self, script: str) -> str:
         """A program of some lines of shell, in place of the real one."""

@@ -3,17 +3,23 @@ import io
 import json
 import os
 import random
+import re
 import signal
 import subprocess
 import sys
+import threading
 import time
 
-from binlogfeed import BinlogfeedError, FileFault, LogFault, LogsGone, Place, TokenRefused, listed
+from binlogfeed import BinlogfeedError, FileFault, LogFault, LogLost, LogsGone, Place, TokenRefused, listed
+from binlogfeed import follow as following
+from binlogfeed import watch as watching
 from binlogfeed.follow import Follower, read_state, write_state
 from built import logs
-from support import BANK, PROGRAM, TOP, FolderTest
+from growing import Server
+from support import BANK, PROGRAM, SECONDS, SHOP, TOP, FolderTest, running
 
 ROTATE = 4
+ENVIRONMENT = {**os.environ, "PYTHONPATH": str(TOP / "python")}
 
 
 def rotate_body(name):
@@ -34,6 +40,11 @@ def line(number, place, name):
     return logs.change_line(place, number, name).encode()
 
 
+def read(files, *words):
+    """The lines of one `read`."""
+    return subprocess.run([PROGRAM, "read", *words, *map(str, files)], capture_output=True, check=True).stdout
+
+
 class Refusing(io.BytesIO):
     """An output that takes what is written, and refuses to hand it on."""
 
@@ -51,6 +62,8 @@ class ServerTest(FolderTest):
         self.data = self.folder / "data"
         self.data.mkdir()
         self.state = self.folder / "state"
+        self.addCleanup(setattr, watching, "PATIENCE", watching.PATIENCE)
+        watching.PATIENCE = 0.1
 
     def index(self, *names):
         """Writes the index."""
@@ -60,10 +73,17 @@ class ServerTest(FolderTest):
         """Writes a log."""
         (self.data / name).write_bytes(content)
 
+    def follower(self, out=None, words=(), program=PROGRAM, place=None, state=None):
+        """A follower. It ends with the test."""
+        follower = Follower(str(place or self.data), state or self.state, words, program, out or io.BytesIO())
+        self.addCleanup(follower.close)
+        self.in_time(follower.stop)
+        return follower
+
     def followed(self, out=None, place=None, words=()):
         """What a follower that starts now prints until the logs end."""
         out = out or io.BytesIO()
-        follower = Follower(str(place or self.data), self.state, words, PROGRAM, out)
+        follower = self.follower(out, words, place=place)
         try:
             follower.catch_up()
         finally:
@@ -92,43 +112,168 @@ class Growing(ServerTest):
             wanted = {371: line(1, 153, "binlog.000001"), 589: line(2, 371, "binlog.000001")}.get(end, b"")
             self.assertEqual(self.followed(), wanted, end)
 
-    def test_the_bank_in_pieces(self):
-        """At random moments between the server's writes one follower goes on, or a new one starts."""
-        wanted = subprocess.run([PROGRAM, "read", *map(str, BANK)], capture_output=True, check=True).stdout
-        chance = random.Random(7)
-        out, names = io.BytesIO(), []
-        follower = None
-        for path in BANK:
-            content = path.read_bytes()
-            ends = sorted(chance.sample(range(len(content)), min(len(content), 6)))
-            names.append(path.name)
-            for end in [*ends, len(content)]:
-                self.log(path.name, content[:end])
-                self.index(*names)
-                if follower is None or chance.random() < 0.5:
-                    if follower:
-                        follower.close()
-                    follower = Follower(str(self.data), self.state, (), PROGRAM, out)
+    def test_each_byte_by_one_follower(self):
+        """Two logs grow by a byte, and rotate. One follower takes each line as soon as its transaction is whole."""
+        whole, out = log(1, 2, following="binlog.000002"), io.BytesIO()
+        follower = self.follower(out)
+        self.index("binlog.000001")
+        ends, lines = {371: (1, 153), 589: (2, 371)}, b""
+        for name, content in (("binlog.000001", whole), ("binlog.000002", log(1, 2))):
+            self.log(name, b"")
+            self.index(*(path.name for path in sorted(self.data.glob("binlog.0*"))))
+            for end in range(1, len(content) + 1):
+                self.log(name, content[:end])
                 follower.catch_up()
-            # The server purges what was read.
-            while len(names) > 1 and chance.random() < 0.6:
-                (self.data / names.pop(0)).unlink()
-                self.index(*names)
+                lines += line(*ends[end], name) if end in ends else b""
+                self.assertEqual(out.getvalue(), lines, end)
+
+    def test_servers_in_pieces(self):
+        """At random moments between the server's writes one follower goes on, or a new one starts."""
+        for seed, files, words in ((7, BANK, ()), (8, SHOP, ("--full",)), (9, SHOP, ("--only-tables=line",))):
+            with self.subTest(seed=seed):
+                folder = self.folder / str(seed)
+                folder.mkdir()
+                state, chance, out = folder / "state", random.Random(seed), io.BytesIO()
+                server, follower, goes_on = Server(folder, files, chance), None, True
+                while goes_on:
+                    goes_on = server.step()
+                    if follower is None or chance.random() < 0.2:
+                        if follower:
+                            follower.close()
+                        follower = self.follower(out, words, place=folder, state=state)
+                    follower.catch_up()
+                    # The server purges what was read.
+                    if chance.random() < 0.2:
+                        server.purge(read_state(state).file)
+                follower.close()
+                self.assertEqual(out.getvalue(), read(files, *words))
+
+    def test_a_server_whose_index_is_away(self):
+        """The server rotates and purges while the follower looks. Its index is away for 20 ms each time."""
+        watching.PATIENCE = 1.0
+        out, ended = io.BytesIO(), threading.Event()
+        server = Server(self.data, BANK[:6], random.Random(5), away=0.02)
+
+        def serve():
+            while server.step():
+                if self.state.exists():
+                    server.purge(read_state(self.state).file)
+            ended.set()
+
+        thread = threading.Thread(target=serve)
+        follower = self.follower(out)
+        thread.start()
+        while not ended.is_set():
+            follower.catch_up()
+        thread.join()
+        follower.catch_up()
         follower.close()
-        self.assertEqual(out.getvalue(), wanted)
+        self.assertEqual(out.getvalue(), read(BANK[:6]))
+
+    def test_an_index_that_is_away(self):
+        """Without an index, or with an empty one, nothing is said at once; and a log that isn't there is looked for again."""
+        watching.PATIENCE = 1.0
+        self.log("binlog.000001", log(1))
+        self.index("binlog.000001")
+        out = io.BytesIO()
+        follower = self.follower(out)
+        follower.catch_up()
+        index, kept = self.data / "binlog.index", self.data / "binlog.index.kept"
+        self.log("binlog.000001", log(1, 2))
+        for away in (index.unlink, lambda: index.write_bytes(b""), lambda: index.write_text("./binlog.000001\n./binlog.000002\n")):
+            kept.write_bytes(index.read_bytes())
+            away()
+            back = threading.Timer(0.02, os.replace, (kept, index))
+            back.start()
+            follower.catch_up()
+            back.join()
+        self.assertEqual(out.getvalue(), line(1, 153, "binlog.000001") + line(2, 371, "binlog.000001"))
+
+    def test_a_place_at_the_logs_end(self):
+        """As mysqldump names it: no change's token, but the end of a transaction."""
+        self.log("binlog.000001", log(1))
+        self.index("binlog.000001")
+        self.state.write_text('{"token": "371.0@binlog.000001"}')
+        self.assertEqual(self.followed(), b"")
+        self.log("binlog.000001", log(1, 2))
+        self.assertEqual(self.followed(), line(2, 371, "binlog.000001"))
+
+    def test_within_a_long_look(self):
+        """The place is kept behind lines that are out, before the look comes to its end."""
+        self.addCleanup(setattr, following, "KEEP_BYTES", following.KEEP_BYTES)
+        following.KEEP_BYTES = 1
+        self.index("binlog.000001")
+        self.log("binlog.000001", logs.worked_log(3_000))
+        kept, state = [], self.state
+
+        class Watched(io.BytesIO):
+            """An output that notes which place is kept as the next block comes."""
+
+            def write(self, block):
+                """Notes the place."""
+                kept.append((read_state(state).token, self.getvalue()))
+                return super().write(block)
+
+        out = Watched()
+        follower = self.follower(out)
+        follower.catch_up()
+        self.assertEqual(out.getvalue(), logs.change_lines(3_000, "binlog.000001"))
+        self.assertGreater(len(kept), 3)
+        for token, before in kept:
+            self.assertEqual(json.loads(before.splitlines()[-1])["token"] if before else None, token)
+
+    def test_bytes_behind_within_a_long_look(self):
+        """Those behind the last whole look, until the place that is kept is further on."""
+        self.addCleanup(setattr, following, "KEEP_BYTES", following.KEEP_BYTES)
+        following.KEEP_BYTES = 1
+        said = []
+
+        class Watched(io.BytesIO):
+            """An output that notes what is said as the next block comes."""
+
+            def write(self, block):
+                """Notes what is said."""
+                said.append((read_state(state).token, follower.status()))
+                return super().write(block)
+
+        state = self.state
+        follower = self.follower(Watched())
+        self.index("binlog.000001")
+        for count, done in ((1_500, 0), (3_000, len(logs.worked_log(1_500)))):
+            self.log("binlog.000001", logs.worked_log(count))
+            said.clear()
+            follower.catch_up()
+            self.assertGreater(len(said), 3)
+            for token, status in said:
+                place = max(done, int(token.partition(".")[0]) if token else 0)
+                self.assertIn(f" {len(logs.worked_log(count)) - place} bytes behind,", status)
+        self.assertIn(" 0 bytes behind,", follower.status())
 
     def test_nothing_new(self):
         self.index("binlog.000001")
         self.log("binlog.000001", log(1))
         out = io.BytesIO()
-        follower = Follower(str(self.data), self.state, (), self.counted(), out)
+        follower = self.follower(out, program=self.counted())
         for _ in range(3):
             follower.catch_up()
-        self.assertEqual((self.folder / "runs").read_text(), "run\n")
         self.log("binlog.000001", log(1, 2))
         follower.catch_up()
         follower.close()
+        # One run goes on.
+        self.assertEqual((self.folder / "runs").read_text(), "run\n")
         self.assertEqual(out.getvalue(), line(1, 153, "binlog.000001") + line(2, 371, "binlog.000001"))
+
+    def test_close(self):
+        """The program ends with its follower."""
+        self.index("binlog.000001")
+        self.log("binlog.000001", log(1))
+        follower = self.follower(program=self.stub(f'echo $$ > {self.folder}/process\nexec {PROGRAM} "$@"'))
+        follower.catch_up()
+        process = int((self.folder / "process").read_text())
+        os.kill(process, 0)
+        follower.close()
+        with self.assertRaises(ProcessLookupError):
+            os.kill(process, 0)
 
     def counted(self):
         """The program, and a file that has a line for each of its runs."""
@@ -158,6 +303,25 @@ class Growing(ServerTest):
         self.assertEqual(read_state(self.state).token, "153.1@binlog.000001")
         self.log("binlog.000001", log(1, 2))
         self.assertEqual(self.followed(), line(2, 371, "binlog.000001"))
+
+
+    def test_within_a_slow_look(self):
+        """Lines are out at once, and the place is kept behind each second, though the look goes on."""
+        self.addCleanup(setattr, following, "KEEP_SECONDS", following.KEEP_SECONDS)
+        self.index("binlog.000001")
+        self.log("binlog.000001", log(1, 2))
+        lines = [line(1, 153, "binlog.000001").decode(), line(2, 371, "binlog.000001").decode()]
+        for seconds, kept in ((0.0, "153.1@binlog.000001"), (60.0, None)):
+            following.KEEP_SECONDS = seconds
+            self.state.unlink(missing_ok=True)
+            said = f"cat {self.state} > {self.folder}/kept 2>/dev/null"
+            program = self.stub(f"read line\ncat <<'END'\n{lines[0]}END\nsleep 0.2\n{said}\ncat <<'END'\n{lines[1]}\nEND\nread line")
+            follower = self.follower(program=program)
+            follower.catch_up()
+            follower.close()
+            text = (self.folder / "kept").read_text()
+            self.assertEqual(Place.from_text(text).token if text else None, kept)
+            self.assertEqual(read_state(self.state).token, "371.1@binlog.000001")
 
 
 class Purged(ServerTest):
@@ -220,6 +384,25 @@ class Purged(ServerTest):
         self.log("binlog.000001", bytes(closed))
         self.assertEqual(self.followed(), line(2, 371, "binlog.000001"))
 
+    def test_logs_that_begin_anew_while_they_are_followed(self):
+        follower = self.follower()
+        follower.catch_up()
+        new = bytearray(log(9, 10, 11))
+        new[4:8] = (logs.TIME + 1).to_bytes(4, "little")
+        self.log("binlog.000001", bytes(new))
+        with self.assertRaises(LogsGone) as caught:
+            follower.catch_up()
+        self.assertIn("another log has its name", caught.exception.line)
+
+    def test_a_log_that_lost_its_end_while_it_is_followed(self):
+        follower = self.follower()
+        self.log("binlog.000001", log(1, 2))
+        follower.catch_up()
+        self.log("binlog.000001", log(1))
+        with self.assertRaises(LogLost) as caught:
+            follower.catch_up()
+        self.assertEqual(caught.exception.line, "binlogfeed: file shorter: binlog.000001")
+
     def test_a_log_that_lost_its_end(self):
         self.log("binlog.000001", log(1)[:370])
         with self.assertRaises(TokenRefused) as caught:
@@ -245,7 +428,7 @@ class Purged(ServerTest):
         program = self.stub(
             f"rm -f {self.data}/binlog.000001; printf './binlog.000002\\n' > {self.data}/binlog.index\nexec {PROGRAM} \"$@\""
         )
-        follower = Follower(str(self.data), self.state, (), program, io.BytesIO())
+        follower = self.follower(program=program)
         with self.assertRaises(LogsGone):
             follower.catch_up()
         follower.close()
@@ -290,9 +473,9 @@ class States(ServerTest):
             self.assertEqual(read_state(self.state), place)
 
     def test_two_followers(self):
-        first = Follower(str(self.data), self.state, (), PROGRAM, io.BytesIO())
+        first = self.follower()
         with self.assertRaises(FileFault) as caught:
-            Follower(str(self.data), self.state, (), PROGRAM, io.BytesIO())
+            self.follower()
         self.assertIn("another process uses", caught.exception.line)
         first.close()
         self.assertEqual(len(self.followed().splitlines()), 2)
@@ -336,15 +519,13 @@ class CommandLine(ServerTest):
     """The command."""
 
     def run_follow(self, *words, **options):
-        """Runs the command, and answers its process."""
-        environment = {**os.environ, "PYTHONPATH": str(TOP / "python")}
+        """Runs the command, and gives its process."""
         command = [sys.executable, "-m", "binlogfeed", "follow", "--program", PROGRAM, "--state", str(self.state), *words]
-        return subprocess.Popen(command, env=environment, stderr=subprocess.PIPE, **options)
+        return running(command, env=ENVIRONMENT, stderr=subprocess.PIPE, **options)
 
     def bank(self):
         """The bank's lines, and where its logs are."""
-        lines = subprocess.run([PROGRAM, "read", *map(str, BANK)], capture_output=True, check=True).stdout
-        return lines, str(BANK[0].parent / "binlog.0*")
+        return read(BANK), str(BANK[0].parent / "binlog.0*")
 
     def test_once(self):
         lines, place = self.bank()
@@ -381,23 +562,151 @@ class CommandLine(ServerTest):
         # What the pipe still held is lost, so nothing of it is kept.
         self.assertFalse(self.state.exists())
 
+    def test_full_lines(self):
+        with self.run_follow("--once", "--full", str(SHOP[0].parent / "binlog.0*"), stdout=subprocess.PIPE) as process:
+            self.assertEqual(process.communicate(), (read(SHOP, "--full"), b""))
+
+    def test_a_pattern_that_matches_nothing_yet(self):
+        """It says so once, and goes on."""
+        pattern = f"{self.data}/binlog.0*"
+        with self.run_follow("--interval", "0.01", pattern, stdout=subprocess.PIPE) as process:
+            time.sleep(0.3)
+            self.log("binlog.000001", log(1))
+            self.assertEqual(process.stdout.readline(), line(1, 153, "binlog.000001"))
+            process.send_signal(signal.SIGTERM)
+            self.assertEqual(process.communicate(), (b"", f"binlogfeed: no log matches {pattern} yet\n".encode()))
+
+    def test_status(self):
+        """It says the place that is kept, and how far it is behind."""
+        self.index("binlog.000001")
+        self.log("binlog.000001", log())
+        words = ("--interval", "0.01", "--status", "0.05", str(self.data))
+        with self.run_follow(*words, stdout=subprocess.PIPE) as process:
+            self.said(process, rb"binlogfeed: place binlog\.000001, 0 bytes behind, - seconds behind\n")
+            # What is cut is behind, too.
+            self.log("binlog.000001", log(1) + b"cut")
+            said = self.said(process, rb"binlogfeed: place 153\.1@binlog\.000001, 0 bytes behind, (\d+) seconds behind\n")
+            self.assertAlmostEqual(int(said[1]), time.time() - logs.TIME, delta=SECONDS)
+            process.send_signal(signal.SIGTERM)
+            self.assertEqual(process.wait(SECONDS), 0)
+
+    def test_bytes_behind(self):
+        """The bytes of the logs behind the last whole look, or behind the place that is kept."""
+        follower = self.follower()
+        self.assertIn("place -, - bytes behind, - seconds", follower.status())
+        self.index("binlog.000001")
+        self.log("binlog.000001", log(1))
+        self.assertIn("place -, 371 bytes behind, - seconds", follower.status())
+        follower.catch_up()
+        self.assertIn("place 153.1@binlog.000001, 0 bytes behind", follower.status())
+        self.log("binlog.000001", log(1, 2, following="binlog.000002"))
+        self.log("binlog.000002", log())
+        self.index("binlog.000001", "binlog.000002")
+        self.assertIn(f"place 153.1@binlog.000001, {218 + 19 + 21 + 153} bytes behind", follower.status())
+        follower.catch_up()
+        self.assertIn("place binlog.000002, 0 bytes behind", follower.status())
+        follower.close()
+        # A new follower knows only what is kept.
+        again = self.follower()
+        self.assertIn("place binlog.000002, 153 bytes behind, - seconds", again.status())
+        again.close()
+
+    def said(self, process, pattern):
+        """The first line on standard error that a pattern matches."""
+        until = time.monotonic() + SECONDS
+        for text in iter(process.stderr.readline, b""):
+            found = re.fullmatch(pattern, text)
+            if found or time.monotonic() > until:
+                break
+        self.assertTrue(found, text)
+        return found
+
+    def test_sigterm(self):
+        """It ends behind a look, also where all processes of a service are told."""
+        self.index("binlog.000001")
+        for many, tell in enumerate((os.kill, os.killpg), 1):
+            self.log("binlog.000001", log(*range(1, many + 1)))
+            with self.run_follow("--interval", "60", str(self.data), stdout=subprocess.PIPE, start_new_session=True) as process:
+                place = 153 + 218 * (many - 1)
+                self.assertEqual(process.stdout.readline(), line(many, place, "binlog.000001"))
+                tell(process.pid, signal.SIGTERM)
+                self.assertEqual(process.communicate(timeout=SECONDS), (b"", b""))
+            self.assertEqual(process.returncode, 0)
+            self.assertEqual(read_state(self.state).token, f"{place}.1@binlog.000001")
+
+    def test_sigterm_within_a_long_look(self):
+        """The look is ended behind lines that are out, and the place is kept behind them."""
+        self.index("binlog.000001")
+        self.log("binlog.000001", log(1))
+        text = line(1, 153, "binlog.000001").decode()
+        endless = self.stub(f"read line\nwhile :; do\ncat <<'END'\n{text}END\nsleep 0.01\ndone")
+        code = "import sys; from binlogfeed import __main__ as main; main.GRACE = 0.1; sys.exit(main.main())"
+        command = [sys.executable, "-c", code, "follow", "--program", endless, "--state", str(self.state), str(self.data)]
+        with running(command, env=ENVIRONMENT, stdout=subprocess.PIPE, stderr=subprocess.PIPE) as process:
+            process.stdout.readline()
+            process.send_signal(signal.SIGTERM)
+            out, said = process.communicate(timeout=SECONDS)
+        self.assertEqual((process.returncode, said, out[-1:]), (0, b"", b"\n"))
+        self.assertEqual(read_state(self.state).token, "153.1@binlog.000001")
+
+    def test_sigint(self):
+        self.index("binlog.000001")
+        self.log("binlog.000001", log(1))
+        with self.run_follow("--interval", "60", str(self.data), stdout=subprocess.PIPE) as process:
+            process.stdout.readline()
+            process.send_signal(signal.SIGINT)
+            self.assertEqual(process.communicate(timeout=SECONDS), (b"", b""))
+        self.assertEqual(process.returncode, 130)
+
+    def cut_back(self, taken):
+        """Cuts what was taken back to the kept place. What is kept was taken."""
+        text, token = taken.read_bytes(), read_state(self.state).token
+        if token is None:
+            taken.write_bytes(b"")
+            return
+        member = f'"token":"{token}"}}\n'.encode()
+        self.assertEqual(text.count(member), 1)
+        taken.write_bytes(text[: text.index(member) + len(member)])
+
     def test_killed(self):
-        """Kills it while the logs grow. What it wrote, without what came again, is what `read` writes."""
-        lines, _ = self.bank()
-        taken = self.folder / "taken"
-        chance = random.Random(11)
-        names = []
-        for path in BANK:
-            names.append(path.name)
-            self.log(path.name, path.read_bytes())
-            self.index(*names)
-            with open(taken, "ab") as out, self.run_follow("--interval", "0.01", str(self.data), stdout=out) as process:
+        """Kills it while a server writes, rotates and purges. Up to the kept place, what it wrote is what `read` writes."""
+        taken, chance, ended = self.folder / "taken", random.Random(11), threading.Event()
+        server = Server(self.data, BANK, chance, away=0.01)
+
+        def serve():
+            while server.step():
+                time.sleep(0.01)
+                if self.state.exists():
+                    server.purge(read_state(self.state).file)
+            ended.set()
+
+        thread, kills = threading.Thread(target=serve), 0
+        thread.start()
+        while not ended.is_set():
+            with open(taken, "ab") as out, self.run_follow("--interval", "0.001", str(self.data), stdout=out) as process:
                 time.sleep(0.1 + chance.random() * 0.3)
-                process.send_signal(signal.SIGKILL)
-            # The system may cut a write of a killed process: whoever takes the lines drops the cut one, which comes again.
-            text = taken.read_bytes()
-            taken.write_bytes(text[: text.rfind(b"\n") + 1])
+                process.kill()
+                self.assertEqual(process.stderr.read(), b"")
+            self.cut_back(taken)
+            kills += 1
+        thread.join()
         with open(taken, "ab") as out, self.run_follow("--once", str(self.data), stdout=out) as process:
             self.assertEqual((process.wait(), process.stderr.read()), (0, b""))
-        found = {json.loads(text)["token"]: text for text in taken.read_bytes().splitlines(keepends=True)}
-        self.assertEqual(b"".join(found.values()), lines)
+        self.assertEqual(taken.read_bytes(), read(BANK))
+        self.assertGreater(kills, 5)
+
+    def test_killed_within_a_look(self):
+        """Kills it where one look has all lines to give, and keeps its place often."""
+        taken, chance = self.folder / "taken", random.Random(12)
+        self.index("binlog.000001")
+        self.log("binlog.000001", logs.worked_log(20_000))
+        code = "import sys; from binlogfeed import __main__ as main, follow; follow.KEEP_BYTES = 1; sys.exit(main.main())"
+        command = [sys.executable, "-c", code, "follow", "--program", PROGRAM, "--state", str(self.state), str(self.data)]
+        for _ in range(8):
+            with open(taken, "ab") as out, running(command, env=ENVIRONMENT, stdout=out) as process:
+                time.sleep(0.1 + chance.random() * 0.15)
+                process.kill()
+            self.cut_back(taken)
+        with open(taken, "ab") as out, self.run_follow("--once", str(self.data), stdout=out) as process:
+            self.assertEqual((process.wait(), process.stderr.read()), (0, b""))
+        self.assertEqual(taken.read_bytes(), logs.change_lines(20_000, "binlog.000001"))

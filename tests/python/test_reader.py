@@ -1,6 +1,7 @@
 """The reader: what its events have, its filters, its end, and its errors."""
 import json
 import os
+import random
 import struct
 import threading
 import time
@@ -13,6 +14,7 @@ from binlogfeed import (
     DeleteRowsEvent,
     FileFault,
     LogFault,
+    LogsGone,
     OutOfMemory,
     ProgramFailed,
     ProgramMissing,
@@ -24,6 +26,7 @@ from binlogfeed import (
     texts,
 )
 from built import logs
+from growing import Server
 from support import BANK, PROGRAM, SHOP, TOP, FolderTest, bank_rows
 
 SERVER = "3e11fa47-71ca-11e1-9e33-c80aa9429562"
@@ -308,6 +311,122 @@ class Ends(FolderTest):
         program = self.stub("head -c 1000000 /dev/zero | tr '\\0' x >&2\necho >&2\necho 'binlogfeed: out of memory' >&2\nexit 5")
         with self.assertRaises(OutOfMemory):
             list(BinLogStreamReader("f", program=program))
+
+
+class Blocking(FolderTest):
+    """Readers that wait for more at the logs' end."""
+
+    def reader(self, files, **options):
+        """A reader that waits. Where it waits for too long it is closed, and gives no event."""
+        events = reader(files, blocking=True, interval=0.001, **options)
+        self.in_time(events.close)
+        self.addCleanup(events.close)
+        return events
+
+    def test_servers(self):
+        """Servers write, rotate and purge. Each event comes once, and each transaction whole."""
+        for seed, files in ((1, SHOP), (2, BANK)):
+            with self.subTest(seed=seed):
+                folder = self.folder / str(seed)
+                folder.mkdir()
+                server, taken, wanted = Server(folder, files, random.Random(seed), 0.002), [], tokens(files)
+                events = self.reader(folder)
+
+                def serve(server=server, taken=taken):
+                    while server.step():
+                        if taken:
+                            server.purge(taken[-1].rpartition("@")[2])
+
+                thread = threading.Thread(target=serve)
+                thread.start()
+                for transaction in events.transactions():
+                    taken += [event.token for event in transaction]
+                    if len(taken) >= len(wanted):
+                        break
+                thread.join()
+                self.assertEqual(taken, wanted)
+
+    def test_a_transaction_is_given_at_once(self):
+        """It doesn't wait for the next one."""
+        path = self.put("binlog.000001", logs.worked_log())
+        transactions = self.reader(path).transactions()
+        for count in (1, 2, 3):
+            self.assertEqual(next(transactions).token, f"{153 + 218 * (count - 1)}.1@binlog.000001")
+            self.put("binlog.000001", logs.worked_log(count + 1))
+
+    def test_places(self):
+        """An index, its folder, a pattern, a log and a list of files."""
+        for path in SHOP:
+            self.put(path.name, path.read_bytes())
+        self.put("binlog.index", b"./binlog.000001\n./binlog.000002\n")
+        wanted, paths = tokens(SHOP), [self.folder / path.name for path in SHOP]
+        for place in (self.folder, str(self.folder), self.folder / "binlog.index", f"{self.folder}/binlog.*", paths, iter(paths)):
+            events = self.reader(place)
+            self.assertEqual([next(events).token for _ in wanted], wanted)
+        self.assertEqual(next(self.reader(paths[1])).token, "198.1@binlog.000002")
+        self.put("a log by another name", SHOP[1].read_bytes())
+        self.assertEqual(next(self.reader(self.folder / "a log by another name")).token, "198.1@a log by another name")
+
+    def test_options(self):
+        wanted = tokens(SHOP, only_tables=["line"], only_events=[WriteRowsEvent])
+        events = self.reader(SHOP, only_tables=["line"], only_events=[WriteRowsEvent])
+        self.assertEqual([next(events).token for _ in wanted], wanted)
+
+    def test_resume(self):
+        wanted = tokens(SHOP)
+        self.put("binlog.index", b"./binlog.000001\n./binlog.000002\n")
+        for path in SHOP:
+            self.put(path.name, path.read_bytes())
+        for place in (SHOP, self.folder):
+            for start in (0, 10, 17):
+                events = self.reader(place, resume=wanted[start])
+                self.assertEqual([next(events).token for _ in wanted[start + 1 :]], wanted[start + 1 :])
+
+    def test_refused_tokens(self):
+        path = self.put("binlog.000001", logs.worked_log())
+        for token, name in (("153", "BadToken"), ("0153.1@binlog.000001", "BadToken"), ("4.1@binlog.000001", "TokenNoTransaction")):
+            with self.assertRaises(TokenRefused) as caught:
+                next(self.reader(path, resume=token))
+            self.assertEqual(caught.exception.name, name)
+        with self.assertRaises(TokenRefused) as caught:
+            next(self.reader([path], resume="153.1@binlog.000002"))
+        self.assertEqual(caught.exception.name, "TokenNoFile")
+
+    def test_errors(self):
+        """They come behind the events before them, and no event follows."""
+        path = self.put("binlog.000001", logs.appended(logs.worked_log(), 40, b""))
+        events = self.reader(path)
+        self.assertEqual(next(events).token, "153.1@binlog.000001")
+        with self.assertRaises(LogFault):
+            next(events)
+        self.assertEqual(list(events), [])
+        with self.assertRaises(LogsGone):
+            next(self.reader(f"{self.folder}/binlog.0*", resume="153.1@binlog.000002"))
+        with self.assertRaises(WordsRefused):
+            next(self.reader([]))
+
+    def test_a_pattern_that_matches_nothing_yet(self):
+        """It is warned of once."""
+        events = self.reader(f"{self.folder}/binlog.0*")
+        late = threading.Timer(0.1, self.put, ("binlog.000001", logs.worked_log()))
+        late.start()
+        with self.assertWarns(UserWarning) as caught:
+            self.assertEqual(next(events).token, "153.1@binlog.000001")
+        self.assertEqual([str(one.message) for one in caught.warnings], [f"binlogfeed: no log matches {self.folder}/binlog.0* yet"])
+
+    def test_close(self):
+        """By another thread: while the reader waits for the program, while it waits for more, and while it begins."""
+        path = self.put("binlog.000001", logs.worked_log())
+        for program in (PROGRAM, self.stub("exec sleep 60"), self.stub("read line\necho\nexec sleep 60")):
+            for seconds in (0, 0.001, 0.01, 0.1):
+                events = BinLogStreamReader(path, program=program, blocking=True, interval=60)
+                closer = threading.Timer(seconds, events.close)
+                closer.start()
+                started = time.monotonic()
+                self.assertLessEqual(len(list(events)), 1)
+                closer.join()
+                self.assertLess(time.monotonic() - started, 30)
+                self.assertIsNone(events.fetchone())
 
 
 class Errors(FolderTest):

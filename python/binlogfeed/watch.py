@@ -1,0 +1,196 @@
+"""Watches logs that grow: gives the lines that are new, look after look, by a run of the program that goes on."""
+from __future__ import annotations
+
+import json
+import os
+import time
+from collections.abc import Generator, Iterator, Sequence
+from pathlib import Path
+from typing import Any, NamedTuple, Optional, Union
+
+from binlogfeed.faults import FileFault
+from binlogfeed.logs import Log, beginning, is_pattern, listed
+from binlogfeed.place import Place
+from binlogfeed.program import LookingRun
+
+# At a rotation or a purge a server takes its index away, and puts another in its place some milliseconds later. For so many
+# seconds logs that aren't there are looked for again, each time after such a pause, before anything is said of them.
+PATIENCE = 1.0
+PAUSE = 0.01
+# A line's last two members begin here. A text in JSON has no bare quotes, and no other member has that name behind it.
+LAST_MEMBERS = b',"timestamp":'
+
+Logs = Union[str, "os.PathLike[str]", Sequence[Path]]
+
+
+class Mark(NamedTuple):
+    """What the system says of a file. Where it is the same, the file is the same, and as long."""
+
+    device: int
+    inode: int
+    size: int
+    changed: int
+
+
+class Seen(NamedTuple):
+    """A file as it was looked at."""
+
+    mark: Mark
+    begins: Optional[str]
+
+
+class Watch:
+    """The lines of logs that grow, behind a place, each once.
+
+    The logs are a server's, by an index, a folder or a pattern, or files that are named.
+    """
+
+    def __init__(self, logs: Logs, command: Sequence[str | os.PathLike[str]], place: Place) -> None:
+        """A watch of logs from a place on. The command, `read --follow` with its options, is run with the first look."""
+        self._logs = logs
+        self._command = list(command)
+        self._place = place
+        self._run: Optional[LookingRun] = None
+        self._closed = False
+        # The logs that the run was told last, and how all logs were when they were looked at.
+        self._told: list[Log] = []
+        self._seen: dict[Path, Seen] = {}
+        self._finished: dict[Path, Mark] = {}
+        # The last lines that were given, and whether the place is behind them.
+        self._last: Optional[bytes] = None
+        self._placed = True
+        # Whether a look has found no log.
+        self.is_empty = False
+        # The log that the last whole look came to, and how long it was then.
+        self.reached: tuple[Optional[str], int] = (None, 0)
+
+    @property
+    def place(self) -> Place:
+        """The place behind all lines that were given."""
+        if self._last is not None and not self._placed:
+            self._place = self._place.behind(last_members(self._last)["token"], self._told)
+            self._placed = True
+        return self._place
+
+    @property
+    def last_time(self) -> int | None:
+        """The time in the log of the last line that was given; None before the first."""
+        return None if self._last is None else last_members(self._last)["timestamp"]
+
+    def look(self) -> Generator[bytes, None, None]:
+        """The lines that are new by now, in blocks of whole lines. Raises what ended the reading early behind the lines before it."""
+        logs = self._found()
+        try:
+            yield from self._look(logs)
+        except FileFault:
+            # The server takes a log off its index before it purges it. The new index says whether that one was still needed.
+            yield from self._look(self._found())
+
+    def end(self) -> None:
+        """Ends the watch, and a look that goes on, at any time and from any thread. No line is given any more."""
+        self._closed = True
+        run = self._run
+        if run is not None:
+            run.end()
+
+    def _look(self, logs: list[Log]) -> Iterator[bytes]:
+        """The lines that are new in these logs, where one of them has changed."""
+        marks = {log.path: self._seen[log.path].mark for log in logs}
+        self.is_empty = not logs
+        if not logs or self._closed or marks.items() <= self._finished.items():
+            return
+        whole = False
+        try:
+            whole = yield from self._asked(logs)
+        finally:
+            # What is left of an answer belongs to no later look.
+            if not whole:
+                self._forget_run()
+        if whole:
+            self._place = self.place.at_end(logs)
+            self._finished = marks
+            self.reached = logs[-1].name, marks[logs[-1].path].size
+
+    def _asked(self, logs: list[Log]) -> Generator[bytes, None, bool]:
+        """What the run answers to these logs. A new run begins behind the place. Answers whether the look came to its end."""
+        paths, told = [log.path for log in logs], [log.path for log in self._told]
+        if self._run is None:
+            resume = [f"--from={self.place.resume}"] if self.place.resume else []
+            self._run, told = LookingRun([*self._command, *resume]), []
+            if self._closed:  # by another thread, which saw no run yet
+                self._run.end()
+        self._told = logs
+        lines = self._run.look([] if paths == told else paths)
+        while True:
+            try:
+                block = next(lines)
+            except StopIteration as ended:
+                return bool(ended.value)
+            self._last, self._placed = block, False
+            try:
+                yield block
+            except GeneratorExit:
+                # Nobody took these. They come again.
+                self._placed = True
+                raise
+
+    def _forget_run(self) -> None:
+        """Ends the run. The next look begins another behind the place."""
+        if self._run is not None:
+            self._run.end()
+            self._run = None
+
+    def _found(self) -> list[Log]:
+        """The logs that are still to be read, as they are by now."""
+        until = time.monotonic() + PATIENCE
+        while True:
+            is_late = self._closed or time.monotonic() >= until
+            try:
+                paths = self._listed()
+                if paths or is_late or self._may_be_empty():
+                    return self._rest(paths)
+            except FileFault:
+                if is_late:
+                    raise
+            time.sleep(PAUSE)
+
+    def _listed(self) -> list[Path]:
+        """The logs that are there."""
+        return listed(self._logs) if isinstance(self._logs, (str, os.PathLike)) else list(self._logs)
+
+    def _may_be_empty(self) -> bool:
+        """Whether it means something that there is no log."""
+        return not isinstance(self._logs, (str, os.PathLike)) or is_pattern(self._logs)
+
+    def _rest(self, paths: list[Path]) -> list[Log]:
+        """The logs of these that are still to be read."""
+        before, self._seen = self._seen, {}
+
+        def begins(path: Path) -> str | None:
+            """The digest of a log's first event, which is read again only where the log has changed."""
+            mark = marked(path)
+            known = before.get(path)
+            seen = known if known and known.mark == mark else Seen(mark, beginning(path))
+            self._seen[path] = seen
+            return seen.begins
+
+        if isinstance(self._logs, (str, os.PathLike)):
+            return self.place.rest(paths, begins)
+        names = [path.name for path in paths]
+        start = names.index(self.place.file) if self.place.file in names else 0
+        return [Log(path, begins(path)) for path in paths[start:]]
+
+
+def marked(path: Path) -> Mark:
+    """What the system says of a file."""
+    try:
+        found = path.stat()
+    except OSError as error:
+        raise FileFault(f"binlogfeed: cannot open {path}") from error
+    return Mark(found.st_dev, found.st_ino, found.st_size, found.st_mtime_ns)
+
+
+def last_members(lines: bytes) -> dict[str, Any]:
+    """The last two members of the last of these lines: `timestamp` and `token`."""
+    members: dict[str, Any] = json.loads(b"{" + lines[lines.rindex(LAST_MEMBERS) + 1 :])
+    return members
