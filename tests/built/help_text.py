@@ -10,7 +10,7 @@ STATUSES = {
     0: "the files were read to their end; a last transaction that is cut short is left out",
     1: "something in a file can't be taken in: the line on standard error says where and what",
     2: "the command line, a value of an option, or two files with one name",
-    3: "a token that is none, or that fits no place of the files",
+    3: "a token that is none, or fits no place; with --follow a file that is gone or shorter",
     4: "a file can't be opened or read, or the output can't be written",
     5: "out of memory",
 }
@@ -20,8 +20,8 @@ NAMED = {
     "": ("  transactions", "  read", "  history"),
     "transactions": ("Usage: binlogfeed transactions <file>...", "  <file>...", "Example:", "  binlogfeed transactions /"),
     "read": (
-        "Usage: binlogfeed read [OPTIONS] <file>...",
-        "  <file>...",
+        "Usage: binlogfeed read [OPTIONS] [file]...",
+        "  [file]...",
         "      --only-events <LIST>",
         "      --only-tables <LIST>",
         "      --ignored-tables <LIST>",
@@ -30,6 +30,7 @@ NAMED = {
         "      --auto-position <SET>",
         "      --from <TOKEN>",
         "      --full ",
+        "      --follow ",
         "  before, after",
         "  gtid",
         "  kind",

@@ -36,8 +36,7 @@ Exit status:
   0  the files were read to their end; a last transaction that is cut short is left out
   1  something in a file can't be taken in: the line on standard error says where and what
   2  the command line, a value of an option, or two files with one name
-  3  a token that is none, or that fits no place of the files; with --follow also a file that
-     is gone, or shorter than it was
+  3  a token that is none, or fits no place; with --follow a file that is gone or shorter
   4  a file can't be opened or read, or the output can't be written
   5  out of memory";
 
