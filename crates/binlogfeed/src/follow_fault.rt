@@ -2,7 +2,7 @@
 ghost use Rattle.std.specs.Prelude.{◌≡◌, ◌++◌, ◌<◌, OnOk, length, string_bytes};
 ghost use Rattle.binlogfeed.specs.Coming.{fault_of_reading};
 ghost use Rattle.binlogfeed.specs.Faults.{name_of, status_of};
-ghost use Rattle.binlogfeed.specs.Follow.{follow_status_of, refusal_status_of, refusal_text, NamesFiles};
+ghost use Rattle.binlogfeed.specs.Follow.{follow_status_of, input_text, refusal_status_of, refusal_text, NamesFiles};
 ghost use Rattle.binlogfeed.specs.Statuses.{open_status_of};
 ghost use Rattle.binlog_feed.specs.Growing.{last_file};
 
@@ -25,6 +25,16 @@ pub enum FollowFault {
     Refused(GoOnFault),
     /// The newest look ended early.
     Ended(RunFault),
+}
+
+/// The line of an input of lists that can't be read, without its line feed.
+pub(crate) fn input_line(fault: ListFault) -> &'static str
+    ensures { result.now ≡ input_text fault }
+{
+    match fault {
+        ListFault::Unreadable => "binlogfeed: cannot read the list of files",
+        ListFault::OutOfMemory => "binlogfeed: out of memory",
+    }
 }
 
 /// The fault of a run that a reader's fault ends. A window that is too small is one for which memory was wanting.
