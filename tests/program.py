@@ -15,13 +15,13 @@ from typing import NamedTuple
 sys.dont_write_bytecode = True
 
 from built import (  # noqa: E402
-    cases, collations, faults, full_lines, help_text, library_page, refusals, rows, server_logs, system, tokens, truth, words, wrapper,
+    cases, collations, faults, following, full_lines, help_text, library_page, refusals, rows, server_logs, system, tokens, truth, words, wrapper,
 )  # fmt: skip
 from built.check import Check  # noqa: E402
 
 TOP = Path(__file__).resolve().parent.parent
 PROGRAMS = [TOP / "crates/program/out/program", TOP / "crates/program/out/program.by-rattle"]
-PARTS = (system, rows, words, faults, help_text, server_logs, tokens, truth, collations, full_lines, refusals)
+PARTS = (system, rows, words, faults, help_text, server_logs, tokens, truth, collations, full_lines, refusals, following)
 
 
 class Task(NamedTuple):

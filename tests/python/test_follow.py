@@ -15,7 +15,7 @@ from binlogfeed import follow as following
 from binlogfeed import watch as watching
 from binlogfeed.follow import Follower, read_state, write_state
 from built import logs
-from growing import Server
+from built.growing import Server
 from support import BANK, PROGRAM, SECONDS, SHOP, TOP, FolderTest, running
 
 ROTATE = 4

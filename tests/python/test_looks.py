@@ -7,7 +7,7 @@ from binlogfeed import watch as watching
 from binlogfeed.program import LookingRun
 from binlogfeed.watch import Watch
 from built import logs
-from growing import Driver, Server
+from built.growing import Driver, Server
 from support import BANK, PROGRAM, SHOP, FolderTest
 
 FOLLOW = [PROGRAM, "read", "--follow"]
@@ -28,7 +28,7 @@ class Protocol(FolderTest):
                 folder = self.folder / str(seed)
                 folder.mkdir()
                 chance = random.Random(seed)
-                server, driver = Server(folder, files, chance), Driver(*words)
+                server, driver = Server(folder, files, chance), Driver(PROGRAM, *words)
                 lines, listed, goes_on = b"", [], True
                 while goes_on:
                     goes_on = server.step()
@@ -43,14 +43,14 @@ class Protocol(FolderTest):
 
     def test_files_on_the_command_line(self):
         path = self.put("binlog.000001", logs.worked_log())
-        driver = Driver(str(path))
+        driver = Driver(PROGRAM, str(path))
         self.assertEqual(driver.answer(), logs.change_lines(1, "binlog.000001"))
         self.put("binlog.000001", logs.worked_log(3))
         self.assertEqual(driver.look(), logs.change_lines(3, "binlog.000001")[len(logs.change_lines(1, "binlog.000001")) :])
         self.assertEqual(driver.ended(), (0, b"", b""))
 
     def test_no_file_yet(self):
-        driver = Driver()
+        driver = Driver(PROGRAM)
         self.assertEqual([driver.look() for _ in range(2)], [b"", b""])
         path = self.put("binlog.000001", logs.worked_log())
         self.assertEqual(driver.look(path), logs.change_lines(1, "binlog.000001"))
@@ -84,7 +84,7 @@ class Protocol(FolderTest):
 
     def test_a_log_that_got_shorter(self):
         path = self.put("binlog.000001", logs.worked_log(2) + b"cut")
-        driver = Driver()
+        driver = Driver(PROGRAM)
         self.assertEqual(driver.look(path), logs.change_lines(2, "binlog.000001"))
         self.put("binlog.000001", logs.worked_log(2))
         self.assertEqual(driver.look(), b"")
@@ -96,7 +96,7 @@ class Protocol(FolderTest):
     def test_a_place_at_the_end(self):
         """Following begins at the end of a transaction, which no change's token names."""
         path = self.put("binlog.000001", logs.worked_log())
-        driver = Driver("--from=371.0@binlog.000001")
+        driver = Driver(PROGRAM, "--from=371.0@binlog.000001")
         self.assertEqual(driver.look(path), b"")
         self.put("binlog.000001", logs.worked_log(2))
         self.assertEqual(driver.look(), logs.change_lines(2, "binlog.000001")[len(logs.change_lines(1, "binlog.000001")) :])
@@ -104,7 +104,7 @@ class Protocol(FolderTest):
 
     def test_a_token_that_fits_no_place(self):
         path = self.put("binlog.000001", logs.worked_log())
-        driver = Driver("--from=370.0@binlog.000001")
+        driver = Driver(PROGRAM, "--from=370.0@binlog.000001")
         with self.assertRaises(EOFError):
             driver.look(path)
         self.assertEqual(driver.ended(), (3, b"", b"binlogfeed: token refused: TokenNoTransaction\n"))

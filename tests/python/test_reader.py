@@ -26,7 +26,7 @@ from binlogfeed import (
     texts,
 )
 from built import logs
-from growing import Server
+from built.growing import Server
 from support import BANK, PROGRAM, SHOP, TOP, FolderTest, bank_rows
 
 SERVER = "3e11fa47-71ca-11e1-9e33-c80aa9429562"

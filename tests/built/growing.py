@@ -3,8 +3,11 @@ import os
 import select
 import subprocess
 import time
+from collections.abc import Iterable
+from pathlib import Path
+from random import Random
 
-from support import PROGRAM, SECONDS
+from built.check import SECONDS, command
 
 # In its format event, a server's flag says that the log is in use. It is cleared when the log is closed.
 FLAGS = slice(21, 23)
@@ -14,22 +17,22 @@ IN_USE, CLOSED = b"\x01\x00", b"\x00\x00"
 class Server:
     """Writes logs into a folder, one step after the other, with an index that is away for a while at each rotation and purge."""
 
-    def __init__(self, folder, logs, chance, away=0.0):
+    def __init__(self, folder: Path, logs: Iterable[Path], chance: Random, away: float = 0.0) -> None:
         """A server of these logs. The steps are by chance."""
         self.folder = folder
         self._left = [(path.name, path.read_bytes()) for path in logs]
         self._chance = chance
         self._away = away
-        self._names = []
+        self._names: list[str] = []
         self._content, self._length = b"", 0
         self._rotate()
 
     @property
-    def paths(self):
+    def paths(self) -> list[Path]:
         """The logs that are there."""
         return [self.folder / name for name in self._names]
 
-    def step(self):
+    def step(self) -> bool:
         """Writes some bytes more, or begins the next log where one is whole. Answers whether there was a step left."""
         if self._length < len(self._content):
             self._grow()
@@ -41,7 +44,7 @@ class Server:
             return False
         return True
 
-    def purge(self, first):
+    def purge(self, first: str) -> None:
         """Takes the logs before this one away, if it is there."""
         gone = self._names[: self._names.index(first)] if first in self._names else []
         if gone:
@@ -50,7 +53,7 @@ class Server:
             for name in gone:
                 (self.folder / name).unlink()
 
-    def _grow(self):
+    def _grow(self) -> None:
         """Writes some bytes of the log."""
         many = self._chance.choice((1, 19, 200, 2_000, 8_000))
         end = min(len(self._content), self._length + self._chance.randint(1, many))
@@ -61,13 +64,13 @@ class Server:
             log.write(more)
         self._length = end
 
-    def _close(self):
+    def _close(self) -> None:
         """Clears the log's flag, in its place."""
         with open(self.folder / self._names[-1], "r+b") as log:
             log.seek(FLAGS.start)
             log.write(CLOSED)
 
-    def _rotate(self):
+    def _rotate(self) -> None:
         """Begins the next log."""
         name, self._content = self._left.pop(0)
         self._length = 0
@@ -75,7 +78,7 @@ class Server:
         self._names.append(name)
         self._put_index()
 
-    def _put_index(self):
+    def _put_index(self) -> None:
         """Takes the index away, and puts another in its place."""
         index, new = self.folder / "binlog.index", self.folder / "binlog.~rec~"
         index.unlink(missing_ok=True)
@@ -87,19 +90,27 @@ class Server:
 class Driver:
     """Runs `read --follow`, and asks it for one look after the other."""
 
-    def __init__(self, *words):
+    def __init__(self, program: str | Path, *words: str) -> None:
         """Starts the program."""
         self.process = subprocess.Popen(
-            [PROGRAM, "read", "--follow", *words], stdin=subprocess.PIPE, stdout=subprocess.PIPE, stderr=subprocess.PIPE
+            command(["read", "--follow", *words]),
+            executable=program,
+            stdin=subprocess.PIPE,
+            stdout=subprocess.PIPE,
+            stderr=subprocess.PIPE,
         )
 
-    def look(self, *paths):
-        """The lines that it answers to a list of files, or to an empty list."""
+    def tell(self, *paths: Path) -> None:
+        """Gives it a list of files, or an empty list."""
         self.process.stdin.write(b"".join(os.fsencode(path) + b"\n" for path in paths) + b"\n")
         self.process.stdin.flush()
+
+    def look(self, *paths: Path) -> bytes:
+        """The lines that it answers to a list of files, or to an empty list."""
+        self.tell(*paths)
         return self.answer()
 
-    def answer(self):
+    def answer(self) -> bytes:
         """What it writes before the next empty line."""
         text = b""
         while text != b"\n" and not text.endswith(b"\n\n"):
@@ -111,7 +122,13 @@ class Driver:
             text += block
         return text[:-1]
 
-    def ended(self):
+    def killed(self, after: float) -> bytes:
+        """Kills it after so many seconds. Answers what it wrote until then, and wasn't taken yet."""
+        time.sleep(after)
+        self.process.kill()
+        return self.process.communicate(timeout=SECONDS)[0]
+
+    def ended(self) -> tuple[int, bytes, bytes]:
         """Ends its input. Answers its status, and what else it wrote."""
         out, said = self.process.communicate(timeout=SECONDS)
         return self.process.returncode, out, said
