@@ -3,6 +3,7 @@
 
 mod continuations;
 mod files;
+mod following;
 mod frames;
 mod sources;
 mod statuses;
@@ -13,6 +14,7 @@ mod words;
 
 pub use continuations::sample_continuations;
 pub use files::sample_files;
+pub use following::{sample_follow_ends, sample_lists, sample_looks};
 pub use frames::sample_frames;
 pub use sources::{sample_honesty, sample_paths, sample_sources};
 pub use statuses::sample_statuses;

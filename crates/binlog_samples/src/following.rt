@@ -1,0 +1,30 @@
+//! The definitions of runs that follow: lists of files, looks at them, and how such a run ends.
+ghost use Rattle.binlog_samples.specs.Following.{ListTexts, ListsBegin, NoLists, CutLists, TurnsOfLists, TurnsOfFiles};
+ghost use Rattle.binlog_samples.specs.Following.{PartsOfLooks, GoneFiles, JoinedParts, EmptyLooks};
+ghost use Rattle.binlog_samples.specs.Following.{TextsOfRefusals, StatusesOfRefusals, StatusesOfEnds, TextsOfEnds};
+
+/// Which bytes are lists, and which files each of them has looked at.
+pub fn sample_lists()
+    ensures list_texts { ListTexts }
+    ensures lists_begin { ListsBegin }
+    ensures no_lists { NoLists }
+    ensures cut_lists { CutLists }
+    ensures turns_of_lists { TurnsOfLists }
+    ensures turns_of_files { TurnsOfFiles }
+{}
+
+/// What looks at files give that grow, are rotated and purged.
+pub fn sample_looks()
+    ensures parts_of_looks { PartsOfLooks }
+    ensures gone_files { GoneFiles }
+    ensures joined_parts { JoinedParts }
+    ensures empty_looks { EmptyLooks }
+{}
+
+/// How runs that follow end.
+pub fn sample_follow_ends()
+    ensures texts_of_refusals { TextsOfRefusals }
+    ensures statuses_of_refusals { StatusesOfRefusals }
+    ensures statuses_of_ends { StatusesOfEnds }
+    ensures texts_of_ends { TextsOfEnds }
+{}
