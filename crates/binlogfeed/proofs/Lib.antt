@@ -14,3 +14,9 @@ pub mod KeyParts
 pub mod Found
 pub mod Stopping
 pub mod Refusing
+pub mod InputLines
+pub mod Looked
+pub mod LooksOnce
+pub mod FollowedLooks
+pub mod TurnedLists
+pub mod Following

@@ -1,6 +1,7 @@
 -- The words of a list, and the kinds that they name.
-use Rattle.std.proofs.Common.{◌≡◌, ℕ, suc, ◌+◌, ◌<◌, List, [], ◌∷◌, ◌++◌, None, map, take, drop, length, get_or, sym, ap, ap₂, ◌∙◌, take-append-drop, drop-cons}
-use Rattle.std.proofs.lemmas.List.{map-append, take_more}
+use Rattle.std.proofs.Common.{◌≡◌, ◌≢◌, ℕ, suc, ◌+◌, ◌<◌, ◌==◌, true, false, refl, List, [], ◌∷◌, ◌++◌, None, map, take, drop, length, get_or, sym, ap, ap₂, ◌∙◌, take-append-drop, drop-cons}
+use Rattle.std.proofs.lemmas.Bool.{eqb-true, eqb-false}
+use Rattle.std.proofs.lemmas.List.{map-append, nil_from_length, take_more}
 use Rattle.std.proofs.Common.{String, Global}
 use Rattle.std.specs.Prelude.{string_bytes}
 use Rattle.std.specs.Borrow.{Bor}
@@ -45,3 +46,26 @@ first_bad_word list items at none kinds word whole before within same bad = reco
       ∙ ap₂ (λ front middle. front ++ middle ∷ texts (drop (suc at) items)) before (sym same);
   bad = λ kind e. bad kind (sym same ∙ e);
 }
+
+-- ---- copies and loans of texts
+
+-- one loan more
+pub loans_more : (items : List (String Global)) (at : ℕ) (none : String Global) (loans more : List (Bor Text)) (word : Bor Text) → at < length items
+    → texts loans ≡ map string_bytes (take at items) → word.now ≡ string_bytes (get_or items at none) → more ≡ loans ++ word ∷ [] → texts more ≡ map string_bytes (take (at + 1) items)
+loans_more items at none loans more word within before is longer =
+    ap texts longer ∙ map-append (λ loan. loan.now) loans (word ∷ []) ∙ ap₂ (λ front last. front ++ last ∷ []) before is
+    ∙ sym (ap (map string_bytes) (take_more items at none within) ∙ map-append string_bytes (take at items) (get_or items at none ∷ []))
+
+-- by the length of a list
+pub no_texts : (items : List (String Global)) (len : ℕ) → len ≡ length items → (len == 0) ≡ true → map string_bytes items ≡ []
+no_texts [] len is test = refl
+no_texts (item ∷ more) len is test = let none : length (item ∷ more) ≡ 0 = sym is ∙ eqb-true len 0 test in ap (map string_bytes) (nil_from_length (item ∷ more) none)
+
+pub some_texts : (items : List (String Global)) (len : ℕ) → len ≡ length items → (len == 0) ≡ false → map string_bytes items ≢ []
+some_texts [] len is test = λ e. eqb-false len 0 test is
+some_texts (item ∷ more) len is test = λ e. cc
+
+-- words of which there are some
+pub some_words : (words : List (Bor Text)) → (length words == 0) ≡ false → texts words ≢ []
+some_words [] test = λ e. eqb-false 0 0 test refl
+some_words (word ∷ more) test = λ e. cc

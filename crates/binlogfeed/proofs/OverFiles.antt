@@ -2,13 +2,26 @@
 use Rattle.std.proofs.Common.{◌≡◌, ℕ, List, Bool, Option, Result, Ok, Err, refl, sym, subst, inl, inr}
 use Rattle.binlog_frame.specs.declared.open_fault.OpenFault.{OpenFault}
 use Rattle.binlog_frame.specs.declared.open_fault.OpenFault.TheVariants as open_faults
-use Rattle.binlog_frame.specs.declared.files.FileLogs.{FileLogs}
+use Rattle.binlog_feed.specs.declared.fault.GoOnFault.{GoOnFault}
+use Rattle.binlog_feed.specs.declared.fault.GoOnFault.TheVariants as going
+use Rattle.clap.specs.Words.{Text}
+use Rattle.binlogfeed.specs.Coming.{fault_of_reading}
+use Rattle.binlogfeed.specs.Endings.{EndsAnswer, EndsFollowing, EndsOrder, EndsTask}
+use Rattle.binlogfeed.specs.Follow.{Ending, follow_status_of, list_status_of, refusal_status_of}
+use Rattle.binlogfeed.specs.Looks.{Look}
 use Rattle.binlogfeed.specs.Words.{words_status_of}
 use Rattle.binlogfeed.specs.declared.words.Order.{Order}
+use Rattle.binlogfeed.specs.declared.words.Order.TheVariants.{Transactions, Follow, History}
+use Rattle.binlogfeed.specs.declared.words.Order.TheVariants as orders
+use Rattle.binlogfeed.specs.declared.follow_fault.FollowFault.TheVariants.{Input, Unopened, NotBegun, Refused, Ended}
+use Rattle.binlogfeed.specs.declared.lists.ListFault.{ListFault}
+use Rattle.binlogfeed.specs.declared.lists.ListFault.TheVariants as lists
+use Rattle.binlogfeed.specs.declared.program.Used.{Used}
+use Rattle.binlogfeed.specs.declared.program.Used.TheVariants.{Files, Looks}
 use Rattle.binlogfeed.specs.declared.words_fault.WordsFault.{WordsFault}
 use Rattle.binlogfeed.specs.declared.words_fault.WordsFault.TheVariants.{Help, CommandLine, EventName, Set, Key}
 use Rattle.binlogfeed.specs.declared.words_fault.WordsFault.TheVariants as words_faults
-use Rattle.binlogfeed.specs.Statuses.{EndsAnswer, EndsRun, IsStatus, judgement_of, open_status_of, output_of, run_status_of}
+use Rattle.binlogfeed.specs.Statuses.{EndsRun, IsStatus, judgement_of, open_status_of, output_of, run_status_of}
 use Rattle.binlogfeed.specs.declared.fault.RunFault.{RunFault}
 use Rattle.binlogfeed.specs.declared.fault.RunFault.TheVariants.{DuplicateFile, Token, Log, Read, Write, OutOfMemory}
 use Rattle.binlogfeed.specs.declared.program.Task.{Task}
@@ -47,7 +60,41 @@ words_are_status words_faults.Token = inr (inr (inr (inl refl)))
 words_are_status Key = inr (inr (inl refl))
 words_are_status words_faults.OutOfMemory = inr (inr (inr (inr (inr refl))))
 
-pub ended_is_status : {F : Type 0} (answer : Result Order WordsFault) (contents : List (List ℕ)) (logs : Option (FileLogs F)) (old new : Option (List ℕ)) (status : ℕ)
-    → EndsAnswer answer contents logs old new status → IsStatus status
-ended_is_status (Ok order) contents logs old new status h = h.is_status
-ended_is_status (Err fault) contents logs old new status (none, same, e) = subst IsStatus (sym e) (words_are_status fault)
+pub list_is_status : (fault : ListFault) → IsStatus (list_status_of fault)
+list_is_status lists.Unreadable = inr (inr (inr (inr (inl refl))))
+list_is_status lists.OutOfMemory = inr (inr (inr (inr (inr refl))))
+
+pub refusal_is_status : (fault : GoOnFault) → IsStatus (refusal_status_of fault)
+refusal_is_status going.NotAtEnd = inr (inl refl)
+refusal_is_status (going.DuplicateFile file) = inr (inr (inl refl))
+refusal_is_status going.FileGone = inr (inr (inr (inl refl)))
+refusal_is_status going.FileShorter = inr (inr (inr (inl refl)))
+refusal_is_status (going.Earlier fault) = run_is_status (Err (fault_of_reading fault))
+refusal_is_status (going.Later fault) = run_is_status (Err (fault_of_reading fault))
+
+pub follow_is_status : (ending : Ending) → IsStatus (follow_status_of ending)
+follow_is_status (Ok done) = inl refl
+follow_is_status (Err (Input fault)) = list_is_status fault
+follow_is_status (Err (Unopened fault)) = unopened_is_status fault
+follow_is_status (Err (NotBegun fault)) = run_is_status (Err fault)
+follow_is_status (Err (Refused fault)) = refusal_is_status fault
+follow_is_status (Err (Ended fault)) = run_is_status (Err fault)
+
+task_is_status : {F : Type 0} (task : Task) (paths : List Text) (contents : List (List ℕ)) (used : Used F) (old new : Option (List ℕ)) (status : ℕ) → EndsTask task paths contents used old new status → IsStatus status
+task_is_status task paths contents (Files logs) old new status h = h.is_status
+task_is_status task paths contents (Looks looks) old new status h = absurd h
+
+following_is_status : {F : Type 0} (follows : List Look → Ending → Type 0) (used : Used F) (status : ℕ) → EndsFollowing follows used status → IsStatus status
+following_is_status follows (Files logs) status h = absurd h
+following_is_status follows (Looks looks) status (ending, made, e) = subst IsStatus (sym e) (follow_is_status ending)
+
+order_is_status : {F : Type 0} (order : Order) (supply : List (List (List ℕ))) (input : Option (List ℕ)) (used : Used F) (old new : Option (List ℕ)) (status : ℕ) → EndsOrder order supply input used old new status → IsStatus status
+order_is_status (Transactions files) supply input used old new status h = task_is_status _ _ _ used old new status h
+order_is_status (orders.Read filter start style files) supply input used old new status h = task_is_status _ _ _ used old new status h
+order_is_status (History schema table key style files) supply input used old new status h = task_is_status _ _ _ used old new status h
+order_is_status (Follow filter start style files) supply input used old new status h = following_is_status _ used status h
+
+pub ended_is_status : {F : Type 0} (answer : Result Order WordsFault) (supply : List (List (List ℕ))) (input : Option (List ℕ)) (used : Used F) (old new : Option (List ℕ)) (status : ℕ)
+    → EndsAnswer answer supply input used old new status → IsStatus status
+ended_is_status (Ok order) supply input used old new status h = order_is_status order supply input used old new status h
+ended_is_status (Err fault) supply input used old new status (none, same, e) = subst IsStatus (sym e) (words_are_status fault)

@@ -26,4 +26,4 @@ with_options app (words ∷ more) = with_options (with_rule app (rule_of_words w
 
 -- a subcommand by its words
 abbrev pub app_of_words : SubcommandWords → App
-app_of_words words = with_rule (with_options (new_app words.name.now) words.options.now) file_rule
+app_of_words words = with_rule (with_options (new_app words.name.now) words.options.now) (record file_rule { required = words.requires_files })

@@ -4,6 +4,8 @@ pub mod Options
 pub mod StartWords
 pub mod KeyWords
 pub mod Words
+pub mod Lists
+pub mod Looks
 pub mod Commands
 pub mod Lines
 pub mod Sending
@@ -12,3 +14,7 @@ pub mod GoingOn
 pub mod Coming
 pub mod Wanted
 pub mod Statuses
+pub mod Turns
+pub mod Follow
+pub mod FollowSteps
+pub mod Endings

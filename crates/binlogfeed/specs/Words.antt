@@ -1,5 +1,5 @@
 -- The command line, and what its words ask for.
-use Rattle.std.specs.Prelude.{◌≡◌, ◌≢◌, ◌⊎◌, ◌++◌, ℕ, List, [], map, true, Option, Some, None, if◌then◌else◌, Result, Ok, Err, unwrap_or, codes, decimal, string_bytes}
+use Rattle.std.specs.Prelude.{◌≡◌, ◌≢◌, ◌⊎◌, ◌++◌, ℕ, List, [], map, Bool, true, false, Option, Some, None, if◌then◌else◌, Result, Ok, Err, unwrap_or, codes, decimal, string_bytes}
 use Rattle.std.specs.Borrow.{Bor}
 use Rattle.std.specs.Str.{bytes_eq}
 use Rattle.clap.specs.Lexer.{usize_max}
@@ -15,7 +15,7 @@ use Rattle.binlogfeed.specs.KeyWords.{IsKeyText, IsKeyFault, value_given}
 use Rattle.binlogfeed.specs.Options.{IsFilterOf, AnswersOptions}
 use Rattle.binlogfeed.specs.StartWords.{IsStart, IsTokenFault, token_text}
 use Rattle.binlogfeed.specs.declared.words.Order.{Order}
-use Rattle.binlogfeed.specs.declared.words.Order.TheVariants.{Transactions, Read, History}
+use Rattle.binlogfeed.specs.declared.words.Order.TheVariants.{Transactions, Read, Follow, History}
 use Rattle.binlogfeed.specs.declared.words_fault.WordsFault.{WordsFault}
 use Rattle.binlogfeed.specs.declared.words_fault.WordsFault.TheVariants.{Help, CommandLine, EventName, Set, Token, Key, OutOfMemory}
 
@@ -26,6 +26,10 @@ file_rule = record (new_rule (codes "file")) {
   action = Some action.Append;
   range = Some (record { start_inclusive = 1; end_inclusive = usize_max });
 }
+
+-- there may be none
+abbrev pub optional_file_rule : Rule
+optional_file_rule = record file_rule { required = false }
 
 -- an option with one value, which has a name in the help
 abbrev pub option_rule : Text → Rule
@@ -53,10 +57,10 @@ transactions_app = with_rule (new_app (codes "transactions")) file_rule
 
 abbrev pub read_app : App
 read_app = with_rule
-    (with_flag (with_option (with_option (with_option (with_option (with_option (with_option (with_option (new_app (codes "read"))
+    (with_flag (with_flag (with_option (with_option (with_option (with_option (with_option (with_option (with_option (new_app (codes "read"))
     (codes "only-events")) (codes "only-tables")) (codes "ignored-tables")) (codes "only-schemas")) (codes "ignored-schemas"))
-    (codes "auto-position")) (codes "from")) (codes "full"))
-    file_rule
+    (codes "auto-position")) (codes "from")) (codes "full")) (codes "follow"))
+    optional_file_rule
 
 abbrev pub history_app : App
 history_app = with_rule
@@ -74,20 +78,31 @@ texts = map (λ word. word.now)
 abbrev pub files_given : List Row → List Text
 files_given rows = unwrap_or (all_of (codes "file") rows) []
 
--- lines are full where the flag is true
+-- a flag is given where its value is true
+abbrev pub is_true_text : Option Text → Bool
+is_true_text None = false
+is_true_text (Some text) = bytes_eq text (codes "true")
+
+-- lines are full where the flag is given
 abbrev pub style_of : Option Text → Style
-style_of None = Plain
-style_of (Some text) = if bytes_eq text (codes "true") then Full else Plain
+style_of text = if is_true_text text then Full else Plain
 
 abbrev pub style_given : List Row → Style
 style_given rows = style_of (first_of (codes "full") rows)
+
+-- files are followed where the flag is given
+abbrev pub is_followed : List Row → Bool
+is_followed rows = is_true_text (first_of (codes "follow") rows)
 
 -- the subcommand that the words name, with the values that they give it
 abbrev pub IsOrder : Order → Option (Text × List Row) → Type 0
 IsOrder (Transactions files) found =
     (rows : List Row) × (found ≡ Some (codes "transactions", rows)) × (texts files.items ≡ files_given rows)
 IsOrder (Read filter start style files) found =
-    (rows : List Row) × (found ≡ Some (codes "read", rows))
+    (rows : List Row) × (found ≡ Some (codes "read", rows)) × (is_followed rows ≡ false)
+    × IsFilterOf rows filter × IsStart (token_text rows) start × (style ≡ style_given rows) × (texts files.items ≡ files_given rows) × (texts files.items ≢ [])
+IsOrder (Follow filter start style files) found =
+    (rows : List Row) × (found ≡ Some (codes "read", rows)) × (is_followed rows ≡ true)
     × IsFilterOf rows filter × IsStart (token_text rows) start × (style ≡ style_given rows) × (texts files.items ≡ files_given rows)
 IsOrder (History schema table key style files) found =
     (rows : List Row) × (found ≡ Some (codes "history", rows))
@@ -98,6 +113,10 @@ IsOrder (History schema table key style files) found =
 abbrev pub NamesNone : Option (Text × List Row) → Type 0
 NamesNone found =
     (rows : List Row) → (found ≢ Some (codes "transactions", rows)) × (found ≢ Some (codes "read", rows)) × (found ≢ Some (codes "history", rows))
+
+-- the words name the subcommand `read`, and no files; these aren't needed where files are followed
+abbrev pub LacksFiles : Option (Text × List Row) → Type 0
+LacksFiles found = (rows : List Row) × (found ≡ Some (codes "read", rows)) × (is_followed rows ≡ false) × (files_given rows ≡ [])
 
 -- the words name the subcommand `read`, whose options have this fault
 abbrev pub HasOptionFault : Option (Text × List Row) → WordsFault → Type 0
@@ -116,7 +135,7 @@ HasKeyFault found fault = (rows : List Row) × (found ≡ Some (codes "history",
 abbrev pub AnswersFound : Option (Text × List Row) → Result Order WordsFault → Type 0
 AnswersFound found (Ok order) = IsOrder order found
 AnswersFound found (Err (Help error)) = ⊥
-AnswersFound found (Err CommandLine) = NamesNone found
+AnswersFound found (Err CommandLine) = NamesNone found ⊎ LacksFiles found
 AnswersFound found (Err (EventName word)) = HasOptionFault found (EventName word)
 AnswersFound found (Err (Set at)) = HasOptionFault found (Set at)
 AnswersFound found (Err Token) = HasTokenFault found Token
@@ -141,7 +160,7 @@ HasMistake kinds = (mistake : ErrorKind) × IsAmong mistake kinds × (mistake �
 abbrev pub AnswersParse : Kinds → Option (Text × List Row) → Result Order WordsFault → Type 0
 AnswersParse faults found (Ok order) = (faults ≡ []) × IsOrder order found
 AnswersParse faults found (Err (Help error)) = IsAmong kind.DisplayHelp faults × (kind_of error ≡ kind.DisplayHelp)
-AnswersParse faults found (Err CommandLine) = HasMistake faults ⊎ ((faults ≡ []) × NamesNone found)
+AnswersParse faults found (Err CommandLine) = HasMistake faults ⊎ ((faults ≡ []) × (NamesNone found ⊎ LacksFiles found))
 AnswersParse faults found (Err (EventName word)) = (faults ≡ []) × HasOptionFault found (EventName word)
 AnswersParse faults found (Err (Set at)) = (faults ≡ []) × HasOptionFault found (Set at)
 AnswersParse faults found (Err Token) = (faults ≡ []) × HasTokenFault found Token

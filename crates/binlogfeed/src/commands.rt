@@ -25,6 +25,8 @@ struct SubcommandWords {
     about: &'static str,
     after_help: &'static str,
     options: &'static [OptionWords],
+    /// Whether a file must be given.
+    requires_files: bool,
 }
 
 const ABOUT: &str = "Reads binary log files of MySQL 8.0, and says what stands in them";
@@ -34,7 +36,8 @@ Exit status:
   0  the files were read to their end; a last transaction that is cut short is left out
   1  something in a file can't be taken in: the line on standard error says where and what
   2  the command line, a value of an option, or two files with one name
-  3  a token that is none, or that fits no place of the files
+  3  a token that is none, or that fits no place of the files; with --follow also a file that
+     is gone, or shorter than it was
   4  a file can't be opened or read, or the output can't be written
   5  out of memory";
 
@@ -56,6 +59,7 @@ const TRANSACTIONS: SubcommandWords = SubcommandWords {
     about: TRANSACTIONS_ABOUT,
     after_help: TRANSACTIONS_AFTER,
     options: &[],
+    requires_files: true,
 };
 
 const READ_ABOUT: &str = "Writes a line of JSON for each row change of a committed transaction";
@@ -97,13 +101,22 @@ After a stop, --from TOKEN goes on: with the token of the last line that was kep
 lines behind it follow, over the same files or over files that continue them. The token's
 own file must be among the files; those before it may be left out. The filters may differ.
 
+With --follow the program doesn't end with the files. FILE.., where given, is the first list
+of files. Each further list stands on standard input: a path a line, and then an empty line;
+an empty line alone means the same files again. For each list the lines of the changes that
+are new are written, and an empty line behind them. The last file of the list before must be
+in it; first files may be gone, and further ones may have come. The end of the input ends the
+program. Here --from also takes POSITION.0@FILE where the last transaction of FILE ends at
+POSITION, as MySQL tells its own position.
+
 Examples:
   binlogfeed read --only-schemas shop --ignored-tables cart,visit binlog.000001 binlog.000002
   binlogfeed read --only-events insert,update binlog.000001
   binlogfeed read --auto-position 3e11fa47-71ca-11e1-9e33-c80aa9429562:1-5:7 binlog.000001
-  binlogfeed read --from 3406.1@binlog.000001 binlog.000001 binlog.000002";
+  binlogfeed read --from 3406.1@binlog.000001 binlog.000001 binlog.000002
+  while sleep 1; do ls -v /var/lib/mysql/binlog.0*; echo; done | binlogfeed read --follow";
 
-const READ_OPTIONS: [OptionWords; 8] = [
+const READ_OPTIONS: [OptionWords; 9] = [
     OptionWords {
         name: "only-events",
         value: "LIST",
@@ -160,6 +173,13 @@ const READ_OPTIONS: [OptionWords; 8] = [
         is_required: false,
         is_flag: true,
     },
+    OptionWords {
+        name: "follow",
+        value: "",
+        help: "Goes on over files that grow: each list of files on standard input asks for a look",
+        is_required: false,
+        is_flag: true,
+    },
 ];
 
 const READ: SubcommandWords = SubcommandWords {
@@ -167,6 +187,7 @@ const READ: SubcommandWords = SubcommandWords {
     about: READ_ABOUT,
     after_help: READ_AFTER,
     options: &READ_OPTIONS,
+    requires_files: false,
 };
 
 const HISTORY_ABOUT: &str = "Writes the line of each row change that has a key, in log order";
@@ -223,16 +244,17 @@ const HISTORY: SubcommandWords = SubcommandWords {
     about: HISTORY_ABOUT,
     after_help: HISTORY_AFTER,
     options: &HISTORY_OPTIONS,
+    requires_files: true,
 };
 
-/// One file or more.
-fn file_argument<'a>(alloc: Global) -> Arg<'a>
-    ensures rule { rule_of result ≡ file_rule }
+/// One file or more, or none where none is required.
+fn file_argument<'a>(alloc: Global, is_required: bool) -> Arg<'a>
+    ensures rule { rule_of result ≡ record file_rule { required = is_required } }
     ensures local { result.global ≡ false }
 {
     Arg::new(alloc, "file")
         .help(FILE_HELP)
-        .required(true)
+        .required(is_required)
         .action(ArgAction::Append)
         .num_args(1..)
 }
@@ -285,7 +307,7 @@ fn subcommand<'a>(alloc: Global, words: &'a SubcommandWords) -> Result<Command<'
             Err(error) => return Err(error),
         }
     }
-    command.arg(file_argument(alloc))
+    command.arg(file_argument(alloc, words.requires_files))
 }
 
 /// Adds a subcommand to a command, for which there may have been no memory.

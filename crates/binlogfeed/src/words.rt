@@ -1,9 +1,9 @@
 //! What the words of the command line ask for.
-ghost use Rattle.std.specs.Prelude.{◌≡◌, ◌∷◌, IfOk, IfErr, codes, true, Some, option_map};
+ghost use Rattle.std.specs.Prelude.{◌≡◌, ◌≢◌, ◌∷◌, [], IfOk, IfErr, codes, true, false, Some, option_map};
 ghost use Rattle.clap.specs.Words.{rows_of, found_of, subcommand_of, subcommand_rows_of, takes};
 ghost use Rattle.binlogfeed.specs.KeyWords.{value_given};
 ghost use Rattle.binlogfeed.specs.StartWords.{IsStart, IsTokenFault, token_text};
-ghost use Rattle.binlogfeed.specs.Words.{program_app, IsFaultOf, AnswersFound, AnswersWords, texts, files_given, style_given, style_of};
+ghost use Rattle.binlogfeed.specs.Words.{program_app, IsFaultOf, AnswersFound, AnswersWords, texts, files_given, is_followed, is_true_text, style_given, style_of};
 
 use crate::commands::program;
 use crate::key_words::key_of;
@@ -26,6 +26,13 @@ pub enum Order<'a> {
     },
     /// A line for each row change of these files behind the start that passes the filter.
     Read {
+        filter: Filter,
+        start: Start,
+        style: Style,
+        files: Vec<&'a str>,
+    },
+    /// A line for each row change of files that grow, of these first: behind the start, if it passes the filter.
+    Follow {
         filter: Filter,
         start: Start,
         style: Style,
@@ -95,28 +102,36 @@ fn transactions<'a>(alloc: Global, matches: &ArgMatches<'a>) -> Result<Order<'a>
 fn read<'a>(alloc: Global, matches: &ArgMatches<'a>) -> Result<Order<'a>, WordsFault>
     ensures { AnswersFound (Some (codes "read", rows_of (found_of matches.now))) result }
 {
+    let files = files(alloc, matches)?;
+    if lacks_files(&files, matches) {
+        return Err(WordsFault::CommandLine);
+    }
     let filter = filter_given(alloc, matches)?;
-    let (files, start) = files_and_start(alloc, matches)?;
-    Ok(Order::Read {
-        filter,
-        start,
-        style: style_given(matches),
-        files,
-    })
+    let start = start_given(alloc, text_given(matches, "from"))?;
+    let style = style_given(matches);
+    if is_followed(matches) {
+        Ok(Order::Follow {
+            filter,
+            start,
+            style,
+            files,
+        })
+    } else {
+        Ok(Order::Read {
+            filter,
+            start,
+            style,
+            files,
+        })
+    }
 }
 
-/// The files of a read, and the start that `--from` names.
-fn files_and_start<'a>(
-    alloc: Global,
-    matches: &ArgMatches<'a>,
-) -> Result<(Vec<&'a str>, Start), WordsFault>
-    ensures files { IfOk result (λ given. texts given.0.items ≡ files_given (rows_of (found_of matches.now))) }
-    ensures start { IfOk result (λ given. IsStart (token_text (rows_of (found_of matches.now))) given.1) }
-    ensures err { IfErr result (IsTokenFault (token_text (rows_of (found_of matches.now)))) }
+/// Whether there are no files where some are needed.
+fn lacks_files(files: &[&str], matches: &ArgMatches<'_>) -> bool
+    ensures yes { result ≡ true → (is_followed (rows_of (found_of matches.now)) ≡ false) × (texts files.now ≡ []) }
+    ensures no { result ≡ false → is_followed (rows_of (found_of matches.now)) ≡ false → texts files.now ≢ [] }
 {
-    let files = files(alloc, matches)?;
-    let start = start_given(alloc, text_given(matches, "from"))?;
-    Ok((files, start))
+    files.is_empty() && !is_followed(matches)
 }
 
 fn history<'a>(alloc: Global, matches: &ArgMatches<'a>) -> Result<Order<'a>, WordsFault>
@@ -144,16 +159,28 @@ fn style_given(matches: &ArgMatches<'_>) -> Style
 fn style_of(text: Option<&str>) -> Style
     ensures { result ≡ style_of (option_map (λ text. text.now) text.entry) }
 {
-    match text {
-        None => Style::Plain,
-        Some(text) => {
-            if text == "true" {
-                Style::Full
-            } else {
-                Style::Plain
-            }
-        }
+    if is_true_text(text) {
+        Style::Full
+    } else {
+        Style::Plain
     }
+}
+
+/// Whether a flag is given, by its value.
+fn is_true_text(text: Option<&str>) -> bool
+    ensures { result ≡ is_true_text (option_map (λ text. text.now) text.entry) }
+{
+    match text {
+        None => false,
+        Some(text) => text == "true",
+    }
+}
+
+/// Whether files are followed.
+fn is_followed(matches: &ArgMatches<'_>) -> bool
+    ensures { result ≡ is_followed (rows_of (found_of matches.now)) }
+{
+    is_true_text(text_given(matches, "follow"))
 }
 
 /// The value of an option that must be given.

@@ -56,6 +56,8 @@ fn perform(alloc: Global, case: &Case, order: Order<'_>, how: How) -> Result<Str
             files,
             ..
         } => perform_job(alloc, case, &files, Job::Changes { filter, start }, how),
+        // A run that follows reads an input, which cases have none of.
+        Order::Follow { .. } => Err(Refused::UnknownWord),
         Order::History {
             schema,
             table,

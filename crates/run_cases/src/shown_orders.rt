@@ -25,6 +25,17 @@ fn show_order(text: &mut Page, order: Order<'_>) {
             show_filter(text, filter);
             show_files(text, "files", &files);
         }
+        Order::Follow {
+            filter,
+            start,
+            files,
+            ..
+        } => {
+            text.push_str("followed\n");
+            show_start(text, &start);
+            show_filter(text, filter);
+            show_files(text, "files", &files);
+        }
         Order::History {
             schema,
             table,

@@ -25,5 +25,5 @@ options-preserved c = record {
 
 pub returns : goal.returns
 returns c =
-    files_added c.options.command c.arg-2.result c.file_argument.result (with_options (new_app c.args.words.now.name.now) c.args.words.now.options.now) file_rule c.args.words.now.options.now c.options.option-index
+    files_added c.options.command c.arg-2.result c.file_argument.result (with_options (new_app c.args.words.now.name.now) c.args.words.now.options.now) (record file_rule { required = c.args.words.now.requires_files }) c.args.words.now.options.now c.options.option-index
     c.options-test.false c.arg-2.ensures c.file_argument.ensures.local c.file_argument.ensures.rule c.options.invariant.app c.options.invariant.local

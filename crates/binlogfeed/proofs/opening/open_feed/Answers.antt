@@ -34,6 +34,7 @@ returns-in-Ok g c =
     record {
       fits = λ h. rw (kept.same_names, kept.same_contents, c.opening.invariant.start) at (given.begins h).0;
       begins = λ h. rw (kept.same_names, kept.same_contents, c.opening.invariant.start, c.opening.invariant.filter) at (given.begins h).1;
+      sound = given.sound;
       differ = rw kept.same_names at given.differ;
       names = given.names ∙ kept.same_names;
       contents = given.contents ∙ kept.same_contents;
@@ -60,6 +61,7 @@ returns-in-Err-larger_window g c =
     record {
       fits = tt;
       begins = tt;
+      sound = tt;
       differ = tt;
       names = tt;
       contents = tt;

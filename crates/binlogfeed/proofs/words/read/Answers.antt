@@ -1,21 +1,14 @@
-use Rattle.std.proofs.Common.{refl, Some, codes}
+use Rattle.std.proofs.Common.{refl, Some, ap, codes, inr, sym, ◌∙◌}
 use Rattle.clap.specs.Words.{found_of, rows_of}
-use Rattle.binlogfeed.proofs.Found.{failed, options_refused, token_refused}
+use Rattle.binlogfeed.specs.Words.{texts}
+use Rattle.binlogfeed.specs.declared.words_fault.WordsFault.TheVariants.{OutOfMemory}
+use Rattle.binlogfeed.proofs.Found.{failed}
 use Rattle.binlogfeed.proofs.words.read.Goals as goal
 
-pub returns-in_err-filter : goal.returns-in_err-filter
-returns-in_err-filter c =
-    let rows = rows_of (found_of c.args.matches.now) in
-    failed (Some (codes "read", rows)) c.in_err-filter.field-0.0 c.from_residual.result (options_refused rows c.in_err-filter.field-0.0 c.in_err-filter.ensures) c.from_residual.ensures.1
-
 pub returns-in_err-files : goal.returns-in_err-files
-returns-in_err-files c =
-    let rows = rows_of (found_of c.args.matches.now) in
-    let fault = c.in_err-files.field-0.0 in
-    failed (Some (codes "read", rows)) fault c.from_residual-in_err-files.result
-    (token_refused rows c.in_ok-filter.filter fault c.in_ok-filter.ensures c.in_err-files.ensures.err) c.from_residual-in_err-files.ensures.1
+returns-in_err-files c = failed (Some (codes "read", rows_of (found_of c.args.matches.now))) OutOfMemory c.from_residual.result tt c.from_residual.ensures.1
 
-pub returns : goal.returns
-returns c =
-    let given = c.in_ok-files.ensures in
-    (rows_of (found_of c.args.matches.now), refl, c.in_ok-filter.ensures, given.start, c.style_given.ensures, given.files)
+pub returns-then-lacks_files : goal.returns-then-lacks_files
+returns-then-lacks_files c =
+    let lacks = c.lacks_files.ensures.yes c.if-lacks_files.true in
+    inr (rows_of (found_of c.args.matches.now), refl, lacks.0, sym c.in_ok-files.ensures ∙ ap texts (sym c.deref.ensures.value) ∙ lacks.1)

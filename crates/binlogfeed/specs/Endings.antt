@@ -1,0 +1,59 @@
+-- How the program ends, by its words.
+use Rattle.std.specs.Prelude.{◌≡◌, ℕ, List, Option, None, Result, Ok, Err, IfSome}
+use Rattle.clap.specs.Words.{Text}
+use Rattle.binlog_frame.specs.declared.files.FileLogs.{FileLogs}
+use Rattle.binlog_frame.specs.FileLogs.{names_of, contents_of, is_honest, failures_of}
+use Rattle.binlog_frame.specs.Files.{AreLastParts}
+use Rattle.binlogfeed.specs.Follow.{Ending, Follows, follow_status_of, supplied}
+use Rattle.binlogfeed.specs.Looks.{Look}
+use Rattle.binlogfeed.specs.Statuses.{EndsRun, EndsUnopened, IsStatus, judgement_of, output_of}
+use Rattle.binlogfeed.specs.Words.{AnswersWords, texts, words_status_of}
+use Rattle.binlogfeed.specs.declared.program.Task.{Task}
+use Rattle.binlogfeed.specs.declared.program.Task.TheVariants as tasks
+use Rattle.binlogfeed.specs.declared.program.Used.{Used}
+use Rattle.binlogfeed.specs.declared.program.Used.TheVariants.{Files, Looks}
+use Rattle.binlogfeed.specs.declared.words.Order.{Order}
+use Rattle.binlogfeed.specs.declared.words.Order.TheVariants.{Transactions, Read, Follow, History}
+use Rattle.binlogfeed.specs.declared.words_fault.WordsFault.{WordsFault}
+
+-- What a task comes to over files that are supposed to hold these contents: the logs come back where all files could be opened,
+-- and where they gave their true bytes, what was written and the status are those of the task over the contents. Where a path is
+-- refused nothing is written.
+pub record EndsOnce {F : Type 0} (task : Task) (paths : List Text) (contents : List (List ℕ)) (logs : Option (FileLogs F)) (old new : Option (List ℕ))
+    (status : ℕ) : Type 0 where
+  pub names : IfSome logs (λ logs. AreLastParts paths (names_of logs))
+  pub held : IfSome logs (λ logs. contents_of logs ≡ contents)
+  pub ends : IfSome logs (λ logs. EndsRun (names_of logs) 0 (failures_of logs) (is_honest logs)
+      (judgement_of task (names_of logs) contents) (output_of task (names_of logs) contents) old new status)
+  pub refused : logs ≡ None → EndsUnopened paths status × (new ≡ old)
+  pub is_status : IsStatus status
+
+abbrev pub EndsTask : {F : Type 0} → Task → List Text → List (List ℕ) → Used F → Option (List ℕ) → Option (List ℕ) → ℕ → Type 0
+EndsTask task paths contents (Files logs) old new status = EndsOnce task paths contents logs old new status
+EndsTask task paths contents (Looks looks) old new status = ⊥
+
+-- A run that follows ends by its looks.
+abbrev pub EndsFollowing : {F : Type 0} → (List Look → Ending → Type 0) → Used F → ℕ → Type 0
+EndsFollowing follows (Files logs) status = ⊥
+EndsFollowing follows (Looks looks) status = (ending : Ending) × follows looks.list ending × (status ≡ follow_status_of ending)
+
+-- what an order comes to; the supply has what the files of each look are supposed to hold, or of the only one
+abbrev pub EndsOrder : {F : Type 0} → Order → List (List (List ℕ)) → Option (List ℕ) → Used F → Option (List ℕ) → Option (List ℕ) → ℕ → Type 0
+EndsOrder (Transactions files) supply input used old new status = EndsTask tasks.Transactions (texts files.items) (supplied supply 0) used old new status
+EndsOrder (Read filter start style files) supply input used old new status =
+    EndsTask (tasks.Read filter start style) (texts files.items) (supplied supply 0) used old new status
+EndsOrder (History schema table key style files) supply input used old new status =
+    EndsTask (tasks.History schema table key style) (texts files.items) (supplied supply 0) used old new status
+EndsOrder (Follow filter start style files) supply input used old new status =
+    EndsFollowing (Follows style filter start (texts files.items) supply input old new) used status
+
+-- what the answer to the words comes to: where they are refused no file is opened, and nothing is written
+abbrev pub EndsAnswer : {F : Type 0} → Result Order WordsFault → List (List (List ℕ)) → Option (List ℕ) → Used F
+    → Option (List ℕ) → Option (List ℕ) → ℕ → Type 0
+EndsAnswer (Ok order) supply input used old new status = EndsOrder order supply input used old new status
+EndsAnswer (Err fault) supply input used old new status = (used ≡ Files None) × (new ≡ old) × (status ≡ words_status_of fault)
+
+abbrev pub EndsWords : {F : Type 0} → List Text → List (List (List ℕ)) → Option (List ℕ) → Used F
+    → Option (List ℕ) → Option (List ℕ) → ℕ → Type 0
+EndsWords words supply input used old new status =
+    (result : Result Order WordsFault) × AnswersWords words result × EndsAnswer result supply input used old new status
