@@ -1,11 +1,11 @@
-//! A feed that goes on over files that have grown.
+//! A feed that goes on over files that have grown, and one that begins where a file ends.
 use crate::feed::show_change;
 use crate::reads::first_window;
 use crate::starts::Parts;
 use crate::steps::window_of;
 use binlog_feed::{Feed, FeedFault, GoOnFault};
 use binlog_frame::MemoryLogs;
-use binlog_select::Filter;
+use binlog_select::{Filter, Token};
 use case_language::{Case, Named, Page, Refused, copies_of, number, source};
 use std::alloc::Global;
 
@@ -149,4 +149,35 @@ pub fn going_on_text(alloc: Global, case: &Case, words: &[String]) -> Result<Str
         feed = gone_on(alloc, case, feed, word.as_str(), &mut text)?;
     }
     text.into_text()
+}
+
+/// All that a feed gives that begins behind the last whole unit of a token's file; or why it wasn't opened.
+fn tell_behind(
+    alloc: Global,
+    logs: MemoryLogs,
+    token: Token,
+    window: Vec<u8>,
+) -> Result<String, Refused> {
+    let mut text = Page::new(alloc);
+    match Feed::open_at_end(alloc, logs, Filter::new(), token, window) {
+        Ok(mut feed) => tell_all(alloc, &mut feed, &mut text)?,
+        Err((fault, _logs, _filter, _token, _window)) => {
+            text.push_debug(&fault);
+            text.push('\n');
+        }
+    }
+    text.into_text()
+}
+
+/// `at-end TOKEN LIST`: what a feed of a list gives that begins behind the last whole unit of the token's file.
+pub fn at_end_text(alloc: Global, case: &Case, words: &[String]) -> Result<String, Refused> {
+    let [token, list] = words else {
+        return Err(Refused::BadPart);
+    };
+    let Ok(token) = Token::parse(alloc, token.as_str()) else {
+        return Err(Refused::BadPart);
+    };
+    let logs = source_at(alloc, case, list.as_str())?;
+    let window = window_of(alloc, first_window(case))?;
+    tell_behind(alloc, logs, token, window)
 }

@@ -1,7 +1,7 @@
 //! The verbs of readers.
 use crate::bodies::{body_text, header_text, kinds_text};
 use crate::filters::{names_text, passes_text};
-use crate::going_on::going_on_text;
+use crate::going_on::{at_end_text, going_on_text};
 use crate::lookups::lookups_text;
 use crate::opening::judge_open;
 use crate::parts::parts_text;
@@ -53,6 +53,7 @@ fn text_of(
         "parts" => parts_text(alloc, case, words),
         "look-up" => lookups_text(alloc, case, words),
         "go-on" => going_on_text(alloc, case, words),
+        "at-end" => at_end_text(alloc, case, words),
         "set" => set_text(alloc, pieces, words),
         "holds" => holds_text(alloc, pieces, words),
         "token" => token_text(alloc, pieces, words),

@@ -59,6 +59,8 @@ impl<L: Logs> Logs for Watched<'_, L> {
 
     ghost reach = { λ logs. L.reach logs.files };
 
+    ghost asked = { λ logs. L.asked logs.files };
+
     fn count(&self) -> usize {
         self.files.count()
     }
