@@ -1,9 +1,9 @@
 -- What the words of a command line ask for.
-use Rattle.std.specs.Prelude.{◌≡◌, List, [], ◌∷◌, Option, Some, None, option_map, codes}
+use Rattle.std.specs.Prelude.{◌≡◌, List, [], ◌∷◌, Bool, true, false, Option, Some, None, option_map, codes}
 use Rattle.clap.specs.Words.{Text, fault_of, first_of, subcommand_of}
 use Rattle.clap.specs.declared.error.kind.ErrorKind.{ErrorKind}
 use Rattle.clap.specs.declared.error.kind.ErrorKind.TheVariants as kind
-use Rattle.binlogfeed.specs.Words.{program_app, files_given}
+use Rattle.binlogfeed.specs.Words.{program_app, files_given, is_followed}
 
 -- ---- what is found in words
 
@@ -18,6 +18,9 @@ files_in words = option_map (λ found. files_given found.1) (subcommand_of progr
 
 abbrev pub value_in : Text → List Text → Option (Option Text)
 value_in option words = option_map (λ found. first_of option found.1) (subcommand_of program_app words)
+
+abbrev pub followed_in : List Text → Option Bool
+followed_in words = option_map (λ found. is_followed found.1) (subcommand_of program_app words)
 
 -- ---- words
 
@@ -59,6 +62,13 @@ Histories =
     (mistakes_in of_a_key ≡ []) × (value_in (codes "key") of_a_key ≡ Some (Some (codes "[1]")))
     × (mistakes_in without_a_key ≡ kind.MissingRequiredArgument ∷ [])
 
+-- files may be left out behind `read`; where they are followed the flag says so
+abbrev pub Following : Type 0
+Following =
+    (mistakes_in (codes "b" ∷ codes "read" ∷ codes "--only-events" ∷ codes "drop" ∷ []) ≡ []) × (files_in (codes "b" ∷ codes "read" ∷ []) ≡ Some [])
+    × (mistakes_in (codes "b" ∷ codes "read" ∷ codes "--follow" ∷ []) ≡ []) × (files_in (codes "b" ∷ codes "read" ∷ codes "--follow" ∷ codes "x" ∷ []) ≡ Some (codes "x" ∷ []))
+    × (followed_in (codes "b" ∷ codes "read" ∷ codes "--follow" ∷ []) ≡ Some true) × (followed_in (codes "b" ∷ codes "read" ∷ codes "x" ∷ []) ≡ Some false)
+
 abbrev pub Helps : Type 0
 Helps =
     (mistakes_in (codes "b" ∷ codes "--help" ∷ []) ≡ kind.DisplayHelp ∷ [])
@@ -71,7 +81,7 @@ option_twice =
 abbrev pub Mistakes : Type 0
 Mistakes =
     (mistakes_in (codes "b" ∷ codes "transactions" ∷ []) ≡ kind.MissingRequiredArgument ∷ [])
-    × (mistakes_in (codes "b" ∷ codes "read" ∷ codes "--only-events" ∷ codes "drop" ∷ []) ≡ kind.MissingRequiredArgument ∷ [])
+    × (mistakes_in (codes "b" ∷ codes "read" ∷ codes "--follow" ∷ codes "--follow" ∷ []) ≡ kind.ArgumentConflict ∷ [])
     × (mistakes_in (codes "b" ∷ codes "transactions" ∷ codes "--all" ∷ codes "x" ∷ []) ≡ kind.UnknownArgument ∷ [])
     × (mistakes_in (codes "b" ∷ codes "write" ∷ codes "x" ∷ []) ≡ kind.UnknownArgument ∷ kind.InvalidSubcommand ∷ [])
     × (mistakes_in option_twice ≡ kind.ArgumentConflict ∷ [])
