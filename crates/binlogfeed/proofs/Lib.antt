@@ -8,6 +8,7 @@ pub mod Answering
 pub mod OverFiles
 pub mod Listing
 pub mod Beginning
+pub mod BeginningAtEnd
 pub mod GoingOn
 pub mod Choosing
 pub mod KeyParts

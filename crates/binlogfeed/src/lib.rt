@@ -14,6 +14,7 @@ mod lists;
 mod look;
 pub mod looks;
 mod opening;
+mod opening_at_end;
 mod options;
 pub mod program;
 pub mod run;

@@ -43,6 +43,8 @@ returns-in-Ok g c =
       no_fewer = no_fewer_still _ _ _ kept.no_fewer given.no_fewer;
       refused = tt;
       source_back = tt;
+      filter_back = tt;
+      start_back = tt;
       named = tt;
       failed = tt;
     }
@@ -70,6 +72,8 @@ returns-in-Err-larger_window g c =
       no_fewer = tt;
       refused = λ h. rw (kept.same_names, kept.same_contents, c.opening.invariant.start) at (still_refused names (g.L.Logs.contents c.opening.logs) c.opening.start fault why (back.refused h) ends);
       source_back = source_kept_further _ _ _ _ _ _ _ _ kept back.source_back;
+      filter_back = back.filter_back ∙ c.opening.invariant.filter;
+      start_back = back.start_back ∙ c.opening.invariant.start;
       named = subst (λ (list : List (List ℕ)). IsNamed list (fault_of_opening why)) kept.same_names (still_named names window before after fault why back.reason ends);
       failed = reads_failed_since (g.L.Logs.failures c.args.logs) before after (fault_of_opening why) kept.no_fewer (still_failed names window before after fault why back.reason ends);
     }
