@@ -3,21 +3,22 @@ use Rattle.std.specs.Prelude.{◌≡◌, ℕ, List, [], ◌∷◌, ◌++◌, dro
 use Rattle.binlog_frame.specs.declared.open_fault.OpenFault.TheVariants as opening
 use Rattle.binlog_json.specs.declared.style.Style.{Style}
 use Rattle.binlog_feed.specs.Changes.{RowChange}
+use Rattle.binlog_feed.specs.ChangeMachine.{RemainingChanges}
 use Rattle.binlog_feed.specs.Feeds.{feed}
 use Rattle.binlog_feed.specs.Parsing.{LogFile}
 use Rattle.binlog_feed.specs.declared.fault.FeedFault.TheVariants as reading
 use Rattle.binlog_feed.specs.declared.fault.GoOnFault.TheVariants as going
-use Rattle.binlog_feed.specs.declared.start.Start.TheVariants.{Beginning}
+use Rattle.binlog_feed.specs.declared.start.Start.TheVariants.{Beginning, After}
 use Rattle.binlogfeed.specs.Follow.{WritesText, EndsAs, blank_text, follow_status_of, input_text, list_status_of, refusal_status_of, refusal_text}
 use Rattle.binlogfeed.specs.Lists.{BeginsWithList, HasNoLineFeed, HasNoList, line_text, list_text}
-use Rattle.binlogfeed.specs.Looks.{AreParts, GiveOnce, Look, first_look, gone_by, joined_parts, looks_text}
+use Rattle.binlogfeed.specs.Looks.{AreParts, BeginsFollowing, Look, first_look, gone_by, joined_parts, looks_text}
 use Rattle.binlogfeed.specs.Turns.{Turns, lists_text}
 use Rattle.binlogfeed.specs.declared.fault.RunFault.TheVariants as run
 use Rattle.binlogfeed.specs.declared.follow_fault.FollowFault.TheVariants.{Input, Unopened, NotBegun, Refused, Ended}
 use Rattle.binlogfeed.specs.declared.lists.ListFault.TheVariants as lists
 use Rattle.binlog_samples.specs.Changes.{Brief, brief, first_change}
 use Rattle.binlog_samples.specs.Statuses.{two_names, second_is_bad}
-use Rattle.binlog_samples.specs.Tokens.{first_name, second_name, third_name, first_file, second_file, third_file, second_change, third_change}
+use Rattle.binlog_samples.specs.Tokens.{first_name, third_name, token, first_file, second_file, third_file, second_change, third_change}
 
 -- ---- lists
 
@@ -92,6 +93,13 @@ abbrev pub PartsOfLooks : Type 0
 PartsOfLooks =
     AreParts all Beginning (given one_file) (look_at last_files) earlier_looks (drop 1 (given last_files) ∷ drop 1 (given both_files) ∷ given one_file ∷ [])
     × (map brief (given one_file) ≡ first_change ∷ []) × (map brief (drop 1 (given both_files)) ≡ second_change ∷ []) × (map brief (drop 1 (given last_files)) ≡ third_change ∷ [])
+
+abbrev pub nothing_to_come : RemainingChanges
+nothing_to_come = record { changes = []; end = None }
+
+-- a run may begin behind the last whole transaction of a file, which no change's token names
+abbrev pub BeginsAtEnd : Type 0
+BeginsAtEnd = BeginsFollowing one_file all (After (token 371 0 first_name)) nothing_to_come
 
 -- the changes of the file that is gone are those of its look
 abbrev pub GoneFiles : Type 0

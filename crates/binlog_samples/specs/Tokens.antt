@@ -2,6 +2,7 @@
 use Rattle.std.specs.Prelude.{◌≡◌, ℕ, List, [], ◌∷◌, ◌++◌, take, map, Option, Some, None, Bool, true, codes}
 use Rattle.binlog_select.specs.declared.kind.ChangeKind.TheVariants.{Insert}
 use Rattle.binlog_select.specs.declared.token.Token.{Token}
+use Rattle.binlog_feed.specs.AtEnd.{judge_end, up_to_file}
 use Rattle.binlog_feed.specs.Parsing.{LogFile}
 use Rattle.binlog_feed.specs.Changes.{RowChange}
 use Rattle.binlog_feed.specs.FeedLaws.{changes_read_apart}
@@ -177,3 +178,24 @@ FilesApart =
     ComeApartTo two_files (first_change ∷ second_change ∷ []) None × ComeApartTo bad_in_second (first_change ∷ []) (fault_at 1 306 BadRows)
     × ComeApartTo rotates_past (first_change ∷ []) (fault_at 0 371 RotationMismatch)
     × ComeApartTo second_rotates_past (first_change ∷ second_change ∷ []) (fault_at 1 371 RotationMismatch) × ComeApartTo bad_before [] (fault_at 0 0 BadMagic)
+
+-- ---- the end of a file
+
+abbrev pub JudgesEnd : List LogFile → ℕ → ℕ → List ℕ → Judgement → Type 0
+JudgesEnd files position count file judgement = judge_end files (token position count file) ≡ judgement
+
+-- behind the last whole transaction, which need not be the file's last event; such a token counts no change
+abbrev pub EndsOfFiles : Type 0
+EndsOfFiles =
+    JudgesEnd (alone one_row) 371 0 first_name Fits × JudgesEnd (alone one_row) 153 0 first_name NoTransaction × JudgesEnd (alone one_row) 340 0 first_name NoTransaction
+    × JudgesEnd (alone one_row) 371 1 first_name NoTransaction × JudgesEnd (alone one_row) 371 0 second_name NoFile
+    × JudgesEnd rotates_past 371 0 first_name (faulty 0 371 RotationMismatch) × JudgesEnd second_rotates_past 371 0 first_name Fits
+    × JudgesEnd two_files 371 0 first_name Fits × JudgesEnd two_files 371 0 second_name Fits × JudgesEnd two_files 415 0 first_name NoTransaction
+    × JudgesEnd (alone (one_row ++ take 100 (one_more 2 (image 2 (codes "b")) xid_event))) 371 0 first_name Fits
+
+-- a file without a transaction ends behind any of its events
+abbrev pub EndsWithoutUnits : Type 0
+EndsWithoutUnits = JudgesEnd (alone front) 153 0 first_name Fits × JudgesEnd (alone front) 0 0 first_name Fits × JudgesEnd (alone front) 152 0 first_name NoTransaction
+
+abbrev pub UpToFile : Type 0
+UpToFile = (up_to_file first_name two_files ≡ first_file ∷ []) × (up_to_file second_name two_files ≡ two_files)

@@ -1,6 +1,6 @@
 //! The definitions of runs that follow: lists of files, looks at them, and how such a run ends.
 ghost use Rattle.binlog_samples.specs.Following.{ListTexts, ListsBegin, NoLists, CutLists, TurnsOfLists, TurnsOfFiles};
-ghost use Rattle.binlog_samples.specs.Following.{PartsOfLooks, GoneFiles, JoinedParts, EmptyLooks};
+ghost use Rattle.binlog_samples.specs.Following.{PartsOfLooks, BeginsAtEnd, GoneFiles, JoinedParts, EmptyLooks};
 ghost use Rattle.binlog_samples.specs.Following.{TextsOfRefusals, StatusesOfRefusals, StatusesOfEnds, TextsOfEnds};
 
 /// Which bytes are lists, and which files each of them has looked at.
@@ -16,6 +16,7 @@ pub fn sample_lists()
 /// What looks at files give that grow, are rotated and purged.
 pub fn sample_looks()
     ensures parts_of_looks { PartsOfLooks }
+    ensures begins_at_end { BeginsAtEnd }
     ensures gone_files { GoneFiles }
     ensures joined_parts { JoinedParts }
     ensures empty_looks { EmptyLooks }
