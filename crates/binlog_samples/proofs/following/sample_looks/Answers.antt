@@ -12,7 +12,7 @@ returns-clause-parts_of_looks c = (
     drop 1 (given both_files) ∷ given one_file ∷ [],
     refl,
     refl,
-    (drop 1 (given both_files), given one_file ∷ [], refl, refl, (_, inl (refl, refl), refl), refl),
+    (drop 1 (given both_files), given one_file ∷ [], refl, refl, ((_, inl (refl, refl), refl), refl)),
   ),
   refl,
   refl,
