@@ -2,6 +2,7 @@
 from __future__ import annotations
 
 import contextlib
+import fcntl
 import os
 import subprocess
 import tempfile
@@ -12,6 +13,8 @@ from pathlib import Path
 from binlogfeed.faults import FileFault, ProgramFailed, ProgramMissing, told
 
 BUFFER = 1 << 16
+# A pipe of so many bytes has room for several blocks of lines, which the program writes meanwhile.
+PIPE = 1 << 18
 
 
 class Program:
@@ -96,6 +99,11 @@ class LookingRun(Program):
     def __init__(self, command: Sequence[str | os.PathLike[str]]) -> None:
         """Starts the program."""
         super().__init__(command, subprocess.PIPE)
+        output = self._process.stdout
+        assert output is not None
+        # Where the system doesn't know it, or refuses it, the pipe is as it was.
+        with contextlib.suppress(AttributeError, OSError):
+            fcntl.fcntl(output, fcntl.F_SETPIPE_SZ, PIPE)
 
     def look(self, paths: Sequence[Path]) -> Generator[bytes, None, bool]:
         """The lines that are new in these files, in blocks of whole lines. Without a path the files are those of the look before.
