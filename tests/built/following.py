@@ -7,7 +7,7 @@ from functools import cache, partial
 from pathlib import Path
 from random import Random
 
-from built.check import SECONDS, Check, Outcome, Wanted, command, differs, run, text_differs
+from built.check import SECONDS, Check, Outcome, Wanted, differs, run, text_differs
 from built.growing import Driver, Server
 from built.logs import change_lines, put, worked_log
 from built.server_logs import BANK, SHOP, logs_of
@@ -103,7 +103,9 @@ def judge_loop(program: Path, folder: Path) -> list[str]:
     """A shell's loop tells the files. The second log is empty at first."""
     put(folder, ["logs/binlog.000001", "whole"], worked_log(2))
     put(folder, ["logs/binlog.000002"], b"")
-    shell = subprocess.run(["bash", "-c", LOOP, program], cwd=folder, stdin=subprocess.DEVNULL, capture_output=True, timeout=SECONDS, check=False)
+    shell = subprocess.run(
+        ["bash", "-c", LOOP, program], cwd=folder, stdin=subprocess.DEVNULL, capture_output=True, timeout=SECONDS, check=False
+    )
     lines = [line for line in shell.stdout.splitlines(keepends=True) if line != b"\n"]
     looks = len(shell.stdout.splitlines()) - len(lines)
     wanted = change_lines(2, "binlog.000001") + change_lines(2, "binlog.000002")
@@ -119,7 +121,7 @@ def log_of(count: int) -> bytes:
 
 def instructions(program: Path, folder: Path, looks: int) -> int:
     """The instructions of a run that looks so often at a log that doesn't grow."""
-    words = ["valgrind", "--tool=callgrind", "--callgrind-out-file=/dev/null", program, *command(["read", "--follow", "--only-tables=none", "log"])[1:]]
+    words = ["valgrind", "--tool=callgrind", "--callgrind-out-file=/dev/null", program, "read", "--follow", "--only-tables=none", "log"]
     said = subprocess.run(words, cwd=folder, input=b"\n" * looks, capture_output=True, check=True).stderr
     return int(re.search(rb"Collected : (\d+)", said)[1])
 
