@@ -15,7 +15,7 @@ use std::alloc::AllocError;
 /// Why a run that follows has ended before its input did.
 #[derive(Clone, Copy, Debug, PartialEq, Eq)]
 pub enum FollowFault {
-    /// The input of lists can't be read.
+    /// The input of lists can't be read, or memory was wanting for a list.
     Input(ListFault),
     /// A path of the newest list is refused.
     Unopened(OpenFault),

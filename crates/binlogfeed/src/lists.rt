@@ -65,6 +65,7 @@ pub(crate) fn next_list<B: BufRead>(
     ensures { IfOk result (λ found. ReadsList (B.Read.remaining input.old) (B.Read.remaining input.new) (option_map (λ list. map string_bytes list.items) found)) }
 {
     let mut paths = Vec::new(alloc);
+    // No list has so many lines. The bound shows that this ends.
     'lines: for _ in 0..u64::MAX {
         let Some(line) = next_line(alloc, input)? else {
             return Ok(None);
