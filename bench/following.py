@@ -6,7 +6,7 @@
 makes the shop's log of so many bytes (1,000,000,000 where none are given) in FOLDER with bench/make_log.py, but for its last 200
 transactions, and prints
 
-    the processor time of the first look, of the second, which finds the place of the log's end, and of a look that finds nothing new;
+    the processor time of the first look, of the second, and of a look that finds nothing new;
     that of a look which finds one new transaction;
     how long it takes from a transaction's last byte to its lines, with a look every 10 ms.
 
