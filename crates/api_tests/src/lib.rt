@@ -1,11 +1,13 @@
 //! Tests over the system's files, of what no text of cases can show: files that change while they are open, long ones, what is no
-//! file, and how many reads of the system a log takes.
+//! file, reads that fail, and how many reads of the system a log takes.
 #![tactic(auto)]
 
 #[cfg(test)]
 mod changing;
 #[cfg(test)]
 mod counting;
+#[cfg(test)]
+mod failing;
 #[cfg(test)]
 mod folder;
 #[cfg(test)]
@@ -14,3 +16,5 @@ mod long;
 mod opening;
 #[cfg(test)]
 mod reading;
+#[cfg(test)]
+mod watched;

@@ -1,9 +1,7 @@
 //! A file longer than 4 GiB, most of which takes no place on the disk.
-use crate::folder::{new_folder, put_zeros};
+use crate::folder::{new_folder, put_marks};
 use crate::reading::{length, opened, read};
 use std::fs;
-use std::fs::OpenOptions;
-use std::io::{Seek, SeekFrom, Write};
 use std::test::Fail;
 
 const FOUR_GIB: u64 = 1 << 32;
@@ -17,20 +15,10 @@ const MARKS: [(u64, u8); 5] = [
     (3 * FOUR_GIB + 4, 5),
 ];
 
-fn put_marks(rt: &HostRuntime, folder: &str) -> Result<String, Fail> {
-    let path = put_zeros(rt, folder, "long", 3 * FOUR_GIB + 5)?;
-    let mut file = OpenOptions::new().write(true).open(rt, &path)?;
-    for (offset, mark) in MARKS {
-        file.seek(SeekFrom::Start(offset))?;
-        file.write_all(&[mark])?;
-    }
-    Ok(path)
-}
-
 #[test]
 fn reads_behind_the_first_four_gib(rt: HostRuntime) -> Result<(), Fail> {
     let folder = new_folder(&rt, "long")?;
-    let path = put_marks(&rt, &folder)?;
+    let path = put_marks(&rt, &folder, "long", 3 * FOUR_GIB + 5, &MARKS)?;
     let mut logs = opened(&rt, rt.alloc(), &path)?;
     assert_eq!(rt; length(&logs), 3 * FOUR_GIB + 5);
     for (offset, mark) in MARKS {

@@ -1,6 +1,9 @@
 //! What the system gives, and isn't opened.
-use crate::reading::open;
+use crate::folder::{new_folder, put_zeros};
+use crate::reading::{length, open, opened};
+use crate::watched::{Watch, WatchedFiles};
 use binlog_frame::OpenFault;
+use std::fs;
 use std::test::Fail;
 
 #[test]
@@ -16,5 +19,56 @@ fn refuses_what_is_no_file(rt: HostRuntime) -> Result<(), Fail> {
         let refusal = open(&rt, rt.alloc(), path).err();
         assert_eq!(rt; refusal, Some(OpenFault::CannotOpen(0)), "{path}");
     }
+    Ok(())
+}
+
+/// Why a path is refused, and how many files were opened.
+fn refusal(
+    rt: &HostRuntime,
+    path: &str,
+    instead: Option<&str>,
+) -> Result<(Option<OpenFault>, u64), Fail> {
+    let watch = Watch::new();
+    let files = WatchedFiles {
+        rt,
+        watch: &watch,
+        instead,
+    };
+    let refusal = open(&files, rt.alloc(), path).err();
+    Ok((refusal, watch.opened.get()))
+}
+
+#[test]
+fn looks_at_what_a_path_names_before_it_opens_it(rt: HostRuntime) -> Result<(), Fail> {
+    let refused = Some(OpenFault::CannotOpen(0));
+    assert_eq!(rt; refusal(&rt, "/dev/null", None)?, (refused, 0));
+    Ok(())
+}
+
+#[test]
+fn looks_again_at_what_was_opened(rt: HostRuntime) -> Result<(), Fail> {
+    let folder = new_folder(&rt, "opening")?;
+    let path = put_zeros(&rt, &folder, "log", 100)?;
+    let refused = Some(OpenFault::CannotOpen(0));
+    for other in ["/dev/null", "/dev/zero", &folder] {
+        assert_eq!(rt; refusal(&rt, &path, Some(other))?, (refused, 1), "{other}");
+    }
+    fs::remove_dir_all(&rt, &folder)?;
+    Ok(())
+}
+
+#[test]
+fn has_the_length_of_what_was_opened(rt: HostRuntime) -> Result<(), Fail> {
+    let folder = new_folder(&rt, "lengths")?;
+    let path = put_zeros(&rt, &folder, "log", 100)?;
+    let other = put_zeros(&rt, &folder, "other", 60)?;
+    let watch = Watch::new();
+    let files = WatchedFiles {
+        rt: &rt,
+        watch: &watch,
+        instead: Some(&other),
+    };
+    assert_eq!(rt; length(&opened(&files, rt.alloc(), &path)?), 60);
+    fs::remove_dir_all(&rt, &folder)?;
     Ok(())
 }
