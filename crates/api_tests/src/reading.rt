@@ -1,18 +1,24 @@
 //! Opening a list of one file, and reading it.
 use binlog_frame::{FileLogs, Logs, OpenFault, ReadFault};
 use std::alloc::Global;
-use std::fs::OpenFile;
-use std::io::{Read, Seek};
 use std::rt::Files;
 use std::test::Fail;
 
 /// Opens the file of a path.
-pub fn open<R: Files>(rt: &R, alloc: Global, path: &str) -> Result<FileLogs<R::File>, OpenFault> {
+pub fn open<R: Files + Clone + Drop>(
+    rt: &R,
+    alloc: Global,
+    path: &str,
+) -> Result<FileLogs<R, R::File>, OpenFault> {
     FileLogs::open(rt, alloc, &[path])
 }
 
 /// The file of a path, which has to be opened.
-pub fn opened<R: Files>(rt: &R, alloc: Global, path: &str) -> Result<FileLogs<R::File>, Fail> {
+pub fn opened<R: Files + Clone + Drop>(
+    rt: &R,
+    alloc: Global,
+    path: &str,
+) -> Result<FileLogs<R, R::File>, Fail> {
     match open(rt, alloc, path) {
         Ok(logs) => Ok(logs),
         Err(_) => Err("not opened".into()),
@@ -20,8 +26,8 @@ pub fn opened<R: Files>(rt: &R, alloc: Global, path: &str) -> Result<FileLogs<R:
 }
 
 /// Reads the file at an offset.
-pub fn read<F: Read + Seek + OpenFile + Drop>(
-    logs: &mut FileLogs<F>,
+pub fn read<R: Files + Drop>(
+    logs: &mut FileLogs<R, R::File>,
     offset: u64,
     bytes: &mut [u8],
 ) -> Result<usize, ReadFault> {
@@ -32,7 +38,7 @@ pub fn read<F: Read + Seek + OpenFile + Drop>(
 }
 
 /// The file's length.
-pub fn length<F: Read + Seek + OpenFile + Drop>(logs: &FileLogs<F>) -> u64 {
+pub fn length<R: Files + Drop>(logs: &FileLogs<R, R::File>) -> u64 {
     if logs.count() == 0 {
         return 0;
     }

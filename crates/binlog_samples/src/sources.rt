@@ -5,8 +5,7 @@ ghost use Rattle.binlog_samples.specs.Sources.{TrueReads, FalseReads, ManyReads,
 ghost use Rattle.binlog_samples.specs.Sources.{LastParts, NoLastParts, PathsRefused, PathsNotRefused, Duplicates};
 
 use binlog_frame::{FileLogs, Logs, MemoryLogs};
-use std::fs::OpenFile;
-use std::io::{Read, Seek};
+use std::rt::Files;
 
 /// What files can give, and what a call on a source keeps.
 pub fn sample_sources()
@@ -20,8 +19,8 @@ pub fn sample_sources()
 {}
 
 /// Which sources are honest: files in memory always are, and files of the system by the definition of `honest_files`.
-pub fn sample_honesty<F: Read + Seek + OpenFile + Drop>(files: &FileLogs<F>, memory: &MemoryLogs)
-    ensures files { ⟦<FileLogs<F> as Logs>⟧.honest files.now ≡ is_honest files.now }
+pub fn sample_honesty<R: Files + Drop>(files: &FileLogs<R, R::File>, memory: &MemoryLogs)
+    ensures files { ⟦<FileLogs<R, R::File> as Logs>⟧.honest files.now ≡ is_honest files.now }
     ensures memory { IsTrue (⟦<MemoryLogs as Logs>⟧.honest memory.now) }
 {}
 

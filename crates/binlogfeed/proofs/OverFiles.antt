@@ -80,21 +80,21 @@ follow_is_status (Err (NotBegun fault)) = run_is_status (Err fault)
 follow_is_status (Err (Refused fault)) = refusal_is_status fault
 follow_is_status (Err (Ended fault)) = run_is_status (Err fault)
 
-task_is_status : {F : Type 0} (task : Task) (paths : List Text) (contents : List (List ℕ)) (used : Used F) (old new : Option (List ℕ)) (status : ℕ) → EndsTask task paths contents used old new status → IsStatus status
+task_is_status : {R F : Type 0} (task : Task) (paths : List Text) (contents : List (List ℕ)) (used : Used R F) (old new : Option (List ℕ)) (status : ℕ) → EndsTask task paths contents used old new status → IsStatus status
 task_is_status task paths contents (Files logs) old new status h = h.is_status
 task_is_status task paths contents (Looks looks) old new status h = absurd h
 
-following_is_status : {F : Type 0} (follows : List Look → Ending → Type 0) (used : Used F) (status : ℕ) → EndsFollowing follows used status → IsStatus status
+following_is_status : {R F : Type 0} (follows : List Look → Ending → Type 0) (used : Used R F) (status : ℕ) → EndsFollowing follows used status → IsStatus status
 following_is_status follows (Files logs) status h = absurd h
 following_is_status follows (Looks looks) status (ending, made, e) = subst IsStatus (sym e) (follow_is_status ending)
 
-order_is_status : {F : Type 0} (order : Order) (supply : List (List (List ℕ))) (input : Option (List ℕ)) (used : Used F) (old new : Option (List ℕ)) (status : ℕ) → EndsOrder order supply input used old new status → IsStatus status
+order_is_status : {R F : Type 0} (order : Order) (supply : List (List (List ℕ))) (input : Option (List ℕ)) (used : Used R F) (old new : Option (List ℕ)) (status : ℕ) → EndsOrder order supply input used old new status → IsStatus status
 order_is_status (Transactions files) supply input used old new status h = task_is_status _ _ _ used old new status h
 order_is_status (orders.Read filter start style files) supply input used old new status h = task_is_status _ _ _ used old new status h
 order_is_status (History schema table key style files) supply input used old new status h = task_is_status _ _ _ used old new status h
 order_is_status (Follow filter start style files) supply input used old new status h = following_is_status _ used status h
 
-pub ended_is_status : {F : Type 0} (answer : Result Order WordsFault) (supply : List (List (List ℕ))) (input : Option (List ℕ)) (used : Used F) (old new : Option (List ℕ)) (status : ℕ)
+pub ended_is_status : {R F : Type 0} (answer : Result Order WordsFault) (supply : List (List (List ℕ))) (input : Option (List ℕ)) (used : Used R F) (old new : Option (List ℕ)) (status : ℕ)
     → EndsAnswer answer supply input used old new status → IsStatus status
 ended_is_status (Ok order) supply input used old new status h = order_is_status order supply input used old new status h
 ended_is_status (Err fault) supply input used old new status (none, same, e) = subst IsStatus (sym e) (words_are_status fault)

@@ -19,7 +19,7 @@ use Rattle.binlogfeed.specs.declared.words_fault.WordsFault.{WordsFault}
 -- What a task comes to over files that are supposed to hold these contents: the logs come back where all files could be opened,
 -- and where they gave their true bytes, what was written and the status are those of the task over the contents. Where a path is
 -- refused nothing is written.
-pub record EndsOnce {F : Type 0} (task : Task) (paths : List Text) (contents : List (List ℕ)) (logs : Option (FileLogs F)) (old new : Option (List ℕ))
+pub record EndsOnce {R F : Type 0} (task : Task) (paths : List Text) (contents : List (List ℕ)) (logs : Option (FileLogs R F)) (old new : Option (List ℕ))
     (status : ℕ) : Type 0 where
   pub names : IfSome logs (λ logs. AreLastParts paths (names_of logs))
   pub held : IfSome logs (λ logs. contents_of logs ≡ contents)
@@ -28,17 +28,17 @@ pub record EndsOnce {F : Type 0} (task : Task) (paths : List Text) (contents : L
   pub refused : logs ≡ None → EndsUnopened paths status × (new ≡ old)
   pub is_status : IsStatus status
 
-abbrev pub EndsTask : {F : Type 0} → Task → List Text → List (List ℕ) → Used F → Option (List ℕ) → Option (List ℕ) → ℕ → Type 0
+abbrev pub EndsTask : {R F : Type 0} → Task → List Text → List (List ℕ) → Used R F → Option (List ℕ) → Option (List ℕ) → ℕ → Type 0
 EndsTask task paths contents (Files logs) old new status = EndsOnce task paths contents logs old new status
 EndsTask task paths contents (Looks looks) old new status = ⊥
 
 -- A run that follows ends by its looks.
-abbrev pub EndsFollowing : {F : Type 0} → (List Look → Ending → Type 0) → Used F → ℕ → Type 0
+abbrev pub EndsFollowing : {R F : Type 0} → (List Look → Ending → Type 0) → Used R F → ℕ → Type 0
 EndsFollowing follows (Files logs) status = ⊥
 EndsFollowing follows (Looks looks) status = (ending : Ending) × follows looks.list ending × (status ≡ follow_status_of ending)
 
 -- what an order comes to; the supply has what the files of each look are supposed to hold, or of the only one
-abbrev pub EndsOrder : {F : Type 0} → Order → List (List (List ℕ)) → Option (List ℕ) → Used F → Option (List ℕ) → Option (List ℕ) → ℕ → Type 0
+abbrev pub EndsOrder : {R F : Type 0} → Order → List (List (List ℕ)) → Option (List ℕ) → Used R F → Option (List ℕ) → Option (List ℕ) → ℕ → Type 0
 EndsOrder (Transactions files) supply input used old new status = EndsTask tasks.Transactions (texts files.items) (supplied supply 0) used old new status
 EndsOrder (Read filter start style files) supply input used old new status =
     EndsTask (tasks.Read filter start style) (texts files.items) (supplied supply 0) used old new status
@@ -48,12 +48,12 @@ EndsOrder (Follow filter start style files) supply input used old new status =
     EndsFollowing (Follows style filter start (texts files.items) supply input old new) used status
 
 -- what the answer to the words comes to: where they are refused no file is opened, and nothing is written
-abbrev pub EndsAnswer : {F : Type 0} → Result Order WordsFault → List (List (List ℕ)) → Option (List ℕ) → Used F
+abbrev pub EndsAnswer : {R F : Type 0} → Result Order WordsFault → List (List (List ℕ)) → Option (List ℕ) → Used R F
     → Option (List ℕ) → Option (List ℕ) → ℕ → Type 0
 EndsAnswer (Ok order) supply input used old new status = EndsOrder order supply input used old new status
 EndsAnswer (Err fault) supply input used old new status = (used ≡ Files None) × (new ≡ old) × (status ≡ words_status_of fault)
 
-abbrev pub EndsWords : {F : Type 0} → List Text → List (List (List ℕ)) → Option (List ℕ) → Used F
+abbrev pub EndsWords : {R F : Type 0} → List Text → List (List (List ℕ)) → Option (List ℕ) → Used R F
     → Option (List ℕ) → Option (List ℕ) → ℕ → Type 0
 EndsWords words supply input used old new status =
     (result : Result Order WordsFault) × AnswersWords words result × EndsAnswer result supply input used old new status

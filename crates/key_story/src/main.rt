@@ -38,7 +38,11 @@ fn compact_key(alloc: Global, text: &str) -> Result<String, Fault> {
 }
 
 /// Opens files in the order of their paths.
-fn open_files<R: Files>(rt: &R, alloc: Global, paths: &[&str]) -> Result<FileLogs<R::File>, Fault> {
+fn open_files<R: Files + Clone + Drop>(
+    rt: &R,
+    alloc: Global,
+    paths: &[&str],
+) -> Result<FileLogs<R, R::File>, Fault> {
     FileLogs::open(rt, alloc, paths).map_err(Fault::Open)
 }
 
@@ -102,7 +106,10 @@ fn tell_story<R: Print + AllocGlobal, L: Logs + Drop>(
 }
 
 /// Prints the story of the row that the words name. The program's name is the first of the words.
-fn answer<R: Files + Print + AllocGlobal>(rt: &R, words: &[String]) -> Result<(), Fault> {
+fn answer<R: Files + Print + AllocGlobal + Clone + Drop>(
+    rt: &R,
+    words: &[String],
+) -> Result<(), Fault> {
     let [_, schema, table, key, files @ ..] = words else {
         return Err(Fault::Wanted("SCHEMA TABLE KEY FILE.."));
     };

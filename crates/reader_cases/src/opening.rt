@@ -48,8 +48,12 @@ fn open_at<R: Files + AllocGlobal>(
 }
 
 /// Opens files. What they hold is not known.
-fn opened<R: Files>(rt: &R, alloc: Global, paths: &[&str]) -> Result<FileLogs<R::File>, OpenFault> {
-    FileLogs::open(rt, alloc, paths)
+fn opened<'a, R: Files>(
+    rt: &'a R,
+    alloc: Global,
+    paths: &[&str],
+) -> Result<FileLogs<&'a R, R::File>, OpenFault> {
+    FileLogs::open(&rt, alloc, paths)
 }
 
 /// The names and lengths of files, or why they weren't opened.
