@@ -1,8 +1,9 @@
 """Command lines of many words and many files, and words that are no text."""
+import subprocess
 from functools import partial
 from pathlib import Path
 
-from built.check import Check, Wanted, differs, run, said
+from built.check import SECONDS, Check, Outcome, Wanted, differs, run, said
 from built.logs import change_lines, front, full_lines, put, unit_lines, worked_log
 
 # The option words of `read` that let every change of the worked logs pass: thirteen words with the subcommand. `--full` isn't among
@@ -29,6 +30,28 @@ def judge_files(count: int, subcommand: str, program: Path, folder: Path) -> lis
     lines = unit_lines if subcommand == "transactions" else change_lines
     wanted = b"".join(lines(1, name) for name in names)
     return differs(run(program, [subcommand, *names], folder), Wanted(0, wanted))
+
+
+def run_with_few_open(program: Path, folder: Path, words: list[str]) -> Outcome:
+    """Runs a program that may have 256 files open."""
+    shell = ["sh", "-c", 'ulimit -n 256; exec "$0" "$@"', program, *words]
+    ended = subprocess.run(shell, cwd=folder, stdin=subprocess.DEVNULL, capture_output=True, timeout=SECONDS, check=False)
+    return Outcome(ended.returncode, ended.stdout, ended.stderr)
+
+
+def judge_many_files(count: int, subcommand: str, program: Path, folder: Path) -> list[str]:
+    """A list may have more files than a program may have open."""
+    names = put(folder, log_names(count), worked_log())
+    lines = unit_lines if subcommand == "transactions" else change_lines
+    wanted = b"".join(lines(1, name) for name in names)
+    return differs(run_with_few_open(program, folder, [subcommand, *names]), Wanted(0, wanted))
+
+
+def judge_missing_behind_many(program: Path, folder: Path) -> list[str]:
+    """A file that isn't there is named before anything is written, behind however many others it stands."""
+    names = put(folder, log_names(1_100), worked_log())
+    came = run_with_few_open(program, folder, ["read", *names, "missing"])
+    return differs(came, Wanted(4, b"", said("cannot open missing")))
 
 
 def judge_options(program: Path, folder: Path) -> list[str]:
@@ -99,8 +122,11 @@ def checks() -> list[Check]:
     """The checks of words."""
     kinds = ("transactions", "read")
     files = [Check(f"{kind} of {count} files", partial(judge_files, count, kind)) for kind in kinds for count in (8, 9, 30, 500)]
+    many = [Check(f"{kind} of 5000 files", partial(judge_many_files, 5_000, kind)) for kind in kinds]
     return [
         *files,
+        *many,
+        Check("a missing file behind 1100", judge_missing_behind_many),
         Check("all options and twelve files", judge_options),
         Check("all options, the flag for full lines and twelve files", judge_all_and_full),
         Check("an option behind twenty files", judge_option_behind),
