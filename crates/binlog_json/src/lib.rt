@@ -30,7 +30,7 @@ mod visit;
 mod writer;
 
 pub use gtid::push_gtid;
-pub use index_laws::{histories_are_held, indexes_go_on};
+pub use index_laws::{histories_are_held, indexes_go_on, places_lend_their_changes};
 pub use key::{has_key, has_key_as, key_text};
 pub use key_finder::KeyFinder;
 pub use key_index::KeyIndex;
