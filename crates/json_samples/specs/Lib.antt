@@ -7,4 +7,6 @@ pub mod Names
 pub mod Others
 pub mod Lines
 pub mod Keys
+pub mod Lengths
 pub mod Histories
+pub mod Indexes
