@@ -15,13 +15,14 @@ from typing import NamedTuple
 sys.dont_write_bytecode = True
 
 from built import (  # noqa: E402
-    cases, collations, faults, following, full_lines, help_text, library_page, refusals, rows, server_logs, system, tokens, truth, words, wrapper,
+    cases, collations, faults, following, full_lines, help_text, library_page, rare_paths, refusals, rows, server_logs, system, tokens,
+    truth, words, wrapper,
 )  # fmt: skip
 from built.check import Check  # noqa: E402
 
 TOP = Path(__file__).resolve().parent.parent
 PROGRAMS = [TOP / "crates/program/out/program", TOP / "crates/program/out/program.by-rattle"]
-PARTS = (system, rows, words, faults, help_text, server_logs, tokens, truth, collations, full_lines, refusals, following)
+PARTS = (system, rare_paths, rows, words, faults, help_text, server_logs, tokens, truth, collations, full_lines, refusals, following)
 
 
 class Task(NamedTuple):
@@ -92,6 +93,7 @@ def main() -> int:
         for part in (cases, library_page):
             tasks += tasks_of(part.PROGRAMS, part.checks(), missing)
         tasks += tasks_of(refusals.PROGRAMS, refusals.index_checks(), missing)
+        tasks += tasks_of(library_page.PROGRAMS, rare_paths.index_checks(), missing)
     if given.gate:
         tasks += tasks_of([wrapper.PROGRAM], wrapper.checks(), missing)
     for program in missing:
