@@ -53,6 +53,7 @@ class Plain(unittest.TestCase):
         self.assertEqual(times.to_timestamp("1700000000"), datetime.datetime(2023, 11, 14, 22, 13, 20, tzinfo=UTC))
         self.assertEqual(times.to_timestamp("1700000000.25"), datetime.datetime(2023, 11, 14, 22, 13, 20, 250000, tzinfo=UTC))
         self.assertEqual(times.to_timestamp("2147483647.999999").microsecond, 999999)
+        self.assertEqual(times.to_timestamp("0.5"), datetime.datetime(1970, 1, 1, 0, 0, 0, 500000, tzinfo=UTC))
         self.assertEqual(times.to_timestamp("0"), "0")
         self.assertEqual(times.to_timestamp("0.00"), "0.00")
         with self.assertRaises(ValueError):

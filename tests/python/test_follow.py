@@ -14,6 +14,7 @@ from binlogfeed import BinlogfeedError, FileFault, LogFault, LogLost, LogsGone, 
 from binlogfeed import follow as following
 from binlogfeed import watch as watching
 from binlogfeed.follow import Follower, read_state, write_state
+from binlogfeed.logs import check_without_gap
 from built import logs
 from built.growing import Server
 from support import BANK, PROGRAM, SECONDS, SHOP, TOP, FolderTest, running
@@ -304,7 +305,6 @@ class Growing(ServerTest):
         self.log("binlog.000001", log(1, 2))
         self.assertEqual(self.followed(), line(2, 371, "binlog.000001"))
 
-
     def test_within_a_slow_look(self):
         """Lines are out at once, and the place is kept behind each second, though the look goes on."""
         self.addCleanup(setattr, following, "KEEP_SECONDS", following.KEEP_SECONDS)
@@ -354,6 +354,24 @@ class Purged(ServerTest):
         self.rotate(4)
         self.index("binlog.000001", "binlog.000003", "binlog.000004")
         self.assertIn("binlog.000002 is gone: it should stand between binlog.000001 and binlog.000003", self.gone())
+
+    def test_logs_that_do_not_go_on(self):
+        """Each log but the first has the number behind that of the one before it, and the same name before the number."""
+        self.rotate(2)
+        for following in ("binlog.000001", "other.000002", "binlog.000000", "another.000003"):
+            with self.assertRaises(LogsGone):
+                check_without_gap([self.data / "binlog.000001", self.data / following])
+        with self.assertRaises(LogsGone):
+            check_without_gap([self.data / "binlog.000001", self.data / "binlog.000002", self.data / "binlog.000002"])
+        check_without_gap([self.data / "binlog.000001", self.data / "binlog.000002"])
+        check_without_gap([self.data / "binlog.999999", self.data / "binlog.1000000"])
+
+    def test_two_servers_logs_under_one_pattern(self):
+        self.rotate(1)
+        self.log("other.000002", log(2))
+        with self.assertRaises(LogsGone) as caught:
+            self.followed(place=f"{self.data}/*.0*")
+        self.assertIn("binlog.000002 is gone: it should stand between binlog.000001 and other.000002", caught.exception.line)
 
     def test_a_log_between_after_a_kill(self):
         """The first log has no ROTATE, so the program would take any other behind it."""
@@ -570,11 +588,12 @@ class CommandLine(ServerTest):
         """It says so once, and goes on."""
         pattern = f"{self.data}/binlog.0*"
         with self.run_follow("--interval", "0.01", pattern, stdout=subprocess.PIPE) as process:
-            time.sleep(0.3)
+            self.assertEqual(process.stderr.readline(), f"binlogfeed: no log matches {pattern} yet\n".encode())
+            time.sleep(0.1)
             self.log("binlog.000001", log(1))
             self.assertEqual(process.stdout.readline(), line(1, 153, "binlog.000001"))
             process.send_signal(signal.SIGTERM)
-            self.assertEqual(process.communicate(), (b"", f"binlogfeed: no log matches {pattern} yet\n".encode()))
+            self.assertEqual(process.communicate(), (b"", b""))
 
     def test_status(self):
         """It says the place that is kept, and how far it is behind."""

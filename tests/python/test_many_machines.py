@@ -24,6 +24,16 @@ def python_with_distributed():
 PYTHON = python_with_distributed()
 
 
+class Words(unittest.TestCase):
+    """Words that are refused before any worker is looked for. Its libraries may be missing."""
+
+    def test_a_token_is_refused(self):
+        for words in (("--from", "4.1@binlog.000001"), ("--from=4.1@binlog.000001",)):
+            ended = subprocess.run([PYTHON or sys.executable, READ, "logs", "--", *words], capture_output=True, check=False)
+            self.assertEqual((ended.returncode, ended.stdout), (2, b""))
+            self.assertIn(b"--from isn't taken", ended.stderr)
+
+
 @unittest.skipUnless(PYTHON, "there is no dask.distributed (apt-get install python3-distributed)")
 class Cluster(FolderTest):
     """Two workers on this machine."""
@@ -75,7 +85,3 @@ class Cluster(FolderTest):
         came = self.ended(PYTHON, READ, "--program", "./nothing", SHOP[0].parent / "binlog.0*")
         self.assertEqual(came, (70, b"", b"binlogfeed: the program can't be started: there is no ./nothing\n"))
 
-    def test_a_token_is_refused(self):
-        status, lines, said = self.ended(PYTHON, READ, self.folder, "--", "--from", "4.1@binlog.000001")
-        self.assertEqual((status, lines), (2, b""))
-        self.assertIn(b"--from isn't taken", said)

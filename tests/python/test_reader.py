@@ -189,6 +189,14 @@ class Conversion(FolderTest):
         events = list(reader(SHOP, only_tables=["customer"], convert={"customer.email": str.upper}))
         self.assertEqual([event.after["email"] for event in events[:2]], ["ADA@EXAMPLE.ORG", None])
 
+    def test_empty_and_nought(self):
+        """Only NULL is left as it is: an empty text and the number 0 are values, and so are bytes of none."""
+        change = LINE.replace('{"id":1}', '{"bytes":{"base64":""},"gone":null,"nr":0,"text":""}') % "4.1@f"
+        convert = {f"t.{column}": lambda value: ("converted", value) for column in ("bytes", "gone", "nr", "text")}
+        (event,) = BinLogStreamReader("f", program=self.stub(f"echo '{change}'"), convert={**convert, "t.text": texts.to_bytes})
+        self.assertEqual(event.after, {"bytes": ("converted", b""), "gone": None, "nr": ("converted", 0), "text": b""})
+        self.assertIs(type(event.after["text"]), bytes)
+
     def test_refused(self):
         with reader(SHOP, convert={"customer.name": int}) as events:
             with self.assertRaises(ConversionFailed) as caught:
@@ -499,6 +507,30 @@ class Errors(FolderTest):
         with self.assertRaises(ProgramFailed) as caught:
             next(events)
         self.assertEqual(caught.exception.status, -9)
+
+    def test_a_cut_line_of_a_program_that_ended_well(self):
+        """A wrapper may end with 0 though the program was killed: half a line is never all that there was."""
+        events = BinLogStreamReader("f", program=self.stub(f"echo '{LINE % '4.1@f'}'\nprintf '{{\"after\":'"))
+        self.assertEqual(next(events).token, "4.1@f")
+        with self.assertRaises(ProgramFailed) as caught:
+            next(events)
+        self.assertEqual((caught.exception.status, caught.exception.line), (70, "binlogfeed: the program's last line is cut"))
+
+    def test_what_a_wrapper_says_first(self):
+        """The error's line is the program's, which is the last one."""
+        said = "echo 'binlogfeed: proving and building the program' >&2\n"
+        cases = [
+            ("cannot open f", 4, FileFault),
+            ("out of memory", 5, OutOfMemory),
+            ("command line refused", 2, WordsRefused),
+            ("token refused: BadToken", 3, TokenRefused),
+            ("log fault at f:9: BadMagic", 1, LogFault),
+            ("the program was not built", 70, ProgramFailed),
+        ]
+        for line, status, kind in cases:
+            with self.assertRaises(kind) as caught:
+                list(BinLogStreamReader("f", program=self.stub(f"{said}echo 'binlogfeed: {line}' >&2\nexit {status}")))
+            self.assertEqual((caught.exception.line, caught.exception.status), (f"binlogfeed: {line}", status))
 
     def test_a_transaction_that_is_cut_is_not_given(self):
         lines = "".join(f"echo '{LINE % token}'\n" for token in ("4.1@f", "9.1@f", "9.2@f"))
