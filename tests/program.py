@@ -19,6 +19,7 @@ from built import (  # noqa: E402
     truth, words, wrapper,
 )  # fmt: skip
 from built.check import Check  # noqa: E402
+from least_counts import lacking  # noqa: E402
 
 TOP = Path(__file__).resolve().parent.parent
 PROGRAMS = [TOP / "crates/program/out/program", TOP / "crates/program/out/program.by-rattle"]
@@ -45,6 +46,12 @@ def given_words() -> argparse.Namespace:
     parser.add_argument("--program", type=Path, metavar="PATH", help="only this program, in place of those that rt ci built")
     parser.add_argument("--gate", action="store_true", help="a program that isn't there is a failure")
     return parser.parse_args()
+
+
+def counted(checks: list[Check]) -> Check:
+    """Beside the rows, no check of a program got lost."""
+    others = len(checks) - len(rows.all_rows())
+    return Check("there are checks", lambda _program, _folder: lacking("checks", others))
 
 
 def tasks_of(programs: list[Path], checks: list[Check], missing: list[Path]) -> list[Task]:
@@ -87,7 +94,8 @@ def main() -> int:
     given = given_words()
     missing: list[Path] = []
     programs = [given.program.absolute()] if given.program else PROGRAMS
-    tasks = tasks_of(programs, [check for part in PARTS for check in part.checks()], missing)
+    checks = [check for part in PARTS for check in part.checks()]
+    tasks = tasks_of(programs, [counted(checks), *checks], missing)
     print(rows.summary(), flush=True)
     if not given.program:
         for part in (cases, library_page):

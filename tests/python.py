@@ -2,7 +2,7 @@
 """Runs the tests of the Python package, and of what is made with it. They need Python alone, and the built program.
 
 A test that needs what isn't there is skipped, with a message. The last line is `N passed, M failed`; the exit status is 1 where
-something failed.
+something failed. A run of all tests fails where there are fewer than least_counts.txt wants.
 """
 import argparse
 import os
@@ -14,6 +14,8 @@ sys.dont_write_bytecode = True
 
 HERE = Path(__file__).resolve().parent
 sys.path[:0] = [str(HERE / "python"), str(HERE), str(HERE.parent / "python"), str(HERE.parent / "examples/replica")]
+
+from least_counts import lacking  # noqa: E402
 
 
 class Counted(unittest.TextTestResult):
@@ -38,10 +40,13 @@ def main() -> int:
     loader = unittest.TestLoader()
     loader.testNamePatterns = [f"*{given.only}*"] if given.only else None
     tests = loader.discover(str(HERE / "python"), top_level_dir=str(HERE / "python"))
+    reasons = [] if given.only else lacking("python_tests", tests.countTestCases())
     result = unittest.TextTestRunner(stream=sys.stdout, resultclass=Counted).run(tests)
     for test, reason in result.skipped:
         print(f"skipped: {test.id()}: {reason}")
-    failed = len(result.failures) + len(result.errors)
+    for reason in reasons:
+        print(f"FAILED: {reason}")
+    failed = len(result.failures) + len(result.errors) + len(reasons)
     print(f"{result.passed} passed, {failed} failed")
     return 1 if failed or not result.passed else 0
 

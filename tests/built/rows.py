@@ -6,6 +6,7 @@ from pathlib import Path
 from typing import NamedTuple
 
 from built.check import Check, Wanted, differs, run, said
+from least_counts import lacking
 
 ROWS = Path(__file__).resolve().parent.parent / "rows.jsonl"
 
@@ -56,12 +57,14 @@ def summary() -> str:
 
 
 def judge_row(row: Row, program: Path, folder: Path) -> list[str]:
-    """Runs a program over the files of a row."""
-    for name, content in row.files.items():
-        path = folder / name
+    """Runs a program over the files of a row. It leaves them, and their folder, as they were."""
+    files = {folder / name: bytes.fromhex(content) for name, content in row.files.items()}
+    for path, content in files.items():
         path.parent.mkdir(parents=True, exist_ok=True)
-        path.write_bytes(bytes.fromhex(content))
-    return differs(run(program, row.words, folder), row.wanted())
+        path.write_bytes(content)
+    reasons = differs(run(program, row.words, folder), row.wanted())
+    there = {path: path.read_bytes() for path in folder.rglob("*") if not path.is_dir()}
+    return reasons + ([] if there == files else [f"its folder has other files than before: {sorted(map(str, there))}"])
 
 
 def judge_not_built(row: Row, program: Path, folder: Path) -> list[str]:
@@ -70,9 +73,9 @@ def judge_not_built(row: Row, program: Path, folder: Path) -> list[str]:
     return differs(run(program, row.words, folder), refused)
 
 
-def judge_found(program: Path, folder: Path) -> list[str]:
-    """A file without rows tells nothing."""
-    return [] if any(not row.needs() for row in all_rows()) else [f"{ROWS} has no row"]
+def judge_found(_program: Path, _folder: Path) -> list[str]:
+    """No row got lost."""
+    return lacking("rows", sum(not row.needs() for row in all_rows()))
 
 
 def checks() -> list[Check]:

@@ -9,9 +9,13 @@ from pathlib import Path
 from built.check import SECONDS, Check, Outcome, Wanted, command, differs, run, said
 from built.logs import (
     IGNORABLE,
+    XID,
+    XID_BODY,
+    appended,
     change_lines,
     front,
     full_line,
+    full_lines,
     header,
     insert,
     many_tables,
@@ -174,6 +178,14 @@ def judge_whole(program: Path, folder: Path) -> list[str]:
     return differs(run(program, ["read", "log"], folder), Wanted(0, change_lines(MANY, "log")))
 
 
+def judge_long_fault(words: list[str], lines: Callable[[int, str], bytes], program: Path, folder: Path) -> list[str]:
+    """An event out of place behind the lines of a long log: all of them stand before its fault, and the status is the fault's."""
+    log = worked_log(MANY)
+    put(folder, ["log"], appended(log, XID, XID_BODY))
+    wanted = Wanted(1, lines(MANY, "log"), said(f"log fault at log:{len(log)}: OutOfPlace(16)"))
+    return differs(run(program, [*words, "log"], folder), wanted)
+
+
 def checks() -> list[Check]:
     """The checks of the system."""
     kinds = [(kind, count) for kind in ("transactions", "read") for count in (1, MANY)]
@@ -193,4 +205,8 @@ def checks() -> list[Check]:
         Check("the maps of wide tables", judge_wide_tables),
         Check("an event longer than the window", judge_window),
         Check("a long log", judge_whole),
+        *[
+            Check(f"a log fault of {' '.join(words)} behind many lines", partial(judge_long_fault, words, lines))
+            for words, lines in ((["transactions"], unit_lines), (["read"], change_lines), (["read", "--full"], full_lines))
+        ],
     ]

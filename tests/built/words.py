@@ -106,6 +106,14 @@ def judge_long_word(program: Path, folder: Path) -> list[str]:
     return differs(run(program, ["read", "--only-tables", names, "log"], folder), Wanted(0, wanted))
 
 
+def judge_behind_dashes(words: list[str], program: Path, folder: Path) -> list[str]:
+    """Behind the word `--` each word is a file, whatever it begins with."""
+    names = put(folder, ["-log", "--full", "--only-tables=x", "log", "--"], worked_log())
+    lines = {"transactions": unit_lines, "read": change_lines, "read --full": full_lines}[" ".join(words)]
+    wanted = b"".join(lines(1, name) for name in names)
+    return differs(run(program, [*words, "--", *names], folder), Wanted(0, wanted))
+
+
 def judge_no_text(program: Path, folder: Path) -> list[str]:
     """A word that isn't UTF-8 is refused."""
     came = run(program, ["transactions", b"binlog.\xff"], folder)
@@ -134,6 +142,10 @@ def checks() -> list[Check]:
         Check("a missing file in the twentieth place", judge_missing_behind),
         Check("a log fault in the twentieth file", judge_fault_behind),
         Check("a list of thousands of names", judge_long_word),
+        *[
+            Check(f"files behind {' '.join(words)} --", partial(judge_behind_dashes, words))
+            for words in (["transactions"], ["read"], ["read", "--full"])
+        ],
         Check("a word that is no text", judge_no_text),
         Check("hundreds of empty logs", judge_empty_files),
     ]
