@@ -15,15 +15,15 @@ from typing import NamedTuple
 sys.dont_write_bytecode = True
 
 from built import (  # noqa: E402
-    cases, collations, faults, following, full_lines, help_text, library_page, rare_paths, refusals, rows, server_logs, system, tokens,
-    truth, words, wrapper,
+    cases, collations, costs, faults, following, full_lines, help_text, library_page, rare_paths, refusals, rows, server_logs, system,
+    tokens, truth, words, wrapper,
 )  # fmt: skip
 from built.check import Check  # noqa: E402
 from least_counts import lacking  # noqa: E402
 
 TOP = Path(__file__).resolve().parent.parent
 PROGRAMS = [TOP / "crates/program/out/program", TOP / "crates/program/out/program.by-rattle"]
-PARTS = (system, rare_paths, rows, words, faults, help_text, server_logs, tokens, truth, collations, full_lines, refusals, following)
+PARTS = (system, rare_paths, rows, words, faults, help_text, server_logs, tokens, truth, collations, full_lines, refusals, following, costs)
 
 
 class Task(NamedTuple):
@@ -44,6 +44,7 @@ def given_words() -> argparse.Namespace:
     """Reads the command line."""
     parser = argparse.ArgumentParser(description=__doc__.split("\n", maxsplit=1)[0])
     parser.add_argument("--program", type=Path, metavar="PATH", help="only this program, in place of those that rt ci built")
+    parser.add_argument("--write-costs", action="store_true", help="only write costs.tsv anew, by what the program costs")
     parser.add_argument("--gate", action="store_true", help="a program that isn't there is a failure")
     return parser.parse_args()
 
@@ -92,10 +93,14 @@ def report(failures: list[Failure], passed: int) -> int:
 def main() -> int:
     """Judges the programs."""
     given = given_words()
+    if given.write_costs:
+        costs.write(given.program.absolute() if given.program else costs.PROGRAMS[0])
+        return 0
     missing: list[Path] = []
     programs = [given.program.absolute()] if given.program else PROGRAMS
     checks = [check for part in PARTS for check in part.checks()]
     tasks = tasks_of(programs, [counted(checks), *checks], missing)
+    tasks += tasks_of([given.program.absolute()] if given.program else costs.PROGRAMS, costs.counted_checks(), missing)
     print(rows.summary(), flush=True)
     if not given.program:
         for part in (cases, library_page):

@@ -1,52 +1,19 @@
 """Each request for memory refused in turn, by refuse_request.c, which is preloaded: in runs of the program, and in cases of an index."""
-import atexit
-import os
 import re
-import subprocess
-import tempfile
-from functools import cache, partial
+from functools import partial
 from pathlib import Path
-from typing import NamedTuple
 
-from built.check import SECONDS, Check, Outcome, Wanted, command, differs, said
+from built.check import Check, Wanted, differs, said
 from built.logs import put, worked_log
+from built.preloaded import run_preloaded
 
 TOP = Path(__file__).resolve().parents[2]
-SOURCE = TOP / "tests/built/refuse_request.c"
 CASES = TOP / "crates/row_cases/data"
 # Programs that carry out the cases of an index.
 PROGRAMS = [TOP / "crates/row_cases/out/row_cases", TOP / "crates/row_cases/out/row_cases.by-rattle"]
 OUT_OF_MEMORY = said("out of memory")
 # How a case tells of a refusal.
 NO_MEMORY = re.compile(rb"out of memory|OutOfMemory")
-
-
-class Run(NamedTuple):
-    """How a run came out, and how many requests for memory it made."""
-
-    outcome: Outcome
-    requests: int
-
-
-@cache
-def library() -> Path:
-    """Builds what is preloaded. It goes when all checks have ended."""
-    folder = tempfile.TemporaryDirectory(prefix="binlogfeed-")
-    atexit.register(folder.cleanup)
-    built = Path(folder.name) / "refuse_request.so"
-    subprocess.run(["cc", "-O1", "-shared", "-fPIC", "-o", built, SOURCE], check=True)
-    return built
-
-
-def run_refused(program: Path, words: list[str], folder: Path, refused: int = 0, text: str = "") -> Run:
-    """Runs a program with a text as its input. The request of that number, from 1, is refused."""
-    with tempfile.NamedTemporaryFile(prefix="requests-") as requests:
-        environment = {**os.environ, "LD_PRELOAD": str(library()), "REFUSED_REQUEST": str(refused), "REQUESTS": requests.name}
-        ended = subprocess.run(
-            command(words), executable=program, cwd=folder, input=text.encode(), capture_output=True, timeout=SECONDS, check=False,
-            env=environment,
-        )  # fmt: skip
-        return Run(Outcome(ended.returncode, ended.stdout, ended.stderr), int(Path(requests.name).read_text() or 0))
 
 
 def last_token(lines: bytes) -> str:
@@ -60,12 +27,12 @@ def judge_words(words: list[str], goes_on: bool, program: Path, folder: Path) ->
     A growth that is refused is asked for once more, so a few refusals leave the run as it is.
     """
     put(folder, ["log"], worked_log(3))
-    whole, requests = run_refused(program, words, folder)
+    whole, (requests, *_) = run_preloaded(program, words, folder)
     if whole.status != 0:
         return [f"status {whole.status}, where none of {requests} is refused"]
     ended = 0
     for refused in range(1, requests + 1):
-        came = run_refused(program, words, folder, refused).outcome
+        came = run_preloaded(program, words, folder, refused).outcome
         if came == whole:
             continue
         ended += 1
@@ -73,7 +40,7 @@ def judge_words(words: list[str], goes_on: bool, program: Path, folder: Path) ->
         if not whole.stdout.startswith(came.stdout) or came.stdout[-1:] not in (b"", b"\n"):
             reasons.append("its lines are no beginning")
         elif goes_on and came.stdout:
-            rest = run_refused(program, [words[0], "--from", last_token(came.stdout), *words[1:]], folder).outcome
+            rest = run_preloaded(program, [words[0], "--from", last_token(came.stdout), *words[1:]], folder).outcome
             reasons += differs(rest, Wanted(0, whole.stdout[len(came.stdout) :]))
         if reasons:
             return [f"request {refused} of {requests}", *reasons]
@@ -83,12 +50,12 @@ def judge_words(words: list[str], goes_on: bool, program: Path, folder: Path) ->
 def judge_index(program: Path, _folder: Path) -> list[str]:
     """A refused request leaves an index as it was, and a feed where it was: what is done once more comes out. Or the cases say that there
     was no memory."""
-    before = run_refused(program, [], CASES, text="from pieces.cases\n").requests
-    cases = "from pieces.cases\nfrom histories.cases\n"
-    whole, requests = run_refused(program, [], CASES, text=cases)
+    before = run_preloaded(program, [], CASES, text=b"from pieces.cases\n").memory.requests
+    cases = b"from pieces.cases\nfrom histories.cases\n"
+    whole, (requests, *_) = run_preloaded(program, [], CASES, text=cases)
     done_again = told = 0
     for refused in range(before + 1, requests + 1):
-        came = run_refused(program, [], CASES, refused, cases).outcome
+        came = run_preloaded(program, [], CASES, refused, cases).outcome
         if came == whole:
             done_again += 1
         elif NO_MEMORY.search(came.stdout + came.stderr):
