@@ -1,9 +1,12 @@
 """The example that reads file by file on many workers: it writes the bytes that one `binlogfeed read` writes."""
+import importlib.util
+import io
 import os
 import shutil
 import subprocess
 import sys
 import unittest
+from pathlib import Path
 
 from support import BANK, PROGRAM, SHOP, TOP, FolderTest
 
@@ -32,6 +35,47 @@ class Words(unittest.TestCase):
             ended = subprocess.run([PYTHON or sys.executable, READ, "logs", "--", *words], capture_output=True, check=False)
             self.assertEqual((ended.returncode, ended.stdout), (2, b""))
             self.assertIn(b"--from isn't taken", ended.stderr)
+
+
+def example():
+    """The example as a module. It looks for dask.distributed only where it begins workers."""
+    spec = importlib.util.spec_from_file_location("read_on_many_machines", READ)
+    module = importlib.util.module_from_spec(spec)
+    spec.loader.exec_module(module)
+    return module
+
+
+class Pieces(FolderTest):
+    """What single readings come to, without workers."""
+
+    def joined(self, logs):
+        """The status and the lines of these logs, read one by one. What is written is gone from the folder."""
+        read, out = example(), io.BytesIO()
+        following = [log.name for log in logs[1:]] + [None]
+        pieces = [read.Piece(*read.read_alone(str(log), name, PROGRAM, [], self.folder)) for log, name in zip(logs, following)]
+        self.assertEqual(len(list(self.folder.iterdir())), len(logs))
+        stopped = read.join(iter(pieces), out)
+        behind = pieces[pieces.index(stopped) + 1 :] if stopped else []
+        self.assertEqual(sorted(self.folder.iterdir()), sorted(Path(piece.lines) for piece in behind))
+        return stopped.status if stopped else 0, out.getvalue()
+
+    def test_joined(self):
+        """Each file has an empty one of the next name behind it: logs that are missing between two are a fault, as in one run."""
+        for logs in (BANK, [BANK[0], *BANK[3:]]):
+            wanted = subprocess.run([PROGRAM, "read", *logs], capture_output=True, check=False)
+            self.assertEqual(wanted.returncode, 0 if logs is BANK else 1)
+            with self.subTest(logs=len(logs)):
+                self.assertEqual(self.joined(logs), (wanted.returncode, wanted.stdout))
+            for path in self.folder.iterdir():
+                path.unlink()
+
+    def test_joined_up_to_a_fault(self):
+        read, out = example(), io.BytesIO()
+        files = [self.put(name, f"{name}\n".encode()) for name in ("first", "second", "third")]
+        pieces = [read.Piece(str(file), status, b"") for file, status in zip(files, (0, 1, 0))]
+        self.assertIs(read.join(iter(pieces), out), pieces[1])
+        self.assertEqual(out.getvalue(), b"first\nsecond\n")
+        self.assertEqual([file.exists() for file in files], [False, False, True])
 
 
 @unittest.skipUnless(PYTHON, "there is no dask.distributed (apt-get install python3-distributed)")

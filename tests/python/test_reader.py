@@ -3,6 +3,8 @@ import json
 import os
 import random
 import struct
+import subprocess
+import sys
 import threading
 import time
 import tracemalloc
@@ -27,7 +29,7 @@ from binlogfeed import (
 )
 from built import logs
 from built.growing import Server
-from support import BANK, PROGRAM, SHOP, TOP, FolderTest, bank_rows
+from support import BANK, PROGRAM, SECONDS, SHOP, TOP, FolderTest, bank_rows
 
 SERVER = "3e11fa47-71ca-11e1-9e33-c80aa9429562"
 # A line of `read`, but for its token.
@@ -544,6 +546,16 @@ class Errors(FolderTest):
     def test_missing_program(self):
         with self.assertRaises(ProgramMissing):
             list(BinLogStreamReader(SHOP, program=self.folder / "none"))
+
+    def test_the_input_is_not_taken(self):
+        """What stands at this process's standard input is left to it."""
+        program = self.stub(f"cat > {self.folder}/taken")
+        code = "import binlogfeed, sys; print(list(binlogfeed.BinLogStreamReader('f', program=sys.argv[1])), sys.stdin.read())"
+        environment = {**os.environ, "PYTHONPATH": str(TOP / "python"), "PYTHONDONTWRITEBYTECODE": "1"}
+        words = [sys.executable, "-c", code, program]
+        ended = subprocess.run(words, input=b"mine", env=environment, capture_output=True, timeout=SECONDS, check=False)
+        self.assertEqual((ended.stdout, ended.stderr), (b"[] mine\n", b""))
+        self.assertEqual((self.folder / "taken").read_bytes(), b"")
 
     def test_another_status(self):
         program = self.stub("echo 'binlogfeed: the program was not built' >&2\nexit 70")
