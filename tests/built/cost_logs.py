@@ -1,5 +1,6 @@
 """Logs whose reading is counted: many small changes, many tables, and transactions of many rows."""
 import struct
+from collections.abc import Iterator
 from itertools import cycle, islice
 from typing import NamedTuple
 
@@ -14,7 +15,7 @@ VALUES = (
     b"new", b"paid", b"shipped", b"Anna Larsen", b"12 Harbour Street", b"anna.larsen@example.org",
     b"The parcel was left with the neighbours at number fourteen", b"left at the door", b"",
 )  # fmt: skip
-# So many transactions have each of these rows events, of so many rows.
+# Each transaction of everyday has so many rows events, of so many rows each.
 EVENTS, ROWS = 2, 4
 
 
@@ -40,7 +41,7 @@ class Table(NamedTuple):
             + field(FIELD_SIGNS, b"\0") + field(FIELD_CHARSET, UTF8MB4) + field(FIELD_NAMES, names) + field(FIELD_KEY, b"\0")
         )  # fmt: skip
 
-    def rows(self, first: int, count: int, values: cycle) -> bytes:
+    def rows(self, first: int, count: int, values: Iterator[bytes]) -> bytes:
         """The body of an event that inserts so many rows, with ids from the first one on, and the values that come next."""
         columns = 1 + len(self.texts)
         bits = (columns + 7) // 8
