@@ -9,6 +9,7 @@ pub mod Files
 pub mod Changes
 pub mod Tokens
 pub mod Continuations
+pub mod FileLaws
 pub mod Following
 pub mod Frames
 pub mod Sources
