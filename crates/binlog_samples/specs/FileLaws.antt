@@ -78,9 +78,15 @@ ResumesGrown = FeedsResume
     → (judge grown_file (token_of member) ≡ Fits)
     × (in_files grown_file (before ++ member ∷ []) ++ rest grown_file every (token_of member) ≡ feed grown_file every)
 
--- one file alone, whatever it holds
+-- one file alone, and two, whatever they hold
 abbrev pub OneApart : Type 0
 OneApart =
     (FilesAreApart → (file : LogFile) (passes : RowChange → Bool)
     → record { changes = feed (file ∷ []) passes; end = end_from 3 (file ∷ []) } ≡ changes_read_apart passes 3 (file ∷ []))
     × (UnitsAreApart → (file : LogFile) → all_units (file ∷ []) ≡ units_read_apart 0 (file ∷ []))
+
+abbrev pub TwoApart : Type 0
+TwoApart =
+    (FilesAreApart → (file other : LogFile) (passes : RowChange → Bool)
+    → record { changes = feed (file ∷ other ∷ []) passes; end = end_from 3 (file ∷ other ∷ []) } ≡ changes_read_apart passes 3 (file ∷ other ∷ []))
+    × (UnitsAreApart → (file other : LogFile) → all_units (file ∷ other ∷ []) ≡ units_read_apart 0 (file ∷ other ∷ []))

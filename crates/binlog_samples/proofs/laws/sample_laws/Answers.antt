@@ -46,3 +46,6 @@ returns-clause-resumes_grown c law before after member e there =
 
 pub returns-clause-one_apart : goal.returns-clause-one_apart
 returns-clause-one_apart c = (λ law file passes. law 3 (file ∷ []) passes, λ law file. law (file ∷ []))
+
+pub returns-clause-two_apart : goal.returns-clause-two_apart
+returns-clause-two_apart c = (λ law file other passes. law 3 (file ∷ other ∷ []) passes, λ law file other. law (file ∷ other ∷ []))
