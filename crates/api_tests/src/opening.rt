@@ -3,7 +3,9 @@ use crate::folder::{new_folder, put_zeros};
 use crate::reading::{length, open, opened};
 use crate::watched::{Watch, WatchedFiles};
 use binlog_frame::OpenFault;
+use std::alloc::Global;
 use std::fs;
+use std::rt::Files;
 use std::test::Fail;
 
 #[test]
@@ -38,6 +40,26 @@ fn refusal(
     Ok((refusal, watch.opened.get()))
 }
 
+/// The length of the file of a path.
+fn opened_length<R: Files + Clone + Drop>(
+    files: &R,
+    alloc: Global,
+    path: &str,
+) -> Result<u64, Fail> {
+    Ok(length(&opened(files, alloc, path)?))
+}
+
+/// The same, where another file may be opened in its place.
+fn length_of(rt: &HostRuntime, path: &str, instead: Option<&str>) -> Result<u64, Fail> {
+    let watch = Watch::new();
+    let files = WatchedFiles {
+        rt,
+        watch: &watch,
+        instead,
+    };
+    opened_length(&files, rt.alloc(), path)
+}
+
 #[test]
 fn looks_at_what_a_path_names_before_it_opens_it(rt: HostRuntime) -> Result<(), Fail> {
     let refused = Some(OpenFault::CannotOpen(0));
@@ -62,13 +84,7 @@ fn has_the_length_of_what_was_opened(rt: HostRuntime) -> Result<(), Fail> {
     let folder = new_folder(&rt, "lengths")?;
     let path = put_zeros(&rt, &folder, "log", 100)?;
     let other = put_zeros(&rt, &folder, "other", 60)?;
-    let watch = Watch::new();
-    let files = WatchedFiles {
-        rt: &rt,
-        watch: &watch,
-        instead: Some(&other),
-    };
-    assert_eq!(rt; length(&opened(&files, rt.alloc(), &path)?), 60);
+    assert_eq!(rt; length_of(&rt, &path, Some(&other))?, 60);
     fs::remove_dir_all(&rt, &folder)?;
     Ok(())
 }
