@@ -8,9 +8,10 @@ use std::fs;
 use std::rt::Files;
 use std::test::Fail;
 
-/// A place that one read of the system reaches from the file's beginning, and one that none does.
+/// The file's beginning.
 const NEAR: u64 = 0;
 
+/// A place that no read of the system reaches from there.
 const FAR: u64 = 3 << 20;
 
 /// The bytes that stand at these places.
