@@ -7,7 +7,7 @@ from pathlib import Path
 from typing import NamedTuple
 
 from built.check import Check, Wanted, differs, run
-from built.logs import TABLE_MAP, WRITE_ROWS, front, packed, put, transaction
+from built.logs import TABLE_MAP, WRITE_ROWS, field, front, packed, put, transaction
 
 COLLATIONS = Path(__file__).resolve().parents[1] / "collations.tsv"
 
@@ -53,11 +53,6 @@ def columns() -> list[Column]:
     lines = [line.split("\t") for line in COLLATIONS.read_text(encoding="utf-8").splitlines()]
     known = [Column(name, int(number), charset) for number, charset, name in lines]
     return known + [Column(f"no collation {number}", number, None) for number in UNKNOWN]
-
-
-def field(kind: int, value: bytes) -> bytes:
-    """An optional field of a table map."""
-    return bytes([kind]) + packed(len(value)) + value
 
 
 def each() -> bytes:

@@ -4,7 +4,7 @@ from collections.abc import Iterator
 from itertools import cycle, islice
 from typing import NamedTuple
 
-from built.logs import TABLE_MAP, WRITE_ROWS, front, packed, transaction
+from built.logs import TABLE_MAP, WRITE_ROWS, field, front, packed, transaction
 
 INT, VARCHAR, VARCHAR_LENGTH = 3, 15, 80
 FIELD_SIGNS, FIELD_CHARSET, FIELD_NAMES, FIELD_KEY = 1, 2, 4, 8
@@ -50,11 +50,6 @@ class Table(NamedTuple):
             texts = (packed(len(value)) + value for value in islice(values, len(self.texts)))
             body += bytes(bits) + struct.pack("<I", number) + b"".join(texts)
         return body
-
-
-def field(kind: int, value: bytes) -> bytes:
-    """An optional field of a table map."""
-    return bytes([kind]) + packed(len(value)) + value
 
 
 class Log:

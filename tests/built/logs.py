@@ -148,6 +148,11 @@ def packed(number: int) -> bytes:
     return bytes([first]) + number.to_bytes(width, "little")
 
 
+def field(kind: int, value: bytes) -> bytes:
+    """An optional field of a table map."""
+    return bytes([kind]) + packed(len(value)) + value
+
+
 def wide_tables(count: int) -> bytes:
     """A log of so many transactions, each with the map of a table of its own, which has 4,000 columns, and with no row."""
     columns, bits = 4_000, bytes(500)

@@ -6,7 +6,7 @@ from pathlib import Path
 from typing import NamedTuple
 
 from built.check import Check, Wanted, differs, run
-from built.logs import SOURCE_ID, TABLE_MAP, TIME, WRITE_ROWS, front, packed, put, transaction
+from built.logs import SOURCE_ID, TABLE_MAP, TIME, WRITE_ROWS, field, front, packed, put, transaction
 
 PLACE = len(front())
 # Types of columns, by the number that a table map has.
@@ -16,7 +16,7 @@ ENUM = 0xF7
 SIGNEDNESS, COLUMN_NAMES, ENUM_VALUES, KEY, KEY_WITH_PREFIX = 1, 4, 6, 8, 9
 # A server's greatest number of columns in a table, and of columns in a key.
 MOST_COLUMNS, MOST_KEY_COLUMNS = 4_096, 16
-KEBIBYTE, MEBIBYTE = 1 << 10, 1 << 20
+MEBIBYTE = 1 << 20
 
 
 class Column(NamedTuple):
@@ -31,11 +31,6 @@ def bits(numbers: set[int], count: int) -> bytes:
     """A bitmap of so many bits, those of these numbers set, and those behind the last one."""
     size = (count + 7) // 8
     return sum(1 << number for number in {*numbers, *range(count, 8 * size)}).to_bytes(size, "little")
-
-
-def field(kind: int, value: bytes) -> bytes:
-    """A field of a table map."""
-    return bytes([kind]) + packed(len(value)) + value
 
 
 def table_map(columns: list[Column], *fields: bytes, table_id: int = 100, table: str = "t") -> bytes:
