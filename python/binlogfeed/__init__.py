@@ -8,7 +8,17 @@ The program `binlogfeed` reads the logs. This package starts it, and gives its l
         for event in reader:
             print(event.table, event.rows[0]["values"])
 """
-from binlogfeed.events import DeleteRowsEvent, RowsEvent, Transaction, UpdateRowsEvent, WriteRowsEvent
+from binlogfeed.events import (
+    DeleteRowsEvent,
+    Event,
+    GtidEvent,
+    RotateEvent,
+    RowsEvent,
+    Transaction,
+    UpdateRowsEvent,
+    WriteRowsEvent,
+    XidEvent,
+)
 from binlogfeed.faults import (
     BinlogfeedError,
     ConversionFailed,
@@ -25,13 +35,17 @@ from binlogfeed.faults import (
 from binlogfeed.logs import Log, listed
 from binlogfeed.place import Place
 from binlogfeed.reader import BinLogStreamReader
+from binlogfeed.values import Column
 
 __all__ = [
     "BinLogStreamReader",
     "BinlogfeedError",
+    "Column",
     "ConversionFailed",
     "DeleteRowsEvent",
+    "Event",
     "FileFault",
+    "GtidEvent",
     "Log",
     "LogFault",
     "LogLost",
@@ -40,11 +54,13 @@ __all__ = [
     "Place",
     "ProgramFailed",
     "ProgramMissing",
+    "RotateEvent",
     "RowsEvent",
     "TokenRefused",
     "Transaction",
     "UpdateRowsEvent",
     "WordsRefused",
     "WriteRowsEvent",
+    "XidEvent",
     "listed",
 ]

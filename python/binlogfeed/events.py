@@ -1,94 +1,260 @@
 """The events that a reader gives, and transactions of them."""
 from __future__ import annotations
 
+import datetime
+import sys
 from collections.abc import Iterator
-from typing import Any, NamedTuple, Optional
+from typing import Any, NamedTuple, Optional, TextIO, Union
+
+from binlogfeed.lines import Change
+from binlogfeed.tokens import are_of_one_transaction, token_parts
+from binlogfeed.values import Column
 
 Values = dict[str, Any]
 
 
-class TokenParts(NamedTuple):
-    """What a token is made of."""
+class Packet(NamedTuple):
+    """Where an event stands: in `log_file`, in the transaction that begins at `log_pos`."""
 
-    file: str
-    position: int
-    count: int
-
-
-def token_parts(token: str) -> TokenParts:
-    """The parts of a token that a line has."""
-    place, _, file = token.partition("@")
-    position, _, count = place.partition(".")
-    return TokenParts(file, int(position), int(count))
+    log_file: str
+    log_pos: int
 
 
-class RowsEvent:
-    """A change of one row, of a committed transaction."""
+class Event:
+    """Something of a committed transaction."""
 
-    __slots__ = ("schema", "table", "timestamp", "gtid", "token", "before", "after")
+    __slots__ = ("timestamp", "gtid", "token")
 
-    kind = ""
+    # The server's number of the event's type.
+    event_type = 0
 
-    def __init__(self, change: dict[str, Any]) -> None:
-        """The event of a line of `binlogfeed read`."""
-        self.schema: str = change["schema"]
-        self.table: str = change["table"]
+    def __init__(self, timestamp: int, gtid: Optional[str], token: str) -> None:
+        """An event of a transaction."""
         # The time in the log, in seconds since 1970.
-        self.timestamp: int = change["timestamp"]
-        self.gtid: Optional[str] = change["gtid"]
-        # The place of the change: a reader with `resume=token` goes on behind it.
-        self.token: str = change["token"]
-        # The row as it was and as it is then: an insert has none before, a delete none after.
-        self.before: Optional[Values] = change["before"]
-        self.after: Optional[Values] = change["after"]
+        self.timestamp = timestamp
+        self.gtid = gtid
+        # The place: a reader with `resume=token` goes on behind it.
+        self.token = token
 
     @property
-    def rows(self) -> list[dict[str, Any]]:
-        """The row, as BinLogStreamReader's users know it: a list of one."""
+    def packet(self) -> Packet:
+        """Where the event stands. A reader from there gives its whole transaction again; only a token goes on within one."""
+        parts = token_parts(self.token)
+        return Packet(parts.file, parts.position)
+
+    def dump(self, out: TextIO | None = None) -> None:
+        """Prints the event for a person."""
+        date = datetime.datetime.fromtimestamp(self.timestamp, datetime.timezone.utc).isoformat()
+        lines = [f"=== {type(self).__name__} ===", f"Date: {date}", f"Log position: {self.packet.log_pos}", *self._told(), ""]
+        print("\n".join(lines), file=out or sys.stdout)
+
+    def _told(self) -> list[str]:
+        """What `dump` prints of this kind of event."""
+        return [f"GTID: {self.gtid}"]
+
+    def __repr__(self) -> str:
+        """The event's class and token."""
+        return f"<{type(self).__name__} {self.token}>"
+
+
+class RowsEvent(Event):
+    """Changes of one or more rows of a table, of one kind and of one transaction, which stand together."""
+
+    __slots__ = ("rows", "_form")
+
+    # As the lines have it, and what `dump` calls the rows.
+    kind = ""
+    _rows_are = ""
+
+    def __init__(self, change: Change) -> None:
+        """The event of a change."""
+        self.timestamp = change.timestamp
+        self.gtid = change.gtid
+        self.token = change.token
+        self._form = change.form
+        self.rows: list[dict[str, Any]] = [self._row(change)]
+
+    def _row(self, change: Change) -> dict[str, Any]:
+        """The row of a change."""
         raise NotImplementedError
+
+    def takes(self, change: Change) -> bool:
+        """Takes a change that stands behind those of the event, where it is one more row of the same. Answers whether it is."""
+        if (
+            change.form is not self._form
+            or change.timestamp != self.timestamp
+            or len(self.rows) >= MOST_ROWS
+            or not are_of_one_transaction(change.token, self.token)
+        ):
+            return False
+        self.rows.append(self._row(change))
+        self.token = change.token
+        return True
+
+    @property
+    def schema(self) -> str:
+        """The table's schema."""
+        return self._form.schema
+
+    @property
+    def table(self) -> str:
+        """The table's name."""
+        return self._form.table
+
+    @property
+    def columns(self) -> tuple[Column, ...]:
+        """The table's columns, in the order of their names' bytes, each with its name and type."""
+        return self._form.columns
+
+    @property
+    def key(self) -> tuple[str, ...]:
+        """The names of the primary key's columns, in the order of the key."""
+        return self._form.key
+
+    @property
+    def primary_key(self) -> Union[str, tuple[str, ...]]:
+        """The key as python-mysql-replication has it: a name, a tuple of several, or `""` where there is none."""
+        key = self._form.key
+        return key if len(key) > 1 else "".join(key)
+
+    @property
+    def before(self) -> Values | None:
+        """The only row as it was; None of an insert."""
+        return self._only_row().get("before_values")
+
+    @property
+    def after(self) -> Values | None:
+        """The only row as it is then; None of a delete."""
+        return self._only_row().get("after_values")
+
+    def _only_row(self) -> dict[str, Any]:
+        """The row of an event that has one."""
+        if len(self.rows) != 1:
+            raise ValueError(f"the event has {len(self.rows)} rows: take them from `rows`, or have the reader give one by one (`together=False`)")
+        return self.rows[0]
+
+    def _told(self) -> list[str]:
+        """The table, and each row's values."""
+        told = [f"Table: {self.schema}.{self.table}", f"Changed rows: {len(self.rows)}", f"{self._rows_are}:"]
+        for row in self.rows:
+            told += ["--", *self._told_row(row)]
+        return told
+
+    def _told_row(self, row: dict[str, Any]) -> list[str]:
+        """A row's values."""
+        return [f"* {name} : {value}" for name, value in row["values"].items()]
 
     def __repr__(self) -> str:
         """The event's class, table and token."""
         return f"<{type(self).__name__} {self.schema}.{self.table} {self.token}>"
 
 
+# An event has so many rows at most. A server's rows event ends behind 8 KiB (`binlog_row_event_max_size`).
+MOST_ROWS = 1000
+
+
 class WriteRowsEvent(RowsEvent):
-    """An insert. Its row has `values`."""
+    """Inserts. Each row has `values`."""
 
     __slots__ = ()
     kind = "insert"
+    event_type = 30
+    _rows_are = "Values"
+
+    def _row(self, change: Change) -> dict[str, Any]:
+        """The new row."""
+        return {"values": change.after}
 
     @property
-    def rows(self) -> list[dict[str, Any]]:
-        """The new row."""
-        return [{"values": self.after}]
+    def before(self) -> None:
+        """Nothing was there."""
+        self._only_row()
+
+    @property
+    def after(self) -> Values:
+        """The only row."""
+        values: Values = self._only_row()["values"]
+        return values
 
 
 class UpdateRowsEvent(RowsEvent):
-    """An update. Its row has `before_values` and `after_values`."""
+    """Updates. Each row has `before_values` and `after_values`."""
 
     __slots__ = ()
     kind = "update"
+    event_type = 31
+    _rows_are = "Changed values"
 
-    @property
-    def rows(self) -> list[dict[str, Any]]:
+    def _row(self, change: Change) -> dict[str, Any]:
         """The row as it was and as it is then."""
-        return [{"before_values": self.before, "after_values": self.after}]
+        return {"before_values": change.before, "after_values": change.after}
+
+    def _told_row(self, row: dict[str, Any]) -> list[str]:
+        """A row's values as they were and as they are then."""
+        before, after = row["before_values"], row["after_values"]
+        return [f"* {name} : {before.get(name)} => {after.get(name)}" for name in {**before, **after}]
 
 
 class DeleteRowsEvent(RowsEvent):
-    """A delete. Its row has `values`."""
+    """Deletes. Each row has `values`."""
 
     __slots__ = ()
     kind = "delete"
+    event_type = 32
+    _rows_are = "Values"
+
+    def _row(self, change: Change) -> dict[str, Any]:
+        """The row that is gone."""
+        return {"values": change.before}
 
     @property
-    def rows(self) -> list[dict[str, Any]]:
-        """The row that is gone."""
-        return [{"values": self.before}]
+    def before(self) -> Values:
+        """The only row."""
+        values: Values = self._only_row()["values"]
+        return values
+
+    @property
+    def after(self) -> None:
+        """Nothing is there."""
+        self._only_row()
 
 
-KINDS: dict[str, type[RowsEvent]] = {kind.kind: kind for kind in (WriteRowsEvent, UpdateRowsEvent, DeleteRowsEvent)}
+class GtidEvent(Event):
+    """The GTID of a transaction, before its changes that pass."""
+
+    __slots__ = ()
+    event_type = 33
+
+
+class XidEvent(Event):
+    """The commit of a transaction, behind its changes that pass. Its number isn't told."""
+
+    __slots__ = ()
+    event_type = 16
+
+
+class RotateEvent(Event):
+    """The file of the changes that follow: before the first change, and wherever it is another file."""
+
+    __slots__ = ()
+    event_type = 4
+
+    @property
+    def next_binlog(self) -> str:
+        """The file's name."""
+        return token_parts(self.token).file
+
+    @property
+    def position(self) -> int:
+        """Where the file's events begin."""
+        return 4
+
+    def _told(self) -> list[str]:
+        """The file, and where its events begin."""
+        return [f"Position: {self.position}", f"Next binlog file: {self.next_binlog}"]
+
+
+ROWS_EVENTS: dict[str, type[RowsEvent]] = {kind.kind: kind for kind in (WriteRowsEvent, UpdateRowsEvent, DeleteRowsEvent)}
 
 
 class Transaction:
@@ -113,9 +279,9 @@ class Transaction:
         return iter(self.events)
 
     def __len__(self) -> int:
-        """How many changes."""
+        """How many events."""
         return len(self.events)
 
     def __repr__(self) -> str:
-        """The GTID, and how many changes."""
-        return f"<Transaction {self.gtid}, {len(self)} changes, {self.token}>"
+        """The GTID, and how many events."""
+        return f"<Transaction {self.gtid}, {len(self)} events, {self.token}>"

@@ -10,7 +10,7 @@ from collections.abc import Iterable, Sequence
 from pathlib import Path
 from typing import BinaryIO, TextIO
 
-from binlogfeed.events import token_parts
+from binlogfeed.tokens import token_parts
 from binlogfeed.faults import BinlogfeedError, FileFault
 from binlogfeed.logs import is_pattern, listed
 from binlogfeed.place import Place

@@ -44,6 +44,12 @@ def is_pattern(place: str | os.PathLike[str]) -> bool:
     return glob.has_magic(str(place)) and not Path(place).exists()
 
 
+def is_place_of_logs(place: str | os.PathLike[str], may_come: bool) -> bool:
+    """Whether a path is where a server's logs are, and no log itself. Where logs may still come, so may an index."""
+    path = Path(place)
+    return path.is_dir() or is_pattern(place) or path.suffix == ".index" or (may_come and not is_log(place))
+
+
 def is_log(place: str | os.PathLike[str]) -> bool:
     """Whether a place is a log itself: by its name, or by what it begins with."""
     path = Path(place)

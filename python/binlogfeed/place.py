@@ -7,7 +7,7 @@ from dataclasses import asdict, dataclass, replace
 from pathlib import Path
 from typing import Optional
 
-from binlogfeed.events import token_parts
+from binlogfeed.tokens import token_parts
 from binlogfeed.faults import BinlogfeedError, LogsGone
 from binlogfeed.logs import Log, beginning, check_without_gap
 

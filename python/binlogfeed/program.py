@@ -31,6 +31,32 @@ class Program:
         except OSError as error:
             self._said.close()
             raise ProgramMissing(f"binlogfeed: the program can't be started: {error}") from error
+        assert self._process.stdout is not None
+        self._output = self._process.stdout
+        # Where the system doesn't know it, or refuses it, the pipe is as it was.
+        with contextlib.suppress(AttributeError, OSError):
+            fcntl.fcntl(self._output, fcntl.F_SETPIPE_SZ, PIPE)
+
+    def _blocks(self) -> Generator[bytes, None, bytes]:
+        """What the program writes, in blocks of whole lines. Answers what it has left of a line when it ends, or is ended."""
+        cut: list[bytes] = []
+        while True:
+            block = self._read()
+            if not block:
+                return b"".join(cut)
+            whole = block.rfind(b"\n") + 1
+            if whole:
+                yield b"".join((*cut, memoryview(block)[:whole]))
+                cut = [block[whole:]]
+            else:
+                cut.append(block)
+
+    def _read(self) -> bytes:
+        """What the program wrote by now; nothing where it ended."""
+        try:
+            return self._output.read1(BUFFER)
+        except ValueError:  # `end` closed it meanwhile
+            return b""
 
     def _outcome(self) -> tuple[int, str] | None:
         """The status that the program ended with, and what it said on standard error; None where `end` ended it."""
@@ -67,22 +93,9 @@ class Run(Program):
         """Starts the program."""
         super().__init__(command, subprocess.DEVNULL)
 
-    def lines(self) -> Iterator[bytes]:
-        """Each line with its line feed, then the error where the program ended with one. After `end` there are no more."""
-        output = self._process.stdout
-        assert output is not None
-        while not self._ended:
-            try:
-                line = output.readline()
-            except ValueError:  # `end` closed it meanwhile
-                return
-            if not line.endswith(b"\n"):
-                self._judge(line)
-                return
-            yield line
-
-    def _judge(self, rest: bytes) -> None:
-        """Raises the error that the program ended with."""
+    def blocks(self) -> Iterator[bytes]:
+        """The lines in blocks of whole ones, then the error where the program ended with one. After `end` there are no more."""
+        rest = yield from self._blocks()
         outcome = self._outcome()
         if outcome is None:
             return
@@ -99,11 +112,6 @@ class LookingRun(Program):
     def __init__(self, command: Sequence[str | os.PathLike[str]]) -> None:
         """Starts the program."""
         super().__init__(command, subprocess.PIPE)
-        output = self._process.stdout
-        assert output is not None
-        # Where the system doesn't know it, or refuses it, the pipe is as it was.
-        with contextlib.suppress(AttributeError, OSError):
-            fcntl.fcntl(output, fcntl.F_SETPIPE_SZ, PIPE)
 
     def look(self, paths: Sequence[Path]) -> Generator[bytes, None, bool]:
         """The lines that are new in these files, in blocks of whole lines. Without a path the files are those of the look before.
@@ -111,18 +119,7 @@ class LookingRun(Program):
         Then the error where the program ended with one. Answers whether the look came to its end: after `end` it didn't.
         """
         self._ask(paths)
-        cut: list[bytes] = []
-        while True:
-            block = self._read()
-            if not block:
-                self._judge()
-                return False
-            whole = block.rfind(b"\n") + 1
-            if not whole:
-                cut.append(block)
-                continue
-            lines = b"".join((*cut, memoryview(block)[:whole]))
-            cut = [block[whole:]]
+        for lines in self._blocks():
             # No line is empty but the one that ends a look, and nothing follows that one until the program is asked again.
             ended = lines == b"\n" or lines.endswith(b"\n\n")
             if ended:
@@ -131,6 +128,8 @@ class LookingRun(Program):
                 yield lines
             if ended:
                 return True
+        self._judge()
+        return False
 
     def _judge(self) -> None:
         """Raises the error that the program ended with. It had no reason to end while it is asked."""
@@ -153,12 +152,3 @@ class LookingRun(Program):
         except (BrokenPipeError, ValueError):
             # The program ended, which the reading tells; or `end` closed the pipe.
             pass
-
-    def _read(self) -> bytes:
-        """What the program wrote by now; nothing where it ended."""
-        output = self._process.stdout
-        assert output is not None
-        try:
-            return output.read1(BUFFER)
-        except ValueError:  # `end` closed it meanwhile
-            return b""

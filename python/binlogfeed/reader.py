@@ -1,8 +1,6 @@
 """The interface that users of python-mysql-replication know, over files on disk."""
 from __future__ import annotations
 
-import base64
-import json
 import os
 import pathlib
 import threading
@@ -11,94 +9,129 @@ from collections.abc import Callable, Iterable, Iterator, Mapping
 from types import TracebackType
 from typing import Any, Optional, Union
 
-from binlogfeed.events import KINDS, RowsEvent, Transaction, Values, token_parts
-from binlogfeed.faults import ConversionFailed, LogFault, TokenRefused, WordsRefused
-from binlogfeed.logs import is_log
+from binlogfeed.arguments import asked_events, refuse_others, words
+from binlogfeed.events import ROWS_EVENTS, Event, GtidEvent, RotateEvent, RowsEvent, Transaction, XidEvent
+from binlogfeed.faults import BinlogfeedError, LogFault, TokenRefused, WordsRefused
+from binlogfeed.lines import Change, reader_of_lines
+from binlogfeed.logs import is_place_of_logs
 from binlogfeed.place import Place
 from binlogfeed.program import Run
+from binlogfeed.tokens import are_of_one_transaction, beginning, token_parts
+from binlogfeed.values import OnBadValue, Style
 from binlogfeed.watch import Watch
 
 Path = Union[str, "os.PathLike[str]"]
 Converter = Callable[[Any], Any]
+# A log's first event stands there, so a place there or before it is the log's beginning.
+FIRST_EVENT = 4
 
 
 class BinLogStreamReader:
     """Gives the row changes of committed transactions in log files, in log order, each once.
 
-    The arguments but these are those of python-mysql-replication, with their meaning:
+    The arguments but these are those of python-mysql-replication, with their meaning; docs/FROM_PYTHON_MYSQL_REPLICATION.md
+    has them one by one:
 
-    - `files`: the log files, in the order in which the server wrote them. Their tables need
-      `binlog_row_metadata=FULL`.
+    - `files`: the log files, in the order in which the server wrote them; or a server's logs, by their index, the folder that
+      has one, or a pattern. The tables need `binlog_row_metadata=FULL`.
     - `resume`: the token of the last event that was taken. The reader gives those behind it.
-    - `convert`: what makes another value of a column's, by `table.column` or `schema.table.column`. NULL isn't converted.
+    - `together`: whether rows that stand together come in one event; else each row is an event.
+    - `convert`: what makes another value of a column's, by `table.column` or `schema.table.column`. It is given the value as a
+      full line has it, or bytes. NULL isn't converted.
+    - `on_bad_value`: what gives a value in the place of one that Python has none for, by the column and the value as a full line
+      has it, or bytes. Without it a date is None then, and a text or document stays bytes.
+    - `naive_timestamps`: whether a TIMESTAMP, which is in UTC, has no time zone.
+    - `raw_values`: whether values stay as a full line has them, but for bytes.
     - `program`: the program, by its path or its name on PATH.
     - `blocking`: whether the reader waits for more at the logs' end, and goes on when they grow. It looks each `interval`
-      seconds. In place of files it takes a server's logs then: its index, the folder that has one, or a pattern.
+      seconds.
 
     An event that the log can't give, and whatever else ends a reading early, is an exception behind the last event.
     """
 
     def __init__(
         self,
-        files: Path | Iterable[Path],
+        files: Path | Iterable[Path] | None = None,
         *,
-        only_events: Iterable[type[RowsEvent]] | None = None,
+        only_events: Iterable[type[Event]] | None = None,
+        ignored_events: Iterable[type[Event]] | None = None,
         only_tables: Iterable[str] | None = None,
         ignored_tables: Iterable[str] | None = None,
         only_schemas: Iterable[str] | None = None,
         ignored_schemas: Iterable[str] | None = None,
         auto_position: str | None = None,
         resume: str | None = None,
+        resume_stream: bool = False,
+        log_file: str | None = None,
+        log_pos: int | None = None,
+        skip_to_timestamp: float | None = None,
+        end_log_pos: int | None = None,
+        together: bool = True,
         convert: Mapping[str, Converter] | None = None,
+        on_bad_value: OnBadValue | None = None,
+        naive_timestamps: bool = False,
+        raw_values: bool = False,
         program: Path = "binlogfeed",
         blocking: bool = False,
         interval: float = 0.1,
+        **others: Any,
     ) -> None:
         """A reader. The program starts with the first event that is asked for."""
-        words = [
-            *_list_word("--only-events", _kinds(only_events), some=True),
-            *_list_word("--only-tables", only_tables, some=True),
-            *_list_word("--ignored-tables", ignored_tables),
-            *_list_word("--only-schemas", only_schemas, some=True),
-            *_list_word("--ignored-schemas", ignored_schemas),
-            *([] if auto_position is None else [f"--auto-position={auto_position}"]),
-        ]
-        self._command = [os.fspath(program), "read", *words]
-        self._files: Union[Path, list[Path]] = files if isinstance(files, (str, os.PathLike)) else list(files)
+        refuse_others(others)
+        self._files = _checked_files(files)
+        self._asked = asked_events(only_events, ignored_events)
+        filters = words(self._asked, only_tables, ignored_tables, only_schemas, ignored_schemas, auto_position)
+        self._command = [os.fspath(program), "read", "--full", *filters]
         self._resume = resume
+        self._start = _start(resume, resume_stream, log_file, log_pos)
+        self._skip_to = skip_to_timestamp
+        self._end = end_log_pos
+        self._together = together
         self._blocking = blocking
         self._interval = interval
-        self._convert = dict(convert or {})
-        self._converters: dict[tuple[str, str], dict[str, Converter]] = {}
+        self._taken_apart = reader_of_lines(Style(raw_values, naive_timestamps, on_bad_value), dict(convert or {}))
         self._run: Union[Run, Watch, None] = None
         # None stands for the end of the logs as they are by now.
-        self._lines: Optional[Iterator[Optional[bytes]]] = None
+        self._events: Optional[Iterator[Optional[Event]]] = None
         self._closed = False
         self._closing = threading.Event()
         self._at_end = False
+        self._token: Optional[str] = None
+        # Whether a transaction was met that begins at `end_log_pos` or behind it.
+        self.is_past_end_log_pos = False
 
-    def __iter__(self) -> Iterator[RowsEvent]:
+    @property
+    def log_file(self) -> str | None:
+        """The file of the last event that was given, or that in which the reader begins."""
+        return self._start.file if self._token is None else token_parts(self._token).file
+
+    @property
+    def log_pos(self) -> int | None:
+        """Where the transaction of the last event begins. A reader from there gives it again, as a whole: keep tokens for less."""
+        token = self._token or self._start.token
+        return None if token is None else token_parts(token).position
+
+    def __iter__(self) -> Iterator[Event]:
         """The events, from the first that wasn't given yet."""
         return self
 
-    def __next__(self) -> RowsEvent:
+    def __next__(self) -> Event:
         """The next event."""
         while True:
             event = self._step()
             if event is not None:
                 return event
 
-    def _step(self) -> RowsEvent | None:
+    def _step(self) -> Event | None:
         """The next event, or None at the end of the logs as they are by now, where the reader waits for more."""
         if self._closed:
             raise StopIteration
-        if self._lines is None:
-            self._lines = self._watched() if self._blocking else self._read()
+        if self._events is None:
+            self._events = self._begun()
             if self._closed and self._run:  # by another thread, which saw no run yet
                 self._run.end()
         try:
-            line = next(self._lines)
-            return None if line is None else self._event(line)
+            event = next(self._events)
         except StopIteration:
             self._at_end = not self._closed
             self.close()
@@ -107,27 +140,29 @@ class BinLogStreamReader:
             # Who goes on after an error would miss an event.
             self.close()
             raise
+        if event is not None:
+            self._token = event.token
+        return event
 
-    def fetchone(self) -> RowsEvent | None:
+    def fetchone(self) -> Event | None:
         """The next event, or None behind the last."""
         return next(self, None)
 
     def transactions(self) -> Iterator[Transaction]:
-        """The events that weren't given yet, grouped by their transactions. One transaction is held in memory.
+        """The row events that weren't given yet, grouped by their transactions. One transaction is held in memory.
 
         A transaction is given where all of its events were read. Where the reading ends early inside one, that one isn't.
         """
         events: list[RowsEvent] = []
         try:
             for event in self._steps():
-                if events and (event is None or _place(events[0]) != _place(event)):
+                if events and (event is None or not are_of_one_transaction(events[0].token, event.token)):
                     yield Transaction(events)
                     events = []
-                if event is not None:
+                if isinstance(event, RowsEvent):
                     events.append(event)
         except LogFault as fault:
-            # A log's fault stands behind whole transactions, unless the file changed while it was read.
-            if events and fault.what != "SourceChanged":
+            if events and _is_behind_transactions(fault):
                 yield Transaction(events)
             raise
         if events and self._at_end:
@@ -148,7 +183,7 @@ class BinLogStreamReader:
         """Closes the reader."""
         self.close()
 
-    def _steps(self) -> Iterator[Optional[RowsEvent]]:
+    def _steps(self) -> Iterator[Optional[Event]]:
         """Each event, and None at each end of the logs."""
         while True:
             try:
@@ -156,108 +191,137 @@ class BinLogStreamReader:
             except StopIteration:
                 return
 
-    def _read(self) -> Iterator[bytes]:
-        """The lines of the files, as one run of the program gives them."""
-        paths = [self._files] if isinstance(self._files, (str, os.PathLike)) else self._files
-        resume = [] if self._resume is None else [f"--from={self._resume}"]
-        self._run = Run([*self._command, *resume, "--", *map(os.fspath, paths)])
-        return self._run.lines()
-
-    def _watched(self) -> Iterator[Optional[bytes]]:
-        """The lines of logs that grow, and None behind each look."""
+    def _begun(self) -> Iterator[Optional[Event]]:
+        """Begins to read. The events, and None at each end of the logs."""
         files = self._files
         paths = [files] if isinstance(files, (str, os.PathLike)) else files
-        if not paths:
-            raise WordsRefused("binlogfeed: no file is given")
-        is_place = isinstance(files, (str, os.PathLike)) and not is_log(files)
-        logs = paths[0] if is_place else [pathlib.Path(path) for path in paths]
-        watch = Watch(logs, [*self._command, "--follow"], _place_behind(self._resume))
-        self._run = watch
-        return self._looked(watch)
+        is_place = paths is not files and is_place_of_logs(paths[0], self._blocking)
+        if self._blocking or is_place or (self._resume is None and self._start.file is not None):
+            if not paths:
+                raise WordsRefused("binlogfeed: no file is given")
+            logs = paths[0] if is_place else [pathlib.Path(path) for path in paths]
+            watch = Watch(logs, [*self._command, "--follow"], self._start)
+            self._run, blocks = watch, self._watched(watch)
+        else:
+            resume = [] if self._resume is None else [f"--from={self._resume}"]
+            run = Run([*self._command, *resume, "--", *map(os.fspath, paths)])
+            self._run, blocks = run, run.blocks()
+        changes = self._changes(blocks)
+        rows = self._joined(changes) if self._together else self._one_by_one(changes)
+        return rows if self._asked == frozenset(ROWS_EVENTS.values()) else self._chosen(rows)
 
-    def _looked(self, watch: Watch) -> Iterator[Optional[bytes]]:
-        """The lines of one look after the other, and None behind each."""
+    def _watched(self, watch: Watch) -> Iterator[Optional[bytes]]:
+        """The lines of one look after the other, and None behind each. Without waiting there is one look."""
         is_empty = False
         while not self._closed:
-            for block in watch.look():
-                yield from block.split(b"\n")[:-1]
+            yield from watch.look()
             yield None
+            if not self._blocking:
+                return
             if watch.is_empty and not is_empty:
                 is_empty = True
-                warnings.warn(f"binlogfeed: no log matches {self._files} yet", stacklevel=4)
+                warnings.warn(f"binlogfeed: no log matches {self._files} yet", stacklevel=6)
             self._closing.wait(self._interval)
 
-    def _event(self, line: bytes) -> RowsEvent:
-        """The event of a line."""
-        change = json.loads(line)
-        for side in ("before", "after"):
-            if change[side] is not None:
-                self._take_in(change, change[side])
-        return KINDS[change["kind"]](change)
-
-    def _take_in(self, change: dict[str, Any], values: Values) -> None:
-        """Puts bytes and converted values into the place of what the line has."""
-        for column, value in values.items():
-            if type(value) is dict:
-                (text,) = value.values()
-                values[column] = base64.b64decode(text)
-        for column, convert in self._converters_of(change["schema"], change["table"]).items():
-            if values.get(column) is None:
+    def _changes(self, blocks: Iterator[Optional[bytes]]) -> Iterator[Optional[Change]]:
+        """The changes of lines, but for those outside of the places and times that are asked for."""
+        taken_apart, skip_to, end = self._taken_apart, self._skip_to, self._end
+        for block in blocks:
+            if block is None:
+                yield None
                 continue
-            try:
-                values[column] = convert(values[column])
-            except Exception as error:
-                place = f"{change['schema']}.{change['table']}.{column} at {change['token']}"
-                raise ConversionFailed(f"binlogfeed: {place} can't be converted: {error}") from error
+            for line in block.split(b"\n")[:-1]:
+                change = taken_apart(line)
+                if end is not None and token_parts(change.token).position >= end:
+                    self.is_past_end_log_pos = True
+                    return
+                if skip_to is None or change.timestamp >= skip_to:
+                    yield change
 
-    def _converters_of(self, schema: str, table: str) -> dict[str, Converter]:
-        """The converters of a table's columns. That of a column named with its schema goes before."""
-        found = self._converters.get((schema, table))
-        if found is None:
-            found = {}
-            for prefix in (f"{table}.", f"{schema}.{table}."):
-                found.update((name[len(prefix) :], how) for name, how in self._convert.items() if name.startswith(prefix))
-            self._converters[schema, table] = found
-        return found
+    def _one_by_one(self, changes: Iterator[Optional[Change]]) -> Iterator[Optional[RowsEvent]]:
+        """An event for each change."""
+        for change in changes:
+            yield None if change is None else ROWS_EVENTS[change.form.kind](change)
+
+    def _joined(self, changes: Iterator[Optional[Change]]) -> Iterator[Optional[RowsEvent]]:
+        """An event for changes that stand together."""
+        event: Optional[RowsEvent] = None
+        try:
+            for change in changes:
+                if event is not None:
+                    if change is not None and event.takes(change):
+                        continue
+                    yield event
+                event = None if change is None else ROWS_EVENTS[change.form.kind](change)
+                if event is None:
+                    yield None
+        except BinlogfeedError:
+            # The changes before it were read.
+            if event is not None:
+                yield event
+            raise
+        if event is not None and not self._closed:
+            yield event
+
+    def _chosen(self, rows: Iterator[Optional[RowsEvent]]) -> Iterator[Optional[Event]]:
+        """The events of the classes that are asked for, beginnings and ends of transactions and files among them."""
+        last: Optional[RowsEvent] = None
+        file: Optional[str] = None
+        try:
+            for event in rows:
+                if last is not None and (event is None or not are_of_one_transaction(last.token, event.token)):
+                    yield from self._if_asked(XidEvent(last.timestamp, last.gtid, last.token))
+                    last = None
+                if event is None:
+                    yield None
+                    continue
+                place = beginning(event.token)
+                if token_parts(place).file != file:
+                    file = token_parts(place).file
+                    yield from self._if_asked(RotateEvent(event.timestamp, None, place))
+                if last is None and event.gtid is not None:
+                    yield from self._if_asked(GtidEvent(event.timestamp, event.gtid, place))
+                yield from self._if_asked(event)
+                last = event
+        except LogFault as fault:
+            if last is not None and _is_behind_transactions(fault):
+                yield from self._if_asked(XidEvent(last.timestamp, last.gtid, last.token))
+            raise
+        if last is not None and not self._closed:
+            yield from self._if_asked(XidEvent(last.timestamp, last.gtid, last.token))
+
+    def _if_asked(self, event: Event) -> Iterator[Event]:
+        """The event, where its class is asked for."""
+        if type(event) in self._asked:
+            yield event
 
 
-def _place(event: RowsEvent) -> tuple[str, int]:
-    """The place of the event's transaction."""
-    parts = token_parts(event.token)
-    return parts.file, parts.position
+def _checked_files(files: Path | Iterable[Path] | None) -> Union[Path, list[Path]]:
+    """The files that a reader is given."""
+    if files is None:
+        raise TypeError("BinLogStreamReader: the first argument is the log files, or the server's folder, index or pattern")
+    if isinstance(files, Mapping):
+        refuse_others({"connection_settings": files})
+    return files if isinstance(files, (str, os.PathLike)) else list(files)
 
 
-def _place_behind(token: str | None) -> Place:
-    """The place behind a token."""
-    if token is None:
+def _start(resume: str | None, resume_stream: bool, log_file: str | None, log_pos: int | None) -> Place:
+    """The place in which a reader begins."""
+    if resume is not None:
+        if resume_stream or log_file is not None or log_pos is not None:
+            raise ValueError("a token (resume) says where to begin, and so do log_file and log_pos: give one of them")
+        try:
+            return Place(token_parts(resume).file, None, resume)
+        except ValueError as error:
+            raise TokenRefused("binlogfeed: token refused: BadToken", "BadToken") from error
+    if log_file is None:
+        if resume_stream or log_pos is not None:
+            raise ValueError("log_pos and resume_stream need log_file")
         return Place()
-    try:
-        return Place(token_parts(token).file, None, token)
-    except ValueError as error:
-        raise TokenRefused("binlogfeed: token refused: BadToken", "BadToken") from error
+    is_within = resume_stream and log_pos is not None and log_pos > FIRST_EVENT
+    return Place(log_file, None, f"{log_pos}.0@{log_file}" if is_within else None)
 
 
-def _kinds(events: Iterable[type[RowsEvent]] | None) -> list[str] | None:
-    """The program's names of classes of events."""
-    if events is None:
-        return None
-    classes = list(events)
-    for one in classes:
-        if one not in KINDS.values():
-            raise TypeError(f"only_events: {one!r} is none of WriteRowsEvent, UpdateRowsEvent, DeleteRowsEvent")
-    return [one.kind for one in classes]
-
-
-def _list_word(option: str, names: Iterable[str] | None, some: bool = False) -> list[str]:
-    """The word for a list of names. The program parts it at commas."""
-    if names is None:
-        return []
-    if isinstance(names, str):
-        raise TypeError(f"{option}: a list of names, not the text {names!r}")
-    listed = list(names)
-    for name in listed:
-        if "," in name:
-            raise ValueError(f"{option}: a name with a comma can't be given: {name!r}")
-    if some and not listed:
-        raise ValueError(f"{option}: with an empty list nothing would pass")
-    return [f"{option}={','.join(listed)}"] if listed else []
+def _is_behind_transactions(fault: LogFault) -> bool:
+    """Whether a log's fault stands behind whole transactions. It does, unless the file changed while it was read."""
+    return fault.what != "SourceChanged"

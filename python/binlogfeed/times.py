@@ -1,56 +1,60 @@
-"""Converters for DATE, DATETIME, TIMESTAMP and TIME.
+"""Dates and times of lines as Python's own.
 
-MySQL keeps dates that Python has none for, such as 0000-00-00 and 2024-02-00. They stay the text that they were.
+MySQL keeps dates that Python has none for, such as 0000-00-00 and 2024-02-00. They are a ValueError.
 """
 from __future__ import annotations
 
 import datetime
-import re
+from collections.abc import Callable
 
-TIME = re.compile(r"(-?)(\d+):(\d\d):(\d\d)(?:\.(\d{1,6}))?")
-TIMESTAMP = re.compile(r"(\d+)(?:\.(\d{1,6}))?")
+UTC = datetime.timezone.utc
+# Before Python 3.11 `fromisoformat` takes a fraction of three digits or of six alone.
+DIGITS = 3
 
-
-def to_date(text: str) -> datetime.date | str:
-    """The day of a DATE."""
-    try:
-        return datetime.date.fromisoformat(text)
-    except ValueError:
-        return text
+to_date = datetime.date.fromisoformat
 
 
-def to_datetime(text: str) -> datetime.datetime | str:
-    """The day and time of a DATETIME, without a time zone."""
-    whole, _, fraction = text.partition(".")
-    try:
-        return datetime.datetime.strptime(whole, "%Y-%m-%d %H:%M:%S").replace(microsecond=_microseconds(fraction))
-    except ValueError:
-        return text
+def datetimes(fraction: int) -> Callable[[str], datetime.datetime]:
+    """What reads a DATETIME whose fraction has so many digits. It has no time zone."""
+    from_text = datetime.datetime.fromisoformat
+    missing = "0" * (-fraction % DIGITS)
+    return (lambda text: from_text(text + missing)) if missing else from_text
 
 
-def to_timestamp(text: str) -> datetime.datetime | str:
-    """The moment of a TIMESTAMP, in UTC. The text is the seconds since 1970; 0 stands for MySQL's zero date."""
-    parts = TIMESTAMP.fullmatch(text)
-    if not parts:
-        raise ValueError(f"not a TIMESTAMP: {text!r}")
-    seconds, fraction = int(parts[1]), _microseconds(parts[2])
-    if seconds == 0 and fraction == 0:
-        return text
-    moment = datetime.datetime.fromtimestamp(seconds, datetime.timezone.utc)
-    return moment.replace(microsecond=fraction)
+def timestamps(zone: datetime.timezone | None) -> Callable[[str], datetime.datetime]:
+    """What reads a TIMESTAMP, by a time zone of UTC or by none.
+
+    The text is the seconds since 1970, with a fraction. 0 stands for MySQL's zero date, which Python has none for.
+    """
+    start, span = datetime.datetime(1970, 1, 1, tzinfo=zone), datetime.timedelta
+
+    def to_timestamp(text: str) -> datetime.datetime:
+        """The moment."""
+        whole, _, fraction = text.partition(".")
+        seconds, microseconds = int(whole), _microseconds(fraction)
+        if seconds == 0 and microseconds == 0:
+            raise ValueError("the zero date")
+        return start + span(0, seconds, microseconds)
+
+    return to_timestamp
 
 
 def to_time(text: str) -> datetime.timedelta:
-    """The span of a TIME."""
-    parts = TIME.fullmatch(text)
-    if not parts:
-        raise ValueError(f"not a TIME: {text!r}")
-    span = datetime.timedelta(
-        hours=int(parts[2]), minutes=int(parts[3]), seconds=int(parts[4]), microseconds=_microseconds(parts[5])
-    )
-    return -span if parts[1] else span
+    """The span of a TIME, which may be below 0."""
+    hours, minutes, rest = text.lstrip("-").split(":")
+    seconds, _, fraction = rest.partition(".")
+    span = datetime.timedelta(0, int(seconds), _microseconds(fraction), 0, int(minutes), int(hours))
+    return -span if text[0] == "-" else span
 
 
-def _microseconds(fraction: str | None) -> int:
+def to_year(text: str) -> int:
+    """A YEAR. The year 0 is none of Python's."""
+    year = int(text)
+    if year == 0:
+        raise ValueError("the year 0")
+    return year
+
+
+def _microseconds(fraction: str) -> int:
     """The microseconds that the digits behind the point stand for."""
-    return int((fraction or "").ljust(6, "0"))
+    return int(fraction.ljust(6, "0")) if fraction else 0

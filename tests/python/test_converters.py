@@ -1,17 +1,17 @@
-"""The converters. What is wanted is worked out by hand from MySQL's description of each type, or a server showed it."""
+"""FLOAT, DOUBLE and JSON. What is wanted is worked out by hand from MySQL's description of each type, or a server showed it."""
 import datetime
 import json
 import struct
 import unittest
 from decimal import Decimal
 
-from binlogfeed import floats, json_binary, texts, times
+from binlogfeed import floats, json_binary
 
 UTC = datetime.timezone.utc
 
 
-class Plain(unittest.TestCase):
-    """FLOAT, DOUBLE, bytes, dates and times."""
+class Floats(unittest.TestCase):
+    """FLOAT and DOUBLE."""
 
     def test_floats(self):
         self.assertEqual(floats.from_raw(bytes.fromhex("0000c03f")), 1.5)
@@ -32,40 +32,6 @@ class Plain(unittest.TestCase):
             short = floats.shortest(raw)
             self.assertEqual(struct.pack("<f", short), raw)
             self.assertEqual(short, float(f"{short:.9g}"))
-
-    def test_bytes(self):
-        self.assertEqual(texts.to_bytes("é"), b"\xc3\xa9")
-        self.assertEqual(texts.to_bytes(b"\xff"), b"\xff")
-
-    def test_dates(self):
-        self.assertEqual(times.to_date("2024-05-06"), datetime.date(2024, 5, 6))
-        for none in ("0000-00-00", "2024-02-00", "2024-00-10", "2023-02-29"):
-            self.assertEqual(times.to_date(none), none)
-
-    def test_datetimes(self):
-        self.assertEqual(times.to_datetime("2024-05-06 07:08:09"), datetime.datetime(2024, 5, 6, 7, 8, 9))
-        self.assertEqual(times.to_datetime("2024-05-06 07:08:09.125"), datetime.datetime(2024, 5, 6, 7, 8, 9, 125000))
-        self.assertEqual(times.to_datetime("9999-12-31 23:59:59.999999"), datetime.datetime(9999, 12, 31, 23, 59, 59, 999999))
-        for none in ("0000-00-00 00:00:00", "2024-00-06 07:08:09.5"):
-            self.assertEqual(times.to_datetime(none), none)
-
-    def test_timestamps(self):
-        self.assertEqual(times.to_timestamp("1700000000"), datetime.datetime(2023, 11, 14, 22, 13, 20, tzinfo=UTC))
-        self.assertEqual(times.to_timestamp("1700000000.25"), datetime.datetime(2023, 11, 14, 22, 13, 20, 250000, tzinfo=UTC))
-        self.assertEqual(times.to_timestamp("2147483647.999999").microsecond, 999999)
-        self.assertEqual(times.to_timestamp("0.5"), datetime.datetime(1970, 1, 1, 0, 0, 0, 500000, tzinfo=UTC))
-        self.assertEqual(times.to_timestamp("0"), "0")
-        self.assertEqual(times.to_timestamp("0.00"), "0.00")
-        with self.assertRaises(ValueError):
-            times.to_timestamp("yesterday")
-
-    def test_times(self):
-        self.assertEqual(times.to_time("12:34:56"), datetime.timedelta(hours=12, minutes=34, seconds=56))
-        self.assertEqual(times.to_time("-838:59:59"), -datetime.timedelta(hours=838, minutes=59, seconds=59))
-        self.assertEqual(times.to_time("-00:00:00.01"), -datetime.timedelta(milliseconds=10))
-        self.assertEqual(times.to_time("00:00:00.000001"), datetime.timedelta(microseconds=1))
-        with self.assertRaises(ValueError):
-            times.to_time("12:34")
 
 
 def opaque(kind, raw):

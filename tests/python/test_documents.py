@@ -9,8 +9,10 @@ from pathlib import Path
 from support import PROGRAM, TOP, FolderTest
 
 # What the shop's statements say of it: a purchase that is put in, and then paid.
-PURCHASE = "{'customer': 1, 'id': 1, 'paid': %s, 'placed': '2024-05-06 07:08:09.125', 'total': '21.80'}"
-NEW, PAID = PURCHASE % "None", PURCHASE % "'1714982400'"
+PURCHASE = (
+    "{'customer': 1, 'id': 1, 'paid': %s, 'placed': datetime.datetime(2024, 5, 6, 7, 8, 9, 125000), 'total': Decimal('21.80')}"
+)
+NEW, PAID = PURCHASE % "None", PURCHASE % "datetime.datetime(2024, 5, 6, 8, 0, tzinfo=datetime.timezone.utc)"
 README_SHOWS = f"""\
 2592.1@binlog.000001 WriteRowsEvent [{{'values': {NEW}}}]
 3114.1@binlog.000001 UpdateRowsEvent [{{'before_values': {NEW}, 'after_values': {PAID}}}]

@@ -25,20 +25,22 @@ from binlogfeed import (
     WordsRefused,
     WriteRowsEvent,
     floats,
-    texts,
 )
 from built import logs
 from built.growing import Server
 from support import BANK, PROGRAM, SECONDS, SHOP, TOP, FolderTest, bank_rows
 
 SERVER = "3e11fa47-71ca-11e1-9e33-c80aa9429562"
-# A line of `read`, but for its token.
-LINE = '{"after":{"id":1},"before":null,"gtid":null,"kind":"insert","schema":"s","table":"t","timestamp":1,"token":"%s"}'
+# A line of `read --full`, but for its token.
+LINE = (
+    '{"after":{"id":1},"before":null,"gtid":null,"key":["id"],"types":{"id":"int"},"kind":"insert","schema":"s","table":"t",'
+    '"timestamp":1,"token":"%s"}'
+)
 
 
 def reader(files, **options):
-    """A reader that runs the built program."""
-    return BinLogStreamReader(files, program=PROGRAM, **options)
+    """A reader that runs the built program, and gives each row by itself."""
+    return BinLogStreamReader(files, program=PROGRAM, together=False, **options)
 
 
 def tokens(files, **options):
@@ -57,7 +59,7 @@ class Events(FolderTest):
 
     def test_shop(self):
         kinds = {"insert": WriteRowsEvent, "update": UpdateRowsEvent, "delete": DeleteRowsEvent}
-        events = list(reader(SHOP, convert={"product.weight": lambda raw: raw}))
+        events = list(reader(SHOP, raw_values=True))
         self.assertEqual(len(events), 19)
         for event, line in zip(events, shop_lines()):
             self.assertIs(type(event), kinds[line["kind"]])
@@ -71,10 +73,10 @@ class Events(FolderTest):
         self.assertEqual(events[1].rows, [{"values": {"amount": 1, "nr": 1, "purchase": 3, "sku": "POT-0003"}}])
         self.assertEqual(events[3].rows, [{"values": {"amount": 1, "nr": 2, "purchase": 1, "sku": "CUP-0007"}}])
         (row,) = events[4].rows
-        self.assertEqual((row["before_values"]["total"], row["after_values"]["total"]), ("21.80", "9.80"))
+        self.assertEqual((row["before_values"]["total"], row["after_values"]["total"]), (Decimal("21.80"), Decimal("9.80")))
 
     def test_raw_bytes(self):
-        events = list(reader(SHOP, only_tables=["product"], only_events=[WriteRowsEvent]))
+        events = list(reader(SHOP, only_tables=["product"], only_events=[WriteRowsEvent], raw_values=True))
         weights = [event.rows[0]["values"]["weight"] for event in events]
         self.assertEqual(weights, [struct.pack("<f", weight) for weight in (0.1, 0.35, 1.2)])
 
@@ -91,7 +93,7 @@ class Events(FolderTest):
     def test_bank(self):
         keys = {"account": "id", "journal": "seq"}
         tables, last = {"account": {}, "journal": {}}, None
-        with reader(BANK) as events:
+        with reader(BANK, raw_values=True) as events:
             for transaction in events.transactions():
                 self.assertNotEqual(transaction.gtid, last)
                 last = transaction.gtid
@@ -177,7 +179,7 @@ class Conversion(FolderTest):
 
     def test_columns(self):
         convert = {"purchase.total": Decimal, "product.weight": floats.shortest, "other.total": int}
-        convert["shop.customer.name"] = texts.to_bytes
+        convert["shop.customer.name"] = str.encode
         events = list(reader(SHOP, convert=convert))
         self.assertEqual(events[0].after["name"], b"Ada Lovelace")
         self.assertEqual([event.after["weight"] for event in events[3:6]], [0.1, 0.35, 1.2])
@@ -194,8 +196,9 @@ class Conversion(FolderTest):
     def test_empty_and_nought(self):
         """Only NULL is left as it is: an empty text and the number 0 are values, and so are bytes of none."""
         change = LINE.replace('{"id":1}', '{"bytes":{"base64":""},"gone":null,"nr":0,"text":""}') % "4.1@f"
+        change = change.replace('{"id":"int"}', '{"bytes":"blob","gone":"int","nr":"int","text":"text utf8mb4"}')
         convert = {f"t.{column}": lambda value: ("converted", value) for column in ("bytes", "gone", "nr", "text")}
-        (event,) = BinLogStreamReader("f", program=self.stub(f"echo '{change}'"), convert={**convert, "t.text": texts.to_bytes})
+        (event,) = BinLogStreamReader("f", together=False, program=self.stub(f"echo '{change}'"), convert={**convert, "t.text": str.encode})
         self.assertEqual(event.after, {"bytes": ("converted", b""), "gone": None, "nr": ("converted", 0), "text": b""})
         self.assertIs(type(event.after["text"]), bytes)
 
@@ -234,7 +237,7 @@ class Ends(FolderTest):
         return False
 
     def test_close(self):
-        events = BinLogStreamReader("f", program=self.endless())
+        events = BinLogStreamReader("f", together=False, program=self.endless())
         for _ in range(3):
             next(events)
         events.close()
@@ -244,13 +247,13 @@ class Ends(FolderTest):
 
     def test_leaving_by_an_error(self):
         with self.assertRaises(ZeroDivisionError):
-            with BinLogStreamReader("f", program=self.endless()) as events:
+            with BinLogStreamReader("f", together=False, program=self.endless()) as events:
                 for _ in events:
                     raise ZeroDivisionError
         self.assertTrue(self.process_is_gone())
 
     def test_close_before_the_first_event(self):
-        events = BinLogStreamReader("f", program=self.endless())
+        events = BinLogStreamReader("f", together=False, program=self.endless())
         events.close()
         self.assertIsNone(events.fetchone())
         self.assertFalse((self.folder / "process").exists())
@@ -264,7 +267,7 @@ class Ends(FolderTest):
 
     def test_close_while_another_thread_waits(self):
         program = self.stub(f"echo $$ > {self.folder}/process\nexec sleep 60")
-        events = BinLogStreamReader("f", program=program)
+        events = BinLogStreamReader("f", together=False, program=program)
         closer = threading.Thread(target=self.close_when_it_runs, args=(events,), daemon=True)
         closer.start()
         started = time.monotonic()
@@ -287,7 +290,7 @@ class Ends(FolderTest):
 
         program = self.stub("exec sleep 60")
         for _ in range(100):
-            events = BinLogStreamReader("f", program=program)
+            events = BinLogStreamReader("f", together=False, program=program)
             start = threading.Barrier(3 if begun else 4)
             threads = [threading.Thread(target=act, args=(events.fetchone, None if begun else start), daemon=True)]
             threads += [threading.Thread(target=act, args=(events.close, start), daemon=True) for _ in range(3)]
@@ -305,7 +308,7 @@ class Ends(FolderTest):
         self.close_by_several_threads(begun=False)
 
     def test_closed_inside_a_transaction(self):
-        events = BinLogStreamReader("f", program=self.endless())
+        events = BinLogStreamReader("f", together=False, program=self.endless())
         closer = threading.Timer(0.1, events.close)
         closer.start()
         # All these lines are of one transaction, whose end never came.
@@ -320,7 +323,7 @@ class Ends(FolderTest):
     def test_much_on_standard_error(self):
         program = self.stub("head -c 1000000 /dev/zero | tr '\\0' x >&2\necho >&2\necho 'binlogfeed: out of memory' >&2\nexit 5")
         with self.assertRaises(OutOfMemory):
-            list(BinLogStreamReader("f", program=program))
+            list(BinLogStreamReader("f", together=False, program=program))
 
 
 class Blocking(FolderTest):
@@ -504,7 +507,7 @@ class Errors(FolderTest):
 
     def test_killed(self):
         program = self.stub(f"echo '{LINE % '4.1@f'}'\nprintf '{{\"after\":'\nkill -9 $$")
-        events = BinLogStreamReader("f", program=program)
+        events = BinLogStreamReader("f", together=False, program=program)
         self.assertEqual(next(events).token, "4.1@f")
         with self.assertRaises(ProgramFailed) as caught:
             next(events)
@@ -512,7 +515,7 @@ class Errors(FolderTest):
 
     def test_a_cut_line_of_a_program_that_ended_well(self):
         """A wrapper may end with 0 though the program was killed: half a line is never all that there was."""
-        events = BinLogStreamReader("f", program=self.stub(f"echo '{LINE % '4.1@f'}'\nprintf '{{\"after\":'"))
+        events = BinLogStreamReader("f", together=False, program=self.stub(f"echo '{LINE % '4.1@f'}'\nprintf '{{\"after\":'"))
         self.assertEqual(next(events).token, "4.1@f")
         with self.assertRaises(ProgramFailed) as caught:
             next(events)
@@ -531,7 +534,7 @@ class Errors(FolderTest):
         ]
         for line, status, kind in cases:
             with self.assertRaises(kind) as caught:
-                list(BinLogStreamReader("f", program=self.stub(f"{said}echo 'binlogfeed: {line}' >&2\nexit {status}")))
+                list(BinLogStreamReader("f", together=False, program=self.stub(f"{said}echo 'binlogfeed: {line}' >&2\nexit {status}")))
             self.assertEqual((caught.exception.line, caught.exception.status), (f"binlogfeed: {line}", status))
 
     def test_a_transaction_that_is_cut_is_not_given(self):
@@ -539,7 +542,7 @@ class Errors(FolderTest):
         for end in ("kill -9 $$", "exit 4", "echo 'binlogfeed: log fault at f:9: SourceChanged' >&2; exit 1"):
             found = []
             with self.assertRaises((ProgramFailed, FileFault, LogFault)):
-                for transaction in BinLogStreamReader("f", program=self.stub(lines + end)).transactions():
+                for transaction in BinLogStreamReader("f", together=False, program=self.stub(lines + end)).transactions():
                     found.append(transaction.token)
             self.assertEqual(found, ["4.1@f"])
 
