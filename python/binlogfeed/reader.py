@@ -204,7 +204,7 @@ class BinLogStreamReader:
             self._run, blocks = watch, self._watched(watch)
         else:
             resume = [] if self._resume is None else [f"--from={self._resume}"]
-            run = Run([*self._command, *resume, "--", *map(os.fspath, paths)])
+            run = Run([*self._command, *resume, "--", *(os.fspath(path) for path in paths)])
             self._run, blocks = run, run.blocks()
         changes = self._changes(blocks)
         rows = self._joined(changes) if self._together else self._one_by_one(changes)
