@@ -5,10 +5,13 @@ import os
 import random
 import re
 import signal
+import stat
 import subprocess
 import sys
 import threading
 import time
+from pathlib import Path
+from unittest import mock
 
 from binlogfeed import BinlogfeedError, FileFault, LogFault, LogLost, LogsGone, Place, TokenRefused, listed
 from binlogfeed import follow as following
@@ -489,6 +492,24 @@ class States(ServerTest):
             self.assertEqual(Place.from_text(place.to_text()), place)
             write_state(self.state, place)
             self.assertEqual(read_state(self.state), place)
+
+    def test_kept_on_the_disk(self):
+        """The new file's bytes are on the disk before it takes the old one's name, and the folder's behind that."""
+        said = []
+
+        def sync(descriptor):
+            """Says what is synchronised: a file with its size, or a folder."""
+            found = os.fstat(descriptor)
+            said.append(("folder", 0) if stat.S_ISDIR(found.st_mode) else ("file", found.st_size))
+
+        def replace(new, old):
+            """Says which file takes which name."""
+            said.append((Path(new).name, Path(old).name))
+
+        with mock.patch.object(os, "fsync", sync), mock.patch.object(os, "replace", replace):
+            write_state(self.state, Place("binlog.000001"))
+        size = len(Place("binlog.000001").to_text()) + 1
+        self.assertEqual(said, [("file", size), (f"{self.state.name}.new", self.state.name), ("folder", 0)])
 
     def test_two_followers(self):
         first = self.follower()
