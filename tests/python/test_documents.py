@@ -47,21 +47,32 @@ class Documents(FolderTest):
         return ended.stdout
 
     def test_first_result(self):
-        commands, line = blocks("README.md", "Install, and a first result")
-        self.assertIn(line, self.shown(commands.splitlines()[1]).splitlines(keepends=True))
+        commands, line, _ = blocks("README.md", "A first result")
+        self.assertIn(line, self.shown(commands.splitlines()[0]).splitlines(keepends=True))
+
+    def test_links(self):
+        """Each link between documents names a file that is there."""
+        documents = [TOP / "README.md", *sorted((TOP / "docs").glob("*.md"))]
+        links = [(it, link) for it in documents for link in re.findall(r"\]\(([^)#:]+)\)", it.read_text(encoding="utf-8"))]
+        self.assertGreater(len(links), 20)
+        self.assertEqual([(it.name, link) for it, link in links if not (it.parent / link).exists()], [])
 
     def test_readme_is_one_page(self):
         self.assertLessEqual((TOP / "README.md").read_text(encoding="utf-8").count("\n"), 100)
 
     def test_going_on_and_history(self):
-        (block,) = blocks("README.md", "Options")
-        story = self.shown(block)
-        lines = (TOP / "examples/shop/read.jsonl").read_text(encoding="utf-8")
-        self.assertEqual((self.folder / "first").read_text(encoding="utf-8").count("\n"), 5)
-        self.assertEqual((self.folder / "first").read_text(encoding="utf-8") + (self.folder / "rest").read_text(encoding="utf-8"), lines)
+        commands, _, going_on = blocks("README.md", "A first result")
+        read, history = commands.splitlines()
+        lines = self.shown(read)
+        self.assertEqual(lines.count("\n"), (TOP / "examples/shop/read.jsonl").read_text(encoding="utf-8").count("\n"))
+        self.shown(going_on)
+        first, rest = ((self.folder / name).read_text(encoding="utf-8") for name in ("first", "rest"))
+        self.assertEqual(first.count("\n"), 5)
+        self.assertEqual(first + rest, lines)
         # Customer 1 is put in, and never changed.
         of_one = [it for it in lines.splitlines(keepends=True) if '"table":"customer"' in it and '"id":1,' in it]
-        self.assertEqual(story, "".join(of_one))
+        self.assertEqual(len(of_one), 1)
+        self.assertEqual(self.shown(history), of_one[0])
 
     def test_reading(self):
         read, lines, _, code, _, again = blocks("docs/USAGE.md", "Reading files")
