@@ -6,7 +6,8 @@ import subprocess
 import sys
 from pathlib import Path
 
-from support import PROGRAM, TOP, FolderTest
+from binlogfeed import BinLogStreamReader, LogsGone
+from support import BANK, PROGRAM, TOP, FolderTest
 
 # What the shop's statements say of it: a purchase that is put in, and then paid.
 PURCHASE = (
@@ -82,6 +83,22 @@ class Documents(FolderTest):
         self.assertTrue((TOP / "examples/shop/last_rows.py").read_text(encoding="utf-8").endswith(code))
         self.shown(again)
         self.assertEqual((self.folder / "first").read_text() + (self.folder / "rest").read_text(), shown)
+
+    def test_a_missing_file(self):
+        """Who notices it ("What to know before use"). The bank's second log ends without a ROTATE, its first with one."""
+        logs = {number: self.put(path.name, path.read_bytes()) for number, path in enumerate(BANK[:5], 1)}
+        for numbers, status, said in (((1, 3), 1, "RotationMismatch"), ((2, 5), 0, ""), ((2, 1), 0, "")):
+            command = [PROGRAM, "read", *(logs[number] for number in numbers)]
+            ended = subprocess.run(command, capture_output=True, text=True, check=False)
+            self.assertEqual(ended.returncode, status, numbers)
+            self.assertIn(said, ended.stderr)
+        for number in (1, 3, 4):
+            logs[number].unlink()
+        # A list isn't judged by its numbers, and a pattern is.
+        with BinLogStreamReader([logs[2], logs[5]], program=PROGRAM) as reader:
+            self.assertEqual({event.token.partition("@")[2] for event in reader}, {logs[2].name, logs[5].name})
+        with BinLogStreamReader(self.folder / "binlog.*", program=PROGRAM) as reader, self.assertRaises(LogsGone):
+            list(reader)
 
     def test_many_files_at_once(self):
         (block,) = blocks("docs/USAGE.md", "Many files at once")
