@@ -36,6 +36,7 @@ from binlogfeed.logs import Log, listed
 from binlogfeed.place import Place
 from binlogfeed.reader import BinLogStreamReader
 from binlogfeed.values import Column
+from binlogfeed.version import VERSION as __version__
 
 __all__ = [
     "BinLogStreamReader",
@@ -62,5 +63,6 @@ __all__ = [
     "WordsRefused",
     "WriteRowsEvent",
     "XidEvent",
+    "__version__",
     "listed",
 ]

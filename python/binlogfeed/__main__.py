@@ -11,6 +11,7 @@ from pathlib import Path
 
 from binlogfeed.faults import BinlogfeedError
 from binlogfeed.follow import Follower
+from binlogfeed.version import VERSION
 
 FILTERS = ("only-events", "only-tables", "ignored-tables", "only-schemas", "ignored-schemas", "auto-position")
 # A look that goes on when SIGTERM comes has so many seconds to come to its end.
@@ -26,6 +27,7 @@ were still to be read are gone, and 70 where the program can't be started. docs/
 def given_words() -> argparse.Namespace:
     """Reads the command line."""
     parser = argparse.ArgumentParser(prog="python3 -m binlogfeed", description=__doc__)
+    parser.add_argument("--version", action="version", version=f"binlogfeed {VERSION}", help="print the version")
     commands = parser.add_subparsers(dest="command", required=True)
     follow = commands.add_parser(
         "follow",

@@ -5,6 +5,7 @@ import contextlib
 import fcntl
 import os
 import subprocess
+import sysconfig
 import tempfile
 import threading
 from collections.abc import Generator, Iterator, Sequence
@@ -17,6 +18,19 @@ BUFFER = 1 << 16
 PIPE = 1 << 18
 
 
+def found(program: str | os.PathLike[str]) -> str:
+    """The program's path. One that is named without a folder may be installed together with this package; else it is PATH's."""
+    name = os.fspath(program)
+    if os.sep in name:
+        return name
+    packages = Path(__file__).resolve().parents[1]
+    for scheme in sysconfig.get_scheme_names():
+        beside = Path(sysconfig.get_path("scripts", scheme), name)
+        if Path(sysconfig.get_path("platlib", scheme)).resolve() == packages and os.access(beside, os.X_OK):
+            return str(beside)
+    return name
+
+
 class Program:
     """The program as it runs. Only what stands between it and the caller is held in memory."""
 
@@ -26,6 +40,7 @@ class Program:
         self._ending = threading.RLock()
         # A file takes what the program says on standard error, so that it never waits for a reader.
         self._said = tempfile.TemporaryFile()
+        command = [found(command[0]), *command[1:]]
         try:
             self._process = subprocess.Popen(command, bufsize=BUFFER, stdin=stdin, stdout=subprocess.PIPE, stderr=self._said)
         except OSError as error:
