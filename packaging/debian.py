@@ -26,15 +26,16 @@ Description: change feed over MySQL binary log files
  recommended for, gives the changes as events, and follows a server's logs.
 """
 
-# Python's bytecode goes with the sources that it was made of: an update's files have the same time, so it would pass for theirs.
+# Python's bytecode goes with its sources: an upgrade's have the same time, so the old bytecode would pass for theirs.
 SCRIPTS = {
     "postinst": "if command -v py3compile >/dev/null; then\n    py3compile -p binlogfeed || true\nfi",
     "prerm": "rm -rf /usr/lib/python3/dist-packages/binlogfeed/__pycache__",
 }
 
 COPYRIGHT = """\
-This package was made of the sources of binlogfeed {version} by packaging/build. The sources name no licence, and so neither does this
-package. The program has parts of the libraries of the Rattle kit in it; their terms stand in the kit.
+This package was made of the sources of binlogfeed {version} by packaging/build.
+The sources name no licence, so neither does this package. The program has parts
+of the Rattle kit's libraries in it, whose licences stand in the kit.
 """
 
 # What the unit of examples/service names, and where the package has it.
@@ -86,9 +87,11 @@ def write(path: Path, version: str, glibc: str, files: Files) -> Path:
     copyright_file = {"usr/share/doc/binlogfeed/copyright": File(COPYRIGHT.format(version=version).encode())}
     files = {**files, **copyright_file}
     about = {"DEBIAN/control": File(control(version, glibc, files).encode())}
-    about.update({f"DEBIAN/{name}": File(f"#!/bin/sh\nset -e\n{lines}\n".encode(), 0o755) for name, lines in SCRIPTS.items()})
+    for name, lines in SCRIPTS.items():
+        about[f"DEBIAN/{name}"] = File(f"#!/bin/sh\nset -e\n{lines}\n".encode(), 0o755)
     with tempfile.TemporaryDirectory() as room:
         put(Path(room), {**files, **about})
         command = ["dpkg-deb", "--root-owner-group", "-Zxz", "--build", room, path]
-        subprocess.run(command, env={**os.environ, "SOURCE_DATE_EPOCH": str(EPOCH)}, stdout=subprocess.DEVNULL, check=True)
+        environment = {**os.environ, "SOURCE_DATE_EPOCH": str(EPOCH)}
+        subprocess.run(command, env=environment, stdout=subprocess.DEVNULL, check=True)
     return path

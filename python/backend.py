@@ -1,7 +1,7 @@
 """Makes the package's wheel: for pip, which calls the functions behind HOOKS (PEP 517), and for packaging/build.
 
-It needs Python alone, so that nothing has to be downloaded, and leaves nothing beside the sources. The version of a wheel is that
-of binlogfeed/version.py, and what else it says of itself stands in pyproject.toml.
+It needs Python alone, so that nothing has to be downloaded, and leaves nothing beside the sources. A wheel's version is
+that of binlogfeed/version.py, and what else it says of itself stands in pyproject.toml.
 """
 from __future__ import annotations
 
@@ -21,9 +21,11 @@ from pathlib import Path
 from typing import Any, NamedTuple
 
 HERE = Path(__file__).resolve().parent
-# Each packed file has this time, so that two builds of the same files have the same bytes. A zip knows none before 1980.
+# The one time of all packed files: so two builds of the same files have the same bytes. A zip knows none before 1980.
 EPOCH = max(int(os.environ.get("SOURCE_DATE_EPOCH", "1767225600")), 315532800)
 PURE = "py3-none-any"
+# What an archive of the sources has beside the package.
+BESIDE = ("backend.py", "pyproject.toml")
 
 
 class File(NamedTuple):
@@ -39,17 +41,19 @@ Files = dict[str, File]
 def told() -> dict[str, str]:
     """What pyproject.toml says in texts, and the version."""
     texts = dict(re.findall(r'(?m)^([\w-]+) = "(.*)"$', (HERE / "pyproject.toml").read_text(encoding="utf-8")))
-    (texts["version"],) = re.findall(r'(?m)^VERSION = "(.*)"$', (HERE / "binlogfeed/version.py").read_text(encoding="utf-8"))
+    version = (HERE / "binlogfeed/version.py").read_text(encoding="utf-8")
+    (texts["version"],) = re.findall(r'(?m)^VERSION = "(.*)"$', version)
     return texts
 
 
 def files_of(folder: Path, prefix: str = "") -> Files:
     """The files of a folder, by their paths behind a prefix. What Python leaves beside its sources isn't among them."""
-    paths = sorted(path for path in folder.rglob("*") if path.is_file() and "__pycache__" not in path.parts)
-    return {
-        f"{prefix}{path.relative_to(folder).as_posix()}": File(path.read_bytes(), 0o755 if path.stat().st_mode & 0o100 else 0o644)
-        for path in paths
-    }
+    files: Files = {}
+    for path in sorted(folder.rglob("*")):
+        if path.is_file() and "__pycache__" not in path.parts:
+            mode = 0o755 if path.stat().st_mode & 0o100 else 0o644
+            files[prefix + path.relative_to(folder).as_posix()] = File(path.read_bytes(), mode)
+    return files
 
 
 def package_files(prefix: str = "") -> Files:
@@ -112,7 +116,9 @@ def build_wheel(wheel_directory: str, config_settings: Settings = None, metadata
     return write_wheel(Path(wheel_directory), package_files()).name
 
 
-def build_editable(wheel_directory: str, config_settings: Settings = None, metadata_directory: str | None = None) -> str:
+def build_editable(
+    wheel_directory: str, config_settings: Settings = None, metadata_directory: str | None = None
+) -> str:
     """Makes a wheel that has Python look for the package here (`pip install --editable`)."""
     return write_wheel(Path(wheel_directory), {"binlogfeed.pth": File(f"{HERE}\n".encode())}).name
 
@@ -121,7 +127,7 @@ def build_sdist(sdist_directory: str, config_settings: Settings = None) -> str:
     """Makes an archive of the sources of the package."""
     stem = f"{told()['name']}-{told()['version']}"
     files = {f"{stem}/PKG-INFO": File(metadata().encode()), **package_files(f"{stem}/")}
-    files.update({f"{stem}/{name}": File((HERE / name).read_bytes()) for name in ("pyproject.toml", "backend.py")})
+    files.update({f"{stem}/{name}": File((HERE / name).read_bytes()) for name in BESIDE})
     return write_tar(Path(sdist_directory) / f"{stem}.tar.gz", files).name
 
 

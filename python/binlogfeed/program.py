@@ -19,7 +19,7 @@ PIPE = 1 << 18
 
 
 def found(program: str | os.PathLike[str]) -> str:
-    """The program's path. One that is named without a folder may be installed together with this package; else it is PATH's."""
+    """The program's path. One that is named without a folder is that installed with this package, or else PATH's."""
     name = os.fspath(program)
     if os.sep in name:
         return name

@@ -42,7 +42,7 @@ class BinLogStreamReader:
       has it, or bytes. Without it a date is None then, and a text or document stays bytes.
     - `naive_timestamps`: whether a TIMESTAMP, which is in UTC, has no time zone.
     - `raw_values`: whether values stay as a full line has them, but for bytes.
-    - `program`: the program, by its path, or by its name: then one that was installed together with this package, else that on PATH.
+    - `program`: the program, by its path, or by its name: that installed with this package, or else PATH's.
     - `blocking`: whether the reader waits for more at the logs' end, and goes on when they grow. It looks each `interval`
       seconds.
 

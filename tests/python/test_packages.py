@@ -1,0 +1,470 @@
+"""The packages that packaging/build makes: what is in them, and that each is enough for the README's commands."""
+import base64
+import csv
+import gzip
+import hashlib
+import importlib.util
+import os
+import pty
+import re
+import shlex
+import shutil
+import subprocess
+import sys
+import tarfile
+import tempfile
+import textwrap
+import unittest
+import zipfile
+from pathlib import Path
+
+from support import PROGRAM, TOP, running
+
+PARTS = ("README.md", "docs", "examples", "packaging", "python")
+READ = ["read", "examples/shop/binlog.000001", "examples/shop/binlog.000002"]
+README = (TOP / "README.md").read_text(encoding="utf-8")
+# Python writes bytecode, as it does for most users: it must not stand beside the sources.
+USUAL = {name: value for name, value in os.environ.items() if not name.startswith(("PYTHON", "PIP_"))}
+BARE = {"HOME": "/nonexistent", "LC_ALL": "C.UTF-8", "PATH": "/usr/bin:/bin", "PYTHONDONTWRITEBYTECODE": "1"}
+
+
+def copied(folder):
+    """A copy of what the packages are made of."""
+    folder.mkdir()
+    for name in PARTS:
+        if (TOP / name).is_dir():
+            shutil.copytree(TOP / name, folder / name, ignore=shutil.ignore_patterns("__pycache__", "out"))
+        else:
+            shutil.copy2(TOP / name, folder / name)
+    return folder
+
+
+def tree(folder):
+    """All that is in a folder, with the files' bytes."""
+    return {str(path.relative_to(folder)): path.read_bytes() if path.is_file() else None for path in folder.rglob("*")}
+
+
+def ran(command, **options):
+    """What a command prints. It has to end well, and to say nothing on standard error."""
+    ended = subprocess.run(command, capture_output=True, text=True, check=False, **options)
+    if ended.returncode or ended.stderr:
+        raise AssertionError(f"{command}: status {ended.returncode}: {ended.stdout}{ended.stderr}")
+    return ended.stdout
+
+
+def built(checkout, *words, **options):
+    """The files that packaging/build makes: the wheel, the .deb and the .tar.gz."""
+    command = [sys.executable, checkout / "packaging/build", "--program", PROGRAM, *words]
+    return [Path(line) for line in ran(command, env=USUAL, **options).splitlines()]
+
+
+def shell_lines():
+    """The README's commands that read the examples, without the program's name."""
+    lines = re.findall(r"(?m)^ {4}(?:\./)?binlogfeed (\w.* examples/shop/[^|>]*)$", README)
+    return [READ, *(shlex.split(line) for line in lines)]
+
+
+def example():
+    """The README's example for Python. It finds the program by itself."""
+    code = re.search(r"(?m)^ {4}from binlogfeed import .*\n(?: {4}.*\n|\n(?= {4}))+", README)[0]
+    return re.sub(r', program="[^"]*"', "", textwrap.dedent(code)).rstrip("'\n") + "\n"
+
+
+class Package(unittest.TestCase):
+    """Tests with the packages, which are made once."""
+
+    @classmethod
+    def setUpClass(cls):
+        """Makes the packages of a copy of the checkout."""
+        if not shutil.which("dpkg-deb"):
+            raise unittest.SkipTest("there is no dpkg-deb (apt-get install dpkg)")
+        cls.room = Path(tempfile.mkdtemp(prefix="binlogfeed-"))
+        cls.addClassCleanup(shutil.rmtree, cls.room, ignore_errors=True)
+        cls.checkout = copied(cls.room / "checkout")
+        cls.before = tree(cls.checkout)
+        cls.packages = built(cls.checkout, "--out", cls.room / "out")
+        cls.wheel, cls.deb, cls.archive = cls.packages
+        ran(["dpkg-deb", "-x", cls.deb, cls.room / "deb"])
+        with tarfile.open(cls.archive) as archive:
+            archive.extractall(cls.room / "archive")
+        cls.program = cls.room / "deb/usr/bin/binlogfeed"
+        cls.unpacked = cls.room / "archive" / f"binlogfeed-{cls.version()}"
+
+    @classmethod
+    def version(cls):
+        """The version, as the sources have it."""
+        text = (TOP / "python/binlogfeed/version.py").read_text(encoding="utf-8")
+        return re.search(r'(?m)^VERSION = "(.+)"$', text)[1]
+
+    def judge_program(self, program, folder):
+        """The program is the one that was built, and does what the README shows, in a folder with the examples."""
+        self.assertEqual(program.read_bytes(), Path(PROGRAM).read_bytes())
+        lines = (TOP / "examples/shop/read.jsonl").read_text(encoding="utf-8")
+        self.assertEqual(ran([program, *READ], cwd=folder, env=BARE), lines)
+        for words in shell_lines():
+            self.assertEqual(ran([program, *words], cwd=folder, env=BARE), ran([PROGRAM, *words], cwd=TOP))
+
+    def judge_python(self, command, folder, **environment):
+        """The package says its version, and the README's example finds the program and runs."""
+        environment = {**BARE, **environment}
+        for words, said in (
+            (["-m", "binlogfeed", "--version"], f"binlogfeed {self.version()}\n"),
+            (["-c", "import binlogfeed; print(binlogfeed.__version__)"], f"{self.version()}\n"),
+        ):
+            self.assertEqual(ran([*command, *words], env=environment, cwd=folder), said)
+        (self.room / "path").mkdir(exist_ok=True)
+        shutil.copy2(PROGRAM, self.room / "path/binlogfeed")
+        here = {**BARE, "PYTHONPATH": str(TOP / "python"), "PATH": f"{self.room}/path:{BARE['PATH']}"}
+        wanted = ran([sys.executable, "-c", example()], cwd=TOP, env=here)
+        self.assertIn("@binlog.000001", wanted)
+        self.assertEqual(ran([*command, "-c", example()], cwd=folder, env=environment), wanted)
+
+
+class Made(Package):
+    """What is made, and how."""
+
+    def test_nothing_else_is_made(self):
+        self.assertEqual(tree(self.checkout), self.before)
+        self.assertEqual(sorted(self.packages), sorted((self.room / "out").iterdir()))
+
+    def test_the_same_bytes(self):
+        """Another checkout, of another time and under another umask, gives the same packages, beside its sources."""
+        other = copied(self.room / "other")
+        for path in other.rglob("*"):
+            os.utime(path, (1_000_000_000, 1_000_000_000))
+        mask = os.umask(0o077)
+        try:
+            again = built(other)
+        finally:
+            os.umask(mask)
+        self.assertEqual([path.parent for path in again], [other / "packaging/out"] * 3)
+        for path, first in zip(again, self.packages):
+            self.assertEqual((path.name, path.read_bytes() == first.read_bytes()), (first.name, True))
+        shutil.rmtree(other / "packaging/out")
+        self.assertEqual(tree(other), self.before)
+
+    def test_names(self):
+        version = re.escape(self.version())
+        self.assertRegex(self.wheel.name, rf"^binlogfeed-{version}-py3-none-manylinux_2_\d+_x86_64\.whl$")
+        self.assertEqual(self.deb.name, f"binlogfeed_{self.version()}_amd64.deb")
+        self.assertEqual(self.archive.name, f"binlogfeed-{self.version()}-linux-x86_64.tar.gz")
+
+    def test_record(self):
+        """The wheel's list has each of its files, with its digest and its length."""
+        with zipfile.ZipFile(self.wheel) as wheel:
+            content = {name: wheel.read(name) for name in wheel.namelist()}
+        info = f"binlogfeed-{self.version()}.dist-info"
+        rows = list(csv.reader(content[f"{info}/RECORD"].decode().splitlines()))
+        self.assertEqual([name for name, *_ in rows], list(content))
+        for name, digest, length in rows[:-1]:
+            wanted = base64.urlsafe_b64encode(hashlib.sha256(content[name]).digest()).decode().rstrip("=")
+            self.assertEqual((digest, length), (f"sha256={wanted}", str(len(content[name]))))
+        self.assertEqual(rows[-1], [f"{info}/RECORD", "", ""])
+        package = {f"binlogfeed/{path.name}" for path in (TOP / "python/binlogfeed").glob("*.py*")}
+        self.assertEqual({name for name in content if name.startswith("binlogfeed/")}, package)
+
+    def test_version_stands_in_one_place(self):
+        """Another version in version.py is that of all packages."""
+        other = copied(self.room / "other_version")
+        place = other / "python/binlogfeed/version.py"
+        place.write_text(place.read_text(encoding="utf-8").replace(self.version(), "9.8.7"), encoding="utf-8")
+        wheel, deb, archive = made = built(other)
+        wanted = [path.name.replace(self.version(), "9.8.7") for path in self.packages]
+        self.assertEqual([path.name for path in made], wanted)
+        with zipfile.ZipFile(wheel) as packed:
+            self.assertIn("\nVersion: 9.8.7\n", packed.read("binlogfeed-9.8.7.dist-info/METADATA").decode())
+        self.assertEqual(ran(["dpkg-deb", "--field", deb, "Version"]), "9.8.7\n")
+        with tarfile.open(archive) as packed:
+            page = packed.extractfile("binlogfeed-9.8.7/share/man/man1/binlogfeed.1.gz").read()
+            self.assertEqual({name.partition("/")[0] for name in packed.getnames()}, {"binlogfeed-9.8.7"})
+        self.assertIn('"binlogfeed 9.8.7"', gzip.decompress(page).decode().splitlines()[0])
+
+    @unittest.skipUnless(shutil.which("objdump"), "there is no objdump (apt-get install binutils)")
+    def test_least_glibc(self):
+        """Wheel and .deb ask for the greatest version of the symbols, as objdump tells them. So say the documents."""
+        found = re.findall(r"\(?GLIBC_(\d+)\.(\d+)[.\d]*\)?", ran(["objdump", "-T", PROGRAM]))
+        major, minor = max((int(major), int(minor)) for major, minor in found)
+        self.assertIn(f"-manylinux_{major}_{minor}_x86_64.whl", self.wheel.name)
+        self.assertEqual(ran(["dpkg-deb", "--field", self.deb, "Depends"]), f"libc6 (>= {major}.{minor})\n")
+        self.assertIn(f"glibc {major}.{minor} or later", (TOP / "docs/USAGE.md").read_text(encoding="utf-8"))
+
+    def test_refused(self):
+        """What is no program, needs more than glibc, or isn't there makes no package."""
+        script = self.room / "script"
+        script.write_text("#!/bin/sh\n" + "#" * 100)
+        more = bytearray(Path(PROGRAM).read_bytes()).replace(b"\0libc.so.6\0", b"\0libd.so.6\0")
+        (self.room / "more").write_bytes(more)
+        reasons = {"script": "is no program for x86-64", "more": "needs libd.so.6", "none": "isn't there"}
+        for name, said in reasons.items():
+            words = ["--program", self.room / name, "--out", self.room / "refused"]
+            command = [sys.executable, self.checkout / "packaging/build", *words]
+            ended = subprocess.run(command, capture_output=True, text=True, check=False)
+            self.assertEqual((ended.returncode, ended.stdout), (1, ""))
+            self.assertIn(f"{self.room / name} {said}", ended.stderr)
+            self.assertEqual(ended.stderr.count("\n"), 1)
+            self.assertFalse((self.room / "refused").exists())
+
+
+class Archive(Package):
+    """The .tar.gz."""
+
+    def test_commands(self):
+        self.judge_program(self.unpacked / "binlogfeed", self.unpacked)
+        path = f"{self.unpacked}:{BARE['PATH']}"
+        self.judge_python([sys.executable], self.unpacked, PYTHONPATH=str(self.unpacked / "python"), PATH=path)
+
+    def test_content(self):
+        """It has what the checkout has, at the same places, and the program, its manual page and its completions."""
+        content = {name for name, data in tree(self.unpacked).items() if data is not None}
+        sources = {name for name, data in self.before.items() if data is not None and not name.startswith("packaging/")}
+        completions = {"share/bash-completion/completions/binlogfeed", "share/zsh/vendor-completions/_binlogfeed"}
+        self.assertEqual(content - sources, {"binlogfeed", "share/man/man1/binlogfeed.1.gz", *completions})
+        for name in sources:
+            self.assertEqual((self.unpacked / name).read_bytes(), self.before[name])
+            self.assertEqual(os.access(self.unpacked / name, os.X_OK), os.access(TOP / name, os.X_OK), name)
+
+
+class Debian(Package):
+    """The .deb."""
+
+    def test_commands(self):
+        documents = self.room / "deb/usr/share/doc/binlogfeed"
+        self.judge_program(self.program, documents)
+        packages = str(self.room / "deb/usr/lib/python3/dist-packages")
+        path = f"{self.program.parent}:{BARE['PATH']}"
+        self.judge_python([sys.executable], documents, PYTHONPATH=packages, PATH=path)
+
+    def test_fields(self):
+        wanted = {"Package": "binlogfeed", "Version": self.version(), "Architecture": "amd64"}
+        wanted["Recommends"] = "python3 (>= 3.9)"
+        told = ran(["dpkg-deb", "--field", self.deb, *wanted])
+        self.assertEqual(dict(line.split(": ") for line in told.splitlines()), wanted)
+
+    def test_owners_and_modes(self):
+        """All is root's, all may be read, and what runs may be run."""
+        lines = ran(["dpkg-deb", "--contents", self.deb]).splitlines()
+        runs = [line.split()[5] for line in lines if line.startswith("-rwxr-xr-x root/root ")]
+        self.assertLessEqual({"./usr/bin/binlogfeed", "./usr/lib/binlogfeed/whole_lines.py"}, set(runs))
+        for line in lines:
+            self.assertRegex(line, r"^(drwxr-xr-x|-rw[x-]r-[x-]r-[x-]) root/root ")
+
+    def test_documents(self):
+        documents = self.room / "deb/usr/share/doc/binlogfeed"
+        self.assertIn("licence", (documents / "copyright").read_text(encoding="utf-8"))
+        for name in ("README.md", "docs/USAGE.md", "docs/FORMAT.md", "examples/service/README.md"):
+            self.assertEqual((documents / name).read_bytes(), (TOP / name).read_bytes())
+
+    def test_unit(self):
+        """The unit names what the package brings, and apart from these paths it is that of examples/service."""
+        unit = (self.room / "deb/usr/lib/systemd/system/binlogfeed-follow.service").read_text(encoding="utf-8")
+        self.assertNotRegex(unit, "/opt|/usr/local|PYTHONPATH|env python3")
+        own = re.findall(r"/usr/[\w/.-]*binlogfeed[\w/.-]*", unit)
+        self.assertIn("/usr/bin/binlogfeed", own)
+        for path in own:
+            self.assertTrue((self.room / f"deb{path}").exists(), path)
+        original = (TOP / "examples/service/binlogfeed-follow.service").read_text(encoding="utf-8")
+        pairs = [(old, new) for old, new in zip(original.splitlines(), unit.splitlines()) if old != new]
+        self.assertEqual((len(pairs), original.count("\n")), (6, unit.count("\n")))
+
+    @unittest.skipUnless(shutil.which("systemd-analyze"), "there is no systemd-analyze (apt-get install systemd)")
+    def test_systemd_takes_the_unit(self):
+        if not os.access("/usr/bin/python3", os.X_OK):
+            self.skipTest("there is no /usr/bin/python3, which the unit names (apt-get install python3)")
+        unit = self.room / "deb/usr/lib/systemd/system/binlogfeed-follow.service"
+        shown = Path(shutil.copy2(unit, self.room))
+        shown.write_text(shown.read_text().replace("/usr/lib/binlogfeed", str(self.room / "deb/usr/lib/binlogfeed")))
+        self.assertEqual(ran(["systemd-analyze", "verify", shown]), "")
+
+
+@unittest.skipUnless(importlib.util.find_spec("ensurepip"), "there is no ensurepip (apt-get install python3-venv)")
+class Installed(Package):
+    """What pip installs, into a fresh venv that nobody has activated. Nothing is downloaded."""
+
+    @classmethod
+    def setUpClass(cls):
+        """Makes the venv."""
+        super().setUpClass()
+        cls.venv = cls.room / "venv"
+        ran([sys.executable, "-m", "venv", cls.venv], env=USUAL)
+        cls.python = [cls.venv / "bin/python"]
+
+    def pip(self, *words):
+        """Runs pip."""
+        command = [*self.python, "-m", "pip", "--quiet", "--no-input", "--disable-pip-version-check", *words]
+        return ran(command, env={**USUAL, "PIP_NO_INDEX": "1", "PIP_ROOT_USER_ACTION": "ignore"}, cwd=self.room)
+
+    def install(self, *words):
+        """Installs a package for the time of a test."""
+        self.pip("install", "--no-deps", "--force-reinstall", *words)
+
+    def tearDown(self):
+        """Takes it away again."""
+        subprocess.run([*self.python, "-m", "pip", "uninstall", "--yes", "binlogfeed"], capture_output=True, check=False)
+
+    def test_wheel(self):
+        empty = set(tree(self.venv))
+        self.install(self.wheel)
+        self.judge_program(self.venv / "bin/binlogfeed", TOP)
+        self.judge_python(self.python, TOP)
+        self.pip("check")
+        self.pip("uninstall", "--yes", "binlogfeed")
+        self.assertEqual({name for name in tree(self.venv) if "__pycache__" not in name} - empty, set())
+
+    def test_sources(self):
+        """The sources leave nothing beside them when they are installed, and find the program on PATH."""
+        for words in (["--no-build-isolation"], ["--editable"], []):
+            self.install(*words, self.checkout / "python")
+            self.assertEqual(tree(self.checkout), self.before, words)
+            self.judge_python(self.python, TOP, PATH=f"{self.program.parent}:{BARE['PATH']}")
+        place = ran([*self.python, "-c", "print(__import__('binlogfeed').__file__)"], env=BARE)
+        self.assertTrue(Path(place).is_relative_to(self.venv), place)
+
+    def test_package_of_sources(self):
+        """An archive of the sources can be made, and is enough to install them."""
+        code = "import sys; sys.dont_write_bytecode = True; import backend; print(backend.build_sdist(sys.argv[1]))"
+        name = ran([sys.executable, "-c", code, self.room], cwd=self.checkout / "python", env=USUAL).strip()
+        self.assertEqual(name, f"binlogfeed-{self.version()}.tar.gz")
+        self.install(self.room / name)
+        self.judge_python(self.python, TOP, PATH=f"{self.program.parent}:{BARE['PATH']}")
+
+    def test_own_program_goes_first(self):
+        """The program that was installed with the package goes before PATH's; a path is taken as it is."""
+        self.install(self.wheel)
+        other = self.room / "elsewhere"
+        other.mkdir()
+        (other / "binlogfeed").write_text("#!/bin/sh\nexit 9\n")
+        (other / "binlogfeed").chmod(0o755)
+        code = "from binlogfeed.program import found; print(found('binlogfeed'), found('./binlogfeed'), found('sh'))"
+        shown = ran([*self.python, "-c", code], env={**BARE, "PATH": f"{other}:{BARE['PATH']}"}, cwd=other)
+        self.assertEqual(shown.split(), [str(self.venv / "bin/binlogfeed"), "./binlogfeed", "sh"])
+
+
+def helps():
+    """The options of each subcommand, and of the program alone (`""`), as its help has them."""
+    def options(*words):
+        part = ran([PROGRAM, *words, "--help"]).partition("\nOptions:\n")[2].partition("\n\n")[0]
+        return set(re.findall(r"(?m)^ {2}(?: {4}|-\w, )(--[\w-]+)", part))
+
+    part = ran([PROGRAM, "--help"]).partition("\nCommands:\n")[2].partition("\n\n")[0]
+    commands = re.findall(r"(?m)^ {2}(\w+) ", part)
+    return {"": options(), **{name: options(name) for name in commands if name != "help"}}
+
+
+class FromHelp(Package):
+    """The manual page and the completions, which are made from the program's help."""
+
+    @classmethod
+    def setUpClass(cls):
+        """Finds them in the .deb."""
+        super().setUpClass()
+        cls.helps = helps()
+        share = cls.room / "deb/usr/share"
+        cls.page = gzip.decompress((share / "man/man1/binlogfeed.1.gz").read_bytes()).decode()
+        cls.bash = share / "bash-completion/completions/binlogfeed"
+        cls.zsh = share / "zsh/vendor-completions/_binlogfeed"
+
+    def test_helps(self):
+        """The tests below see what there is to see."""
+        self.assertLessEqual({"", "read", "history", "transactions"}, set(self.helps))
+        self.assertLessEqual({"--help", "--from", "--only-tables", "--follow"}, self.helps["read"])
+        self.assertEqual(self.helps[""], {"--help"})
+
+    def test_manual(self):
+        """Each subcommand has its part, with all that its help says."""
+        page = self.page
+        for written, shown in {r"\-": "-", r"\(aq": "'", r"\(ga": "`", r"\(ha": "^", r"\(ti": "~", r"\&": ""}.items():
+            page = page.replace(written, shown)
+        for name, options in self.helps.items():
+            part = page if not name else page.partition(f"\n.SH BINLOGFEED {name.upper()}\n")[2].partition("\n.SH ")[0]
+            for option in options:
+                self.assertRegex(part, rf"(?m)^\.TP\n\.B (-\w, )?{option}( <\w+>)?\n\S")
+            for line in ran([PROGRAM, *name.split(), "--help"]).splitlines():
+                if line not in ("Commands:", "Arguments:", "Options:"):
+                    for piece in re.split(r" {2,}", line.removeprefix("Usage: ").strip()):
+                        self.assertIn(piece.rstrip(":").lower(), part.lower())
+
+    @unittest.skipUnless(shutil.which("man"), "there is no man (apt-get install man-db)")
+    def test_man_takes_it(self):
+        (self.room / "page.1").write_text(self.page)
+        environment = {**BARE, "MANROFFSEQ": "", "MANWIDTH": "80"}
+        words = ["--warnings", "--encoding=UTF-8", "--local-file", "--troff-device=utf8", "--ditroff"]
+        self.assertIn("BINLOGFEED", ran(["man", *words, self.room / "page.1"], env=environment))
+
+    @unittest.skipUnless(shutil.which("mandoc"), "there is no mandoc (apt-get install mandoc)")
+    def test_mandoc_takes_it(self):
+        (self.room / "page.1").write_text(self.page)
+        self.assertEqual(ran(["mandoc", "-Tlint", "-Wwarning", self.room / "page.1"]), "")
+
+    def offered(self, *words):
+        """What the completion for bash offers for the last of these words."""
+        listed = " ".join(map(shlex.quote, ["binlogfeed", *words]))
+        script = f'COMP_WORDS=({listed}); COMP_CWORD={len(words)}; _binlogfeed; printf "%s\\n" "${{COMPREPLY[@]}}"'
+        shown = ran(["bash", "--norc", "-uc", f"source {shlex.quote(str(self.bash))}; {script}"], env=BARE)
+        return shown.split()
+
+    def test_bash(self):
+        self.assertEqual(self.offered("re"), ["read"])
+        self.assertEqual(self.offered("read", "--on"), ["--only-events", "--only-tables", "--only-schemas"])
+        self.assertEqual(set(self.offered("")), {*self.helps, "help", "-h", "--help"} - {""})
+        self.assertEqual(set(self.offered("help", "")), {*self.helps, "help"} - {""})
+        for name in self.helps.keys() - {""}:
+            self.assertEqual(set(self.offered(name, "-")), {*self.helps[name], "-h"})
+            self.assertEqual(set(self.offered(name, "FILE", "--")), self.helps[name])
+        # Behind an option that takes a value there is nothing to offer, behind a flag there is.
+        self.assertEqual(self.offered("read", "--from", "-"), [])
+        self.assertIn("--from", self.offered("read", "--full", "-"))
+
+    def test_zsh_has_all(self):
+        text = self.zsh.read_text(encoding="utf-8")
+        self.assertTrue(text.startswith("#compdef binlogfeed\n"))
+        for name in [*self.helps.keys() - {""}, "help"]:
+            self.assertRegex(text, rf"(?m)^    '?{name}:")
+        for name in self.helps.keys() - {""}:
+            part = re.search(rf"(?s)\n    {name}\)\n(.*?);;\n", text)[1]
+            self.assertEqual(set(re.findall(r"(?m)^.*?'(?:\([^)]*\))?(--[\w-]+)[=\[]", part)), self.helps[name])
+            self.assertIn("'*:file:_files'", part)
+
+    def typed(self, shell, setup, line):
+        """Types a line at a shell, behind others, and answers the words with which the program was run by it."""
+        folder = Path(tempfile.mkdtemp(dir=self.room))
+        (folder / "logs").mkdir()
+        for name in ("logs/binlog.000001", "logs/two words"):
+            (folder / name).touch()
+        (folder / "binlogfeed").write_text("#!/bin/sh\nprintf '%s\\n' \"$@\" > ../words\n")
+        (folder / "binlogfeed").chmod(0o755)
+        environment = {**BARE, "PATH": f"{folder}:{BARE['PATH']}", "PS1": "ready> ", "TERM": "xterm"}
+        parent, child = pty.openpty()
+        options = {"stdin": child, "stdout": child, "stderr": child, "env": environment, "cwd": folder / "logs"}
+        with running(shell, start_new_session=True, **options) as process:
+            os.close(child)
+            with open(parent, "r+b", buffering=0) as terminal:
+                for text in (*setup, line, "exit"):
+                    shown = b""
+                    while b"ready> " not in shown:
+                        shown += terminal.read(1024)
+                    terminal.write(f"{text}\n".encode())
+                process.wait()
+        return (folder / "words").read_text(encoding="utf-8").splitlines()
+
+    # What is typed, and what the program is then given. A tab completes.
+    TYPED = (
+        ("binlogfeed re\t", ["read"]),
+        ("binlogfeed tr\tbinl\t", ["transactions", "binlog.000001"]),
+        ("binlogfeed read --fo\tbinl\t", ["read", "--follow", "binlog.000001"]),
+        ("binlogfeed history --sch\tshop --k\t1 two\t", ["history", "--schema", "shop", "--key", "1", "two words"]),
+    )
+
+    def test_bash_at_a_terminal(self):
+        shell, setup = ["bash", "--norc", "--noprofile", "-i"], [f"source {shlex.quote(str(self.bash))}"]
+        for line, words in self.TYPED:
+            self.assertEqual(self.typed(shell, setup, line), words)
+        # A value is no file.
+        self.assertEqual(self.typed(shell, setup, "binlogfeed read --from binl\t"), ["read", "--from", "binl"])
+
+    @unittest.skipUnless(shutil.which("zsh"), "there is no zsh (apt-get install zsh)")
+    def test_zsh_at_a_terminal(self):
+        setup = [f"fpath=({shlex.quote(str(self.zsh.parent))} $fpath); autoload -Uz compinit; compinit -u -D"]
+        for line, words in self.TYPED:
+            # zsh puts the = behind an option that has a value.
+            joined = " ".join(words).replace("--schema ", "--schema=").replace("--key ", "--key=")
+            self.assertEqual(" ".join(self.typed(["zsh", "-f", "-i"], setup, line)), joined)
