@@ -63,8 +63,9 @@ def parsed(text: str) -> Help:
 
 
 def asked(program: Path, *words: str) -> Help:
-    """The help that the program gives for these words."""
-    return parsed(subprocess.run([program, *words, "--help"], capture_output=True, text=True, check=True).stdout)
+    """The help that the program gives for these words. It calls itself by the name that it is started with."""
+    command = ["binlogfeed", *words, "--help"]
+    return parsed(subprocess.run(command, executable=program, capture_output=True, text=True, check=True).stdout)
 
 
 class Program(NamedTuple):

@@ -60,7 +60,7 @@ def built(checkout, *words, **options):
 
 def shell_lines():
     """The README's commands that read the examples, without the program's name."""
-    lines = re.findall(r"(?m)^ {4}(?:\./)?binlogfeed (\w.* examples/shop/[^|>]*)$", README)
+    lines = re.findall(r"(?m)^ {4}(?:\./)?binlogfeed (\w[^|>$\n]* examples/shop/[^|>$\n]*)$", README)
     return [READ, *(shlex.split(line) for line in lines)]
 
 
@@ -339,15 +339,20 @@ class Installed(Package):
         self.assertEqual(shown.split(), [str(self.venv / "bin/binlogfeed"), "./binlogfeed", "sh"])
 
 
+def help_of(name):
+    """The help of a subcommand, or of the program alone (`""`)."""
+    return ran(["binlogfeed", *name.split(), "--help"], executable=PROGRAM)
+
+
 def helps():
     """The options of each subcommand, and of the program alone (`""`), as its help has them."""
-    def options(*words):
-        part = ran([PROGRAM, *words, "--help"]).partition("\nOptions:\n")[2].partition("\n\n")[0]
+    def options(name):
+        part = help_of(name).partition("\nOptions:\n")[2].partition("\n\n")[0]
         return set(re.findall(r"(?m)^ {2}(?: {4}|-\w, )(--[\w-]+)", part))
 
-    part = ran([PROGRAM, "--help"]).partition("\nCommands:\n")[2].partition("\n\n")[0]
+    part = help_of("").partition("\nCommands:\n")[2].partition("\n\n")[0]
     commands = re.findall(r"(?m)^ {2}(\w+) ", part)
-    return {"": options(), **{name: options(name) for name in commands if name != "help"}}
+    return {"": options(""), **{name: options(name) for name in commands if name != "help"}}
 
 
 class FromHelp(Package):
@@ -378,7 +383,7 @@ class FromHelp(Package):
             part = page if not name else page.partition(f"\n.SH BINLOGFEED {name.upper()}\n")[2].partition("\n.SH ")[0]
             for option in options:
                 self.assertRegex(part, rf"(?m)^\.TP\n\.B (-\w, )?{option}( <\w+>)?\n\S")
-            for line in ran([PROGRAM, *name.split(), "--help"]).splitlines():
+            for line in help_of(name).splitlines():
                 if line not in ("Commands:", "Arguments:", "Options:"):
                     for piece in re.split(r" {2,}", line.removeprefix("Usage: ").strip()):
                         self.assertIn(piece.rstrip(":").lower(), part.lower())
