@@ -199,7 +199,7 @@ class BinLogStreamReader:
         if self._blocking or is_place or (self._resume is None and self._start.file is not None):
             if not paths:
                 raise WordsRefused("binlogfeed: no file is given")
-            logs = paths[0] if is_place else [pathlib.Path(path) for path in paths]
+            logs = paths[0] if is_place else _with_start([pathlib.Path(path) for path in paths], self._start)
             watch = Watch(logs, [*self._command, "--follow"], self._start)
             self._run, blocks = watch, self._watched(watch)
         else:
@@ -320,6 +320,13 @@ def _start(resume: str | None, resume_stream: bool, log_file: str | None, log_po
         return Place()
     is_within = resume_stream and log_pos is not None and log_pos > FIRST_EVENT
     return Place(log_file, None, f"{log_pos}.0@{log_file}" if is_within else None)
+
+
+def _with_start(paths: list[pathlib.Path], start: Place) -> list[pathlib.Path]:
+    """The files, where the one in which the reader begins is among them."""
+    if start.file is not None and start.file not in (path.name for path in paths):
+        raise TokenRefused("binlogfeed: token refused: TokenNoFile", "TokenNoFile")
+    return paths
 
 
 def _is_behind_transactions(fault: LogFault) -> bool:

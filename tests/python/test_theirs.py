@@ -10,6 +10,7 @@ import unittest
 from pathlib import Path
 
 from binlogfeed import (
+    BinlogfeedError,
     BinLogStreamReader,
     DeleteRowsEvent,
     GtidEvent,
@@ -217,8 +218,14 @@ class Events(FolderTest):
         """Without `resume_stream` the file is read from its beginning."""
         for options in ({"log_file": "binlog.000002"}, {"log_file": "binlog.000002", "log_pos": 935}):
             self.assertEqual(next(reader(SHOP, **options)).token, "198.1@binlog.000002")
-        with self.assertRaises(TokenRefused):
+        with self.assertRaises(TokenRefused) as caught:
             next(reader(SHOP, resume_stream=True, log_file="binlog.000002", log_pos=936))
+        self.assertEqual(caught.exception.name, "TokenNoTransaction")
+        for files in (SHOP, [], str(SHOP[0])):
+            for options in ({}, {"blocking": True}):
+                with self.assertRaises(BinlogfeedError) as caught:
+                    next(reader(files, log_file="binlog.000003", **options))
+                self.assertIn(caught.exception.line.rpartition(" ")[2], ("TokenNoFile", "given"))
         for options in ({"resume_stream": True}, {"log_pos": 4}, {"resume": "198.1@binlog.000002", "log_file": "binlog.000002"}):
             with self.assertRaises(ValueError):
                 reader(SHOP, **options)
