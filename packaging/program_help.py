@@ -65,7 +65,10 @@ def parsed(text: str) -> Help:
 def asked(program: Path, *words: str) -> Help:
     """The help that the program gives for these words. It calls itself by the name that it is started with."""
     command = ["binlogfeed", *words, "--help"]
-    return parsed(subprocess.run(command, executable=program, capture_output=True, text=True, check=True).stdout)
+    ended = subprocess.run(command, executable=program, capture_output=True, text=True, check=False)
+    if ended.returncode:
+        raise ValueError(f"{program} tells no help: {ended.stderr.strip()}")
+    return parsed(ended.stdout)
 
 
 class Program(NamedTuple):

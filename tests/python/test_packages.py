@@ -52,10 +52,10 @@ def ran(command, **options):
     return ended.stdout
 
 
-def built(checkout, *words, **options):
-    """The files that packaging/build makes: the wheel, the .deb and the .tar.gz."""
+def built(checkout, *words):
+    """The files that packaging/build makes: the wheel, the .tar.gz and the .deb."""
     command = [sys.executable, checkout / "packaging/build", "--program", PROGRAM, *words]
-    return [Path(line) for line in ran(command, env=USUAL, **options).splitlines()]
+    return [Path(line) for line in ran(command, env=USUAL).splitlines()]
 
 
 def shell_lines():
@@ -83,7 +83,7 @@ class Package(unittest.TestCase):
         cls.checkout = copied(cls.room / "checkout")
         cls.before = tree(cls.checkout)
         cls.packages = built(cls.checkout, "--out", cls.room / "out")
-        cls.wheel, cls.deb, cls.archive = cls.packages
+        cls.wheel, cls.archive, cls.deb = cls.packages
         ran(["dpkg-deb", "-x", cls.deb, cls.room / "deb"])
         with tarfile.open(cls.archive) as archive:
             archive.extractall(cls.room / "archive")
@@ -127,6 +127,13 @@ class Made(Package):
         self.assertEqual(tree(self.checkout), self.before)
         self.assertEqual(sorted(self.packages), sorted((self.room / "out").iterdir()))
 
+    def test_without_dpkg(self):
+        """Where there is no dpkg-deb, the other two are made."""
+        command = [sys.executable, self.checkout / "packaging/build", "--program", PROGRAM, "--out", self.room / "two"]
+        ended = subprocess.run(command, env={"PATH": ""}, capture_output=True, text=True, check=False)
+        self.assertEqual((ended.returncode, ended.stderr), (0, "no .deb is made: dpkg-deb isn't there\n"))
+        self.assertEqual(sorted(path.name for path in (self.room / "two").iterdir()), [self.archive.name, self.wheel.name])
+
     def test_the_same_bytes(self):
         """Another checkout, of another time and under another umask, gives the same packages, beside its sources."""
         other = copied(self.room / "other")
@@ -168,7 +175,7 @@ class Made(Package):
         other = copied(self.room / "other_version")
         place = other / "python/binlogfeed/version.py"
         place.write_text(place.read_text(encoding="utf-8").replace(self.version(), "9.8.7"), encoding="utf-8")
-        wheel, deb, archive = made = built(other)
+        wheel, archive, deb = made = built(other)
         wanted = [path.name.replace(self.version(), "9.8.7") for path in self.packages]
         self.assertEqual([path.name for path in made], wanted)
         with zipfile.ZipFile(wheel) as packed:
@@ -194,7 +201,9 @@ class Made(Package):
         script.write_text("#!/bin/sh\n" + "#" * 100)
         more = bytearray(Path(PROGRAM).read_bytes()).replace(b"\0libc.so.6\0", b"\0libd.so.6\0")
         (self.room / "more").write_bytes(more)
+        shutil.copy2("/bin/false", self.room / "false")
         reasons = {"script": "is no program for x86-64", "more": "needs libd.so.6", "none": "isn't there"}
+        reasons["false"] = "tells no help"
         for name, said in reasons.items():
             words = ["--program", self.room / name, "--out", self.room / "refused"]
             command = [sys.executable, self.checkout / "packaging/build", *words]
@@ -247,6 +256,17 @@ class Debian(Package):
         self.assertLessEqual({"./usr/bin/binlogfeed", "./usr/lib/binlogfeed/whole_lines.py"}, set(runs))
         for line in lines:
             self.assertRegex(line, r"^(drwxr-xr-x|-rw[x-]r-[x-]r-[x-]) root/root ")
+
+    def test_bytecode_goes(self):
+        """An upgrade takes the old bytecode away, which has the time of the new sources."""
+        ran(["dpkg-deb", "--control", self.deb, self.room / "control"])
+        self.assertEqual({path.name for path in (self.room / "control").iterdir()}, {"control", "postinst", "prerm"})
+        (folder,) = re.findall(r"rm -rf /(.*)/__pycache__$", (self.room / "control/prerm").read_text(), re.MULTILINE)
+        self.assertTrue((self.room / "deb" / folder / "__init__.py").is_file())
+        for name in ("postinst", "prerm"):
+            self.assertTrue(os.access(self.room / "control" / name, os.X_OK))
+        # Nothing is installed here that it could compile: it does nothing, and ends well.
+        ran([self.room / "control/postinst", "configure"], env={"PATH": ""})
 
     def test_documents(self):
         documents = self.room / "deb/usr/share/doc/binlogfeed"
