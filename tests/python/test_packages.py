@@ -24,7 +24,8 @@ PARTS = ("README.md", "docs", "examples", "packaging", "python")
 READ = ["read", "examples/shop/binlog.000001", "examples/shop/binlog.000002"]
 README = (TOP / "README.md").read_text(encoding="utf-8")
 # Python writes bytecode, as it does for most users: it must not stand beside the sources.
-USUAL = {name: value for name, value in os.environ.items() if not name.startswith(("PYTHON", "PIP_"))}
+SET_ASIDE = ("PYTHON", "PIP_", "SOURCE_DATE_EPOCH")
+USUAL = {name: value for name, value in os.environ.items() if not name.startswith(SET_ASIDE)}
 BARE = {"HOME": "/nonexistent", "LC_ALL": "C.UTF-8", "PATH": "/usr/bin:/bin", "PYTHONDONTWRITEBYTECODE": "1"}
 
 
@@ -52,10 +53,10 @@ def ran(command, **options):
     return ended.stdout
 
 
-def built(checkout, *words):
+def built(checkout, *words, **environment):
     """The files that packaging/build makes: the wheel, the .tar.gz and the .deb."""
     command = [sys.executable, checkout / "packaging/build", "--program", PROGRAM, *words]
-    return [Path(line) for line in ran(command, env=USUAL).splitlines()]
+    return [Path(line) for line in ran(command, env={**USUAL, **environment}).splitlines()]
 
 
 def shell_lines():
@@ -170,6 +171,16 @@ class Made(Package):
         package = {f"binlogfeed/{path.name}" for path in (TOP / "python/binlogfeed").iterdir() if path.is_file()}
         self.assertEqual({name for name in content if name.startswith("binlogfeed/")}, package)
 
+    def test_one_time(self):
+        """All that is packed has one time, which may be given."""
+        wheel, archive, deb = built(self.checkout, "--out", self.room / "timed", SOURCE_DATE_EPOCH="1600000000")
+        with zipfile.ZipFile(wheel) as packed:
+            self.assertEqual({entry.date_time for entry in packed.infolist()}, {(2020, 9, 13, 12, 26, 40)})
+        with tarfile.open(archive) as packed:
+            self.assertEqual({entry.mtime for entry in packed}, {1_600_000_000})
+        lines = ran(["dpkg-deb", "--contents", deb], env={**BARE, "TZ": "UTC"}).splitlines()
+        self.assertEqual({" ".join(line.split()[3:5]) for line in lines}, {"2020-09-13 12:26"})
+
     def test_version_stands_in_one_place(self):
         """Another version in version.py is that of all packages."""
         other = copied(self.room / "other_version")
@@ -201,9 +212,12 @@ class Made(Package):
         script.write_text("#!/bin/sh\n" + "#" * 100)
         more = bytearray(Path(PROGRAM).read_bytes()).replace(b"\0libc.so.6\0", b"\0libd.so.6\0")
         (self.room / "more").write_bytes(more)
+        other = bytearray(Path(PROGRAM).read_bytes())
+        other[18:20] = b"\xb7\0"  # a program for aarch64
+        (self.room / "other_machine").write_bytes(other)
         shutil.copy2("/bin/false", self.room / "false")
         reasons = {"script": "is no program for x86-64", "more": "needs libd.so.6", "none": "isn't there"}
-        reasons["false"] = "tells no help"
+        reasons.update({"false": "tells no help", "other_machine": "is no program for x86-64"})
         for name, said in reasons.items():
             words = ["--program", self.room / name, "--out", self.room / "refused"]
             command = [sys.executable, self.checkout / "packaging/build", *words]
