@@ -1,32 +1,28 @@
-"""A connection to PostgreSQL through its program psql: as much of psycopg's interface as the replica uses."""
+"""A connection to PostgreSQL through its program psql."""
 from __future__ import annotations
 
 import contextlib
 import re
 import subprocess
-from collections.abc import Sequence
-from typing import Any, NamedTuple
+import tempfile
 
-# psql prints this line behind what a statement answered.
+# psql prints this line behind what a text of statements answered.
 DONE = "\x01"
 # What a command says of the rows that it changed.
-CHANGED = re.compile(r"(?:INSERT 0|UPDATE|DELETE) (\d+)")
-MARK = re.compile("%[%s]")
+CHANGED = re.compile(r"(?:INSERT 0|UPDATE|DELETE|COPY) (\d+)")
+# What psql says of an error of the server, with the error's code.
+SAID = re.compile(r"(?:ERROR|FATAL|PANIC):  ([0-9A-Z]{5}): (.*(?:\nDETAIL: .*)?)")
+# psql ends with this status where a statement is refused.
+REFUSED = 3
 
 
 class PsqlError(Exception):
-    """psql ended, and says why on standard error; or a value is none that PostgreSQL has."""
+    """psql ended. `state` is the code of the server's error; None where the server gave none."""
 
-
-class Answer(NamedTuple):
-    """What a statement answered. A row is a line: the replica asks for one column, whose values have no line feeds."""
-
-    rowcount: int
-    rows: list[tuple[str]]
-
-    def fetchall(self) -> list[tuple[str]]:
-        """The rows."""
-        return self.rows
+    def __init__(self, line: str, state: str | None) -> None:
+        """An error with its line."""
+        super().__init__(line)
+        self.state = state
 
 
 class Connection:
@@ -34,61 +30,61 @@ class Connection:
 
     def __init__(self, words: str) -> None:
         """Connects."""
+        # A file takes what psql says on standard error, so that it never waits for a reader.
+        self._said = tempfile.TemporaryFile("w+", encoding="utf-8", errors="replace")
+        settings = ("ON_ERROR_STOP=1", "VERBOSITY=verbose", "SHOW_CONTEXT=never")
         self._process = subprocess.Popen(
-            ["psql", "-X", "-A", "-t", "-v", "ON_ERROR_STOP=1", "-d", words],
+            ["psql", "-X", "-A", "-t", *(word for setting in settings for word in ("-v", setting)), "-d", words],
             stdin=subprocess.PIPE,
             stdout=subprocess.PIPE,
+            stderr=self._said,
             encoding="utf-8",
         )
-        self.execute("SET standard_conforming_strings = on")
-        self.execute("SET client_encoding = 'UTF8'")
-        self.execute("SET client_min_messages = warning")
 
-    def execute(self, statement: str, values: Sequence[Any] = ()) -> Answer:
-        """Carries out a statement."""
-        left = iter(values)
-        text = MARK.sub(lambda mark: "%" if mark[0] == "%%" else literal(next(left)), statement) if values else statement
-        self._send(text)
-        return self._answer()
+    def run(self, statements: list[str]) -> list[int]:
+        """Carries out statements. Answers how many rows each has changed; -1 of one that changes none."""
+        found = (CHANGED.fullmatch(line) for line in self._answer(";\n".join(statements)))
+        return [int(changed[1]) if changed else -1 for changed in found]
+
+    def copy(self, statement: str, rows: str) -> int:
+        """Carries out a COPY from lines of text. Answers how many rows it has put in."""
+        (line,) = self._answer(f"{statement};\n{rows}\\.\n")
+        changed = CHANGED.fullmatch(line)
+        return int(changed[1]) if changed else -1
+
+    def query(self, statement: str) -> list[str]:
+        """What a query of one column answers. No value has a line feed."""
+        return self._answer(statement)
 
     def close(self) -> None:
         """Ends psql. A transaction that is open is rolled back."""
         self._process.kill()
         self._process.wait()
-        for pipe in (self._process.stdin, self._process.stdout):
+        for pipe in (self._process.stdin, self._process.stdout, self._said):
             if pipe:
                 with contextlib.suppress(OSError):
                     pipe.close()
 
-    def _send(self, text: str) -> None:
-        """Hands a statement to psql."""
-        assert self._process.stdin is not None
-        try:
+    def _answer(self, text: str) -> list[str]:
+        """What psql prints for a text of statements."""
+        assert self._process.stdin is not None and self._process.stdout is not None
+        with contextlib.suppress(BrokenPipeError):  # it ended, which the reading tells
             self._process.stdin.write(f"{text};\n\\echo '{DONE}'\n")
             self._process.stdin.flush()
-        except BrokenPipeError as error:
-            raise PsqlError("psql has ended") from error
-
-    def _answer(self) -> Answer:
-        """What psql prints up to its mark."""
-        assert self._process.stdout is not None
         lines: list[str] = []
         for line in self._process.stdout:
             if line == DONE + "\n":
-                changed = CHANGED.fullmatch(lines[-1]) if lines else None
-                return Answer(int(changed[1]) if changed else -1, [(text,) for text in lines])
+                return lines
             lines.append(line[:-1])
-        raise PsqlError("psql has ended: its line on standard error says why")
+        raise self._ended()
 
-
-def literal(value: Any) -> str:
-    """A value as PostgreSQL reads it."""
-    if value is None:
-        return "NULL"
-    if isinstance(value, (int, float)):
-        return str(value)
-    if isinstance(value, bytes):
-        return f"'\\x{value.hex()}'::bytea"
-    if "\0" in value:
-        raise PsqlError("PostgreSQL has no text with a zero byte")
-    return "'" + value.replace("'", "''") + "'"
+    def _ended(self) -> PsqlError:
+        """Why psql has ended."""
+        status = self._process.wait()
+        self._said.seek(0)
+        said = self._said.read().strip()
+        error = SAID.search(said)
+        if error:
+            return PsqlError(error[2], error[1])
+        line = said.rpartition("\n")[2] or f"psql has ended with status {status}"
+        return PsqlError(line, None)

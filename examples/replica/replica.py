@@ -6,103 +6,231 @@
 
 postgres takes psycopg where that is installed, else the program psql; psycopg:CONNECTION and psql:CONNECTION name one of them.
 LOGS is the server's index file, the folder that has one, or a pattern in quotes. The tables stand in the target already, by the
-same names and with their primary keys. Each run takes what is new in the logs, and ends.
+same names, with the same columns and with their primary keys. Each run takes what is new in the logs, and ends; with --follow it
+goes on.
 
-Each of the log's transactions is one of the target, which has the place in the log, too. So whenever this process is killed,
+One transaction of the target has whole transactions of the log, and the place behind them. So whenever this process is killed,
 the target has each change up to its place once, and none behind it.
 """
 from __future__ import annotations
 
 import argparse
-import json
+import signal
 import sys
-from collections.abc import Callable, Mapping
-from decimal import Decimal
+import time
+import traceback
 from pathlib import Path
-from typing import Any
+from types import FrameType
 
 sys.path.insert(0, str(Path(__file__).resolve().parents[2] / "python"))
 
-import targets  # noqa: E402
-from binlogfeed import BinLogStreamReader, BinlogfeedError, Place, floats, json_binary, listed, texts, times  # noqa: E402
+from batches import Batcher  # noqa: E402
+from binlogfeed import BinlogfeedError, LogFault, Place  # noqa: E402
+from changes import Change, Changes  # noqa: E402
+from postgres import Postgres  # noqa: E402
+from sqlite import Sqlite  # noqa: E402
+from targets import AwayError, MisfitError, ReplicaError, Target, WrongWordsError  # noqa: E402
+
+ENDS = """exit status:
+  0   the logs are taken to their end, or SIGTERM ended it
+  1   something in a log can't be taken in
+  2   the words are wrong, or neither psycopg nor psql is there
+  3   the kept place is none, or fits no place of the logs
+  4   a log or the target can't be reached, read or written: it may be there again later
+  5   out of memory
+  6   logs that were still to be read are gone
+  7   a change doesn't fit the target
+  70  the program can't be started, or a mistake in this one"""
 
 
-def json_text(raw: bytes) -> str:
-    """The text of a JSON column's document. A DECIMAL or a date inside is a string there."""
-    return json.dumps(json_binary.from_raw(raw), ensure_ascii=False, default=str)
+class Replica:
+    """A target that is kept as a schema's tables are."""
+
+    def __init__(self, target: Target, schema: str, logs: str, program: str, commit_every: int) -> None:
+        """A replica of what the logs have of a schema. A transaction of the target has so many of the log's."""
+        self._target = target
+        self._source = logs, schema
+        self._program = program
+        self._commit_every = commit_every
+        self._batcher = Batcher(target)
+        self._kept = target.place()
+        self._place = Place.from_text(self._kept) if self._kept else Place()
+        self._changes = Changes(logs, schema, self._place, program)
+        # The log's transaction that is being taken, by its place; the token of its last change; and how many are whole before it.
+        self._transaction: str | None = None
+        self._token = ""
+        self._whole = 0
+        # How many transactions are still to be taken change by change.
+        self._alone = 0
+        self._said_none = False
+
+    def catch_up(self) -> None:
+        """Takes what the logs have by now."""
+        while True:
+            try:
+                self._look()
+                return
+            except (MisfitError, BinlogfeedError) as error:
+                is_open = self._transaction is not None
+                self._take_back()
+                if self._alone or not is_open:
+                    raise
+                # An error of a batch doesn't say which change it is of, and whole transactions may stand before it. Taken change
+                # by change, these come in, and the error is that of a change.
+                self._alone = self._commit_every
+
+    def close(self) -> None:
+        """Ends the program."""
+        self._changes.close()
+
+    def _look(self) -> None:
+        """Takes what is new. What isn't whole behind an error is taken back when the target is closed."""
+        self._batcher.alone = self._alone > 0
+        try:
+            for change in self._changes.look():
+                self._take(change)
+        except LogFault as fault:
+            # A log's fault stands behind whole transactions, unless the file changed while it was read.
+            if self._transaction and fault.what != "SourceChanged":
+                self._commit()
+            raise
+        if self._transaction:
+            self._commit()
+        self._keep(self._changes.place)
+        if self._changes.is_empty and not self._said_none:
+            self._said_none = True
+            print(f"replica: no log matches {self._source[0]} yet", file=sys.stderr, flush=True)
+
+    def _take(self, change: Change) -> None:
+        """Takes a change, and ends the transaction before it where it is of another."""
+        position, _, rest = change.token.partition(".")
+        transaction = position + rest[rest.index("@") :]
+        if transaction != self._transaction:
+            if self._transaction is not None:
+                self._whole += 1
+                if self._whole >= self._commit_every or self._alone:
+                    self._commit()
+            if self._whole == 0:
+                self._target.begin(self._kept)
+            self._transaction = transaction
+        self._token = change.token
+        self._batcher.take(change)
+
+    def _commit(self) -> None:
+        """Keeps what was taken, up to the last change."""
+        self._batcher.hand_over()
+        place = self._changes.place_behind(self._token, self._place)
+        text = place.to_text()
+        try:
+            self._target.commit(text)
+        except MisfitError as error:
+            raise MisfitError(f"up to {self._token}: {error}") from error
+        self._place, self._kept = place, text
+        self._transaction, self._whole = None, 0
+        if self._alone:
+            self._alone -= 1
+            self._batcher.alone = self._alone > 0
+
+    def _keep(self, place: Place) -> None:
+        """Keeps the place at the end of a look, which may be in a later log than that of the last change. Without a log there is none."""
+        text = place.to_text()
+        if text != self._kept and place.file is not None:
+            self._target.begin(self._kept)
+            self._target.commit(text)
+            self._place, self._kept = place, text
+
+    def _take_back(self) -> None:
+        """Goes back to the kept place."""
+        self._changes.close()
+        self._batcher.forget()
+        self._target.rollback()
+        self._transaction, self._whole = None, 0
+        if self._target.place() != self._kept:
+            raise AwayError("another process has moved the target on: start again")
+        self._changes = Changes(*self._source, self._place, self._program)
 
 
-CONVERTERS: dict[str, Callable[[Any], Any]] = {
-    "bytes": texts.to_bytes,
-    "date": times.to_date,
-    "datetime": times.to_datetime,
-    "decimal": Decimal,
-    "double": floats.from_raw,
-    "float": floats.shortest,
-    "json": json_text,
-    "time": times.to_time,
-    "timestamp": times.to_timestamp,
-}
+def opened(words: str, schema: str, unfit: str = "error") -> Target:
+    """The target that the command line names."""
+    kind, _, rest = words.partition(":")
+    if kind == "sqlite":
+        return Sqlite(rest, schema, unfit == "null")
+    if kind in ("postgres", "psql", "psycopg"):
+        return Postgres(rest, "" if kind == "postgres" else kind, schema, unfit == "null")
+    raise WrongWordsError(f"no target: {words}")
 
 
-def replicate(
-    target: targets.Target, schema: str, logs: str, convert: Mapping[str, Callable[[Any], Any]], program: str = "binlogfeed"
-) -> None:
-    """Takes what the logs have behind the target's place."""
-    kept = target.place()
-    place = Place.from_text(kept) if kept else Place()
-    rest = place.rest(listed(logs))
-    if not rest:
-        return
-    options = {"only_schemas": [schema], "resume": place.resume, "convert": convert, "program": program}
-    with BinLogStreamReader([log.path for log in rest], **options) as reader:
-        for transaction in reader.transactions():
-            place = place.behind(transaction.token, rest)
-            with target.moved(kept, place.to_text()):
-                for event in transaction:
-                    target.apply(event)
-            kept = place.to_text()
-    end = place.at_end(rest).to_text()
-    if end != kept:
-        with target.moved(kept, end):
-            pass
-
-
-def conversion(word: str) -> tuple[str, Callable[[Any], Any]]:
-    """A column, and what converts it."""
-    column, _, kind = word.rpartition("=")
-    if not column or kind not in CONVERTERS:
-        raise argparse.ArgumentTypeError(f"not TABLE.COLUMN=TYPE: {word}")
-    return column, CONVERTERS[kind]
+def count(word: str) -> int:
+    """A number of transactions."""
+    number = int(word)
+    if number < 1:
+        raise ValueError
+    return number
 
 
 def given_words() -> argparse.Namespace:
     """Reads the command line."""
-    parser = argparse.ArgumentParser(description=__doc__, formatter_class=argparse.RawDescriptionHelpFormatter)
+    form = argparse.RawDescriptionHelpFormatter
+    parser = argparse.ArgumentParser(description=__doc__, epilog=ENDS, formatter_class=form)
     parser.add_argument("target", help="sqlite:FILE, postgres:CONNECTION, psycopg:CONNECTION or psql:CONNECTION")
     parser.add_argument("schema", help="the schema whose tables are kept")
     parser.add_argument("logs", help="where the logs are")
     parser.add_argument("--program", default="binlogfeed", metavar="PATH", help="the program (binlogfeed)")
-    types = ", ".join(CONVERTERS)
+    parser.add_argument("--follow", action="store_true", help="go on when the logs grow, until SIGTERM")
+    parser.add_argument("--interval", type=float, default=1.0, metavar="SECONDS", help="how often to look for more (1)")
     parser.add_argument(
-        "--convert", action="append", default=[], type=conversion, metavar="TABLE.COLUMN=TYPE", help=f"TYPE is one of {types}"
+        "--commit-every", type=count, default=1, metavar="N", help="commit after so many of the log's transactions (1), and behind each look"
+    )
+    parser.add_argument(
+        "--unfit", choices=("error", "null"), default="error", help="what a value becomes that its column can't hold, as 0000-00-00 (error)"
     )
     return parser.parse_args()
 
 
-def main() -> int:
-    """Runs once. The answer is the exit status."""
-    given = given_words()
-    convert = dict(given.convert)
+def keep_up(given: argparse.Namespace) -> None:
+    """Keeps the replica until the logs end, or for ever."""
+    target = opened(given.target, given.schema, given.unfit)
     try:
-        with targets.opened(given.target) as target:
-            replicate(target, given.schema, given.logs, convert, given.program)
+        replica = Replica(target, given.schema, given.logs, given.program, given.commit_every)
+        try:
+            replica.catch_up()
+            while given.follow:
+                time.sleep(given.interval)
+                replica.catch_up()
+        finally:
+            replica.close()
+    finally:
+        target.close()
+
+
+def stop(number: int, frame: FrameType | None) -> None:
+    """Ends the process where SIGTERM comes. What is open is taken back."""
+    sys.exit(0)
+
+
+def main() -> int:
+    """Runs the command. The answer is the exit status."""
+    try:
+        signal.signal(signal.SIGTERM, stop)
+        keep_up(given_words())
     except BinlogfeedError as error:
         print(error.line, file=sys.stderr)
-        return 1
-    except targets.ERRORS as error:
+        return error.status if error.status > 0 else 128 - error.status
+    except ReplicaError as error:
         print(f"replica: {error}", file=sys.stderr)
-        return 1
+        return error.status
+    except MemoryError:
+        print("replica: out of memory", file=sys.stderr)
+        return 5
+    except OSError as error:
+        print(f"replica: {error}", file=sys.stderr)
+        return 4
+    except KeyboardInterrupt:
+        return 130
+    except Exception:
+        # Python's own status would be 1, which says something else.
+        traceback.print_exc()
+        return 70
     return 0
 
 

@@ -1,201 +1,163 @@
-"""The databases that a replica is kept in. A target applies changes, and keeps the place behind them, in one transaction."""
+"""The databases that a replica is kept in: what SQLite and PostgreSQL have in common, and what goes wrong with them."""
 from __future__ import annotations
 
-import contextlib
-import datetime
-import sqlite3
-from collections.abc import Iterable, Iterator, Sequence
-from decimal import Decimal
-from typing import Any
+from typing import Any, NamedTuple
 
-import psql
-from binlogfeed import RowsEvent
-
-try:
-    import psycopg
-except ImportError:  # it isn't installed, or finds no libpq
-    psycopg = None
+from batches import Batch
+from changes import Change, Columns
+from fitting import Converter, UnfitError, or_null
 
 # The table that has the place, in one row.
 PLACE = "binlogfeed_place"
+PLACE_MADE = (
+    f"CREATE TABLE IF NOT EXISTS {PLACE} (nr integer PRIMARY KEY, place text NOT NULL)",
+    f"INSERT INTO {PLACE} (nr, place) VALUES (1, '') ON CONFLICT (nr) DO NOTHING",
+)
 
 
-class TargetError(Exception):
-    """The target isn't what the log's changes were made on, or another process moved it on."""
+class ReplicaError(Exception):
+    """What ends the replica. `status` is the exit status that stands for it."""
+
+    status = 70
 
 
-# What a target that can't go on raises.
-ERRORS = (TargetError, sqlite3.Error, psql.PsqlError, *([psycopg.Error] if psycopg else []))
+class WrongWordsError(ReplicaError):
+    """The target's words are none, or what they need isn't installed."""
+
+    status = 2
+
+
+class AwayError(ReplicaError):
+    """The target can't be reached or written, or another process moved it on. Begun again, it may go on."""
+
+    status = 4
+
+
+class MisfitError(ReplicaError):
+    """A change that doesn't fit the target. It comes back until a person has mended the cause."""
+
+    status = 7
+
+
+class Shape(NamedTuple):
+    """A table as the target has it: its columns with their types, and the columns of its primary key."""
+
+    types: dict[str, str]
+    key: list[str]
+
+
+class Table(NamedTuple):
+    """A table that takes changes: its columns in the log, and what makes of a value what the target's column takes."""
+
+    name: str
+    columns: Columns
+    converters: dict[str, Converter]
+    shape: Shape
+
+    def values(self, image: dict[str, Any], names: tuple[str, ...]) -> tuple[Any, ...]:
+        """The values of some columns of a row, as the target takes them."""
+        converters = self.converters
+        found = []
+        for name in names:
+            value = image[name]
+            convert = converters[name]
+            found.append(value if value is None or convert is None else convert(value))
+        return tuple(found)
 
 
 class Target:
-    """A database. Its subclasses say how a statement is carried out, and how a table's key is found."""
+    """A database. It applies batches of changes, and keeps the place behind them, in one transaction."""
 
-    # What stands for a value in a statement.
-    mark = "?"
+    # Whether a batch may change a row only once, and no row's key.
+    distinct = False
 
-    def __init__(self) -> None:
-        """A target, whose table for the place is made where there is none."""
-        self._keys: dict[str, list[str]] = {}
-        self.execute(f"CREATE TABLE IF NOT EXISTS {PLACE} (nr integer PRIMARY KEY, place text NOT NULL)")
-        self.execute(f"INSERT INTO {PLACE} (nr, place) VALUES (1, '') ON CONFLICT (nr) DO NOTHING")
+    def __init__(self, schema: str, unfit_is_null: bool) -> None:
+        """A target of a schema of the log. What its columns can't hold is NULL there, or ends the run."""
+        self._schema = schema
+        self._unfit_is_null = unfit_is_null
+        self._tables: dict[str, Table] = {}
+        # The columns that a table had in the log when it was met last.
+        self._met: dict[str, Columns] = {}
 
-    def execute(self, statement: str, values: Sequence[Any] = ()) -> int:
-        """Carries out a statement. The answer is how many rows it changed."""
+    def place(self) -> str:
+        """The place that is kept: empty at first."""
         raise NotImplementedError
 
-    def query(self, statement: str, values: Sequence[Any] = ()) -> list[str]:
-        """The first column of what a statement answers."""
+    def begin(self, place: str) -> None:
+        """Begins a transaction. It is refused where the target's place is another.
+
+        A process that was killed may still have a COMMIT on its way. Where that comes first, this place is gone.
+        """
         raise NotImplementedError
 
-    def key(self, table: str) -> list[str]:
-        """The columns of a table's primary key."""
+    def put(self, batch: Batch) -> None:
+        """Makes the changes of a batch. Each has to find the row that the log changed, and no other in its place."""
         raise NotImplementedError
+
+    def flush(self) -> None:
+        """Has all batches carried out that were put."""
+
+    def commit(self, place: str) -> None:
+        """Ends the transaction, with its place."""
+        raise NotImplementedError
+
+    def rollback(self) -> None:
+        """Takes the transaction back. The target's tables may be others afterwards."""
+        self._tables.clear()
 
     def close(self) -> None:
         """Ends the connection. A transaction that is open is rolled back."""
         raise NotImplementedError
 
-    def place(self) -> str:
-        """The place that is kept: empty at first."""
-        return self.query(f"SELECT place FROM {PLACE}")[0]
+    def shape(self, table: str) -> Shape:
+        """A table as the target has it."""
+        raise NotImplementedError
 
-    @contextlib.contextmanager
-    def moved(self, before: str, after: str) -> Iterator[None]:
-        """A transaction that moves the place on, with what is done inside. It changes nothing where the place isn't `before`.
+    def converter(self, log: str, target: str) -> Converter:
+        """What makes of a value of the log's type one of the target's."""
+        raise NotImplementedError
 
-        A process that was killed may still have a COMMIT on its way. Where that comes first, this place is gone.
-        """
-        self.execute("BEGIN")
-        try:
-            if self.execute(f"UPDATE {PLACE} SET place = {self.mark} WHERE place = {self.mark}", [after, before]) != 1:
-                raise TargetError("another process has moved the target on: start again")
-            yield
-            self.execute("COMMIT")
-        except BaseException:
-            with contextlib.suppress(Exception):
-                self.execute("ROLLBACK")
-            raise
+    def table(self, change: Change) -> Table:
+        """The table of a change, which has to have the columns of the target's, and those that it had before."""
+        name, columns = change.table, change.columns
+        known = self._tables.get(name)
+        if known and known.columns == columns:
+            return known
+        met, where = self._met.get(name), f"{self._schema}.{name}"
+        shape = self.shape(name)
+        if not shape.types:
+            raise MisfitError(f"the target has no table {name}, which a change at {change.token} is of")
+        lists = f"in the log it has {listed(columns)}; in the target {listed(tuple(shape.types.items()))}"
+        if met and met != columns:
+            # Begun again, the replica takes the table as it is by then.
+            raise MisfitError(f"the columns of {where} have changed at {change.token}: before, it had {listed(met)}; {lists}")
+        if {column.name for column in columns} != set(shape.types):
+            raise MisfitError(f"the columns of {where} at {change.token} aren't those of the target: {lists}")
+        converters = {column.name: self.converter(column.type, shape.types[column.name]) for column in columns}
+        if self._unfit_is_null:
+            converters = {column: or_null(convert) for column, convert in converters.items()}
+        self._met[name] = columns
+        self._tables[name] = Table(name, columns, converters, shape)
+        return self._tables[name]
 
-    def apply(self, event: RowsEvent) -> None:
-        """Makes a change. It has to find the row that the log changed, and no other in its place."""
-        table = self.name(event.table)
-        if event.before is None:
-            columns = ", ".join(map(self.name, event.after))
-            marks = ", ".join([self.mark] * len(event.after))
-            changed = self.execute(f"INSERT INTO {table} ({columns}) VALUES ({marks})", plain(event.after.values()))
-        else:
-            key = self._key(event.table)
-            which = " AND ".join(f"{self.name(column)} = {self.mark}" for column in key)
-            values = plain(event.before[column] for column in key)
-            if event.after is None:
-                changed = self.execute(f"DELETE FROM {table} WHERE {which}", values)
-            else:
-                columns = ", ".join(f"{self.name(column)} = {self.mark}" for column in event.after)
-                changed = self.execute(f"UPDATE {table} SET {columns} WHERE {which}", [*plain(event.after.values()), *values])
-        if changed != 1:
-            raise TargetError(f"{event!r} changed {changed} rows in place of one")
+    def misfit(self, batch: Batch, reason: str) -> MisfitError:
+        """The error of a batch. That of more than one change isn't said: the replica takes them one by one then."""
+        return MisfitError(f"{self._schema}.{batch.table.name}: the {batch.kind} at {batch.token} {reason}")
 
-    def name(self, name: str) -> str:
-        """A table's or column's name in a statement."""
-        return '"' + name.replace('"', '""') + '"'
-
-    def _key(self, table: str) -> list[str]:
-        """The columns of a table's primary key, asked for once."""
-        if table not in self._keys:
-            self._keys[table] = self.key(table)
-        if not self._keys[table]:
-            raise TargetError(f"the target has no table {table} with a primary key")
-        return self._keys[table]
+    def unfit(self, table: Table, change: Change) -> MisfitError:
+        """The error of a change that has a value which its column can't hold."""
+        for image in (change.after, change.before):
+            for name, value in (image or {}).items():
+                convert = table.converters[name]
+                try:
+                    if convert is not None and value is not None:
+                        convert(value)
+                except UnfitError:
+                    where = f"{self._schema}.{table.name}.{name}"
+                    return MisfitError(f"{where} is {table.shape.types[name]} in the target, and can't hold {value!r} at {change.token}")
+        return MisfitError(f"{self._schema}.{table.name}: a value at {change.token} can't be converted")
 
 
-class Sqlite(Target):
-    """A file of SQLite."""
-
-    def __init__(self, file: str) -> None:
-        """Opens the file."""
-        self._connection = sqlite3.connect(file, isolation_level=None, timeout=60)
-        super().__init__()
-
-    def execute(self, statement: str, values: Sequence[Any] = ()) -> int:
-        """Carries out a statement."""
-        if statement == "BEGIN":
-            statement = "BEGIN IMMEDIATE"
-        return self._connection.execute(statement, values).rowcount
-
-    def query(self, statement: str, values: Sequence[Any] = ()) -> list[str]:
-        """The first column of what a statement answers."""
-        return [row[0] for row in self._connection.execute(statement, values)]
-
-    def key(self, table: str) -> list[str]:
-        """The columns of a table's primary key."""
-        return self.query("SELECT name FROM pragma_table_info(?) WHERE pk > 0 ORDER BY pk", [table])
-
-    def close(self) -> None:
-        """Closes the file."""
-        self._connection.close()
-
-
-class Postgres(Target):
-    """A PostgreSQL server: through psycopg where that is installed, else through the program psql, unless one of them is named."""
-
-    mark = "%s"
-
-    def __init__(self, words: str, client: str = "") -> None:
-        """Connects. The client is `psycopg` or `psql`."""
-        if not client:
-            client = "psycopg" if psycopg else "psql"
-        if client == "psql":
-            self._connection = psql.Connection(words)
-        elif psycopg:
-            self._connection = psycopg.connect(words, autocommit=True)
-        else:
-            raise TargetError("psycopg isn't installed: apt-get install python3-psycopg, or pip install 'psycopg[binary]'")
-        super().__init__()
-
-    def execute(self, statement: str, values: Sequence[Any] = ()) -> int:
-        """Carries out a statement."""
-        return self._connection.execute(statement, values).rowcount
-
-    def query(self, statement: str, values: Sequence[Any] = ()) -> list[str]:
-        """The first column of what a statement answers."""
-        return [row[0] for row in self._connection.execute(statement, values).fetchall()]
-
-    def key(self, table: str) -> list[str]:
-        """The columns of a table's primary key."""
-        return self.query(
-            "SELECT attname FROM pg_index JOIN pg_attribute ON attrelid = indrelid AND attnum = ANY (indkey) "
-            "WHERE indisprimary AND indrelid = to_regclass(quote_ident(%s)) ORDER BY attnum",
-            [table],
-        )
-
-    def name(self, name: str) -> str:
-        """A name in a statement, whose marks begin with a percent sign."""
-        return super().name(name).replace("%", "%%")
-
-    def close(self) -> None:
-        """Ends the connection."""
-        self._connection.close()
-
-
-def plain(values: Iterable[Any]) -> list[Any]:
-    """Values as every target takes them: text for dates, times and decimals."""
-    return [str(value) if isinstance(value, (datetime.date, datetime.timedelta, Decimal)) else value for value in values]
-
-
-@contextlib.contextmanager
-def opened(words: str) -> Iterator[Target]:
-    """The target that the command line names, until it is left."""
-    kind, _, rest = words.partition(":")
-    if kind == "sqlite":
-        target: Target = Sqlite(rest)
-    elif kind == "postgres":
-        target = Postgres(rest)
-    elif kind in ("psql", "psycopg"):
-        target = Postgres(rest, kind)
-    else:
-        raise TargetError(f"no target: {words}")
-    try:
-        yield target
-    finally:
-        target.close()
+def listed(columns: tuple[tuple[str, str], ...]) -> str:
+    """Columns and their types, as a person reads them."""
+    return ", ".join(f"{name} {type_}".rstrip() for name, type_ in sorted(columns))

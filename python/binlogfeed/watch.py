@@ -73,6 +73,11 @@ class Watch:
         return self._place
 
     @property
+    def told(self) -> list[Log]:
+        """The logs of the last look in which something had changed. All lines that it gave are of these."""
+        return list(self._told)
+
+    @property
     def last_time(self) -> int | None:
         """The time in the log of the last line that was given; None before the first."""
         return None if self._last is None else last_members(self._last)["timestamp"]

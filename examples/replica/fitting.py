@@ -1,0 +1,221 @@
+"""Makes of a value of the log what a column of the target takes, by the types of both."""
+from __future__ import annotations
+
+import base64
+import datetime
+import json
+from collections.abc import Callable
+from decimal import Decimal
+from typing import Any, Optional
+
+from binlogfeed import floats, json_binary
+
+# What makes another value; None where the value may stay as it is. NULL is never converted.
+Converter = Optional[Callable[[Any], Any]]
+
+INTEGERS = {"tinyint", "smallint", "mediumint", "int", "bigint"}
+BYTES = {"binary", "varbinary", "tinyblob", "blob", "mediumblob", "longblob", "geometry"}
+# PostgreSQL's types of days and moments, which have no 0000-00-00.
+MOMENTS = {"date", "timestamp without time zone", "timestamp with time zone"}
+EPOCH = datetime.datetime(1970, 1, 1)
+# The greatest whole number of SQLite.
+GREATEST = (1 << 63) - 1
+
+
+class UnfitError(ValueError):
+    """A value that a column of the target can't hold."""
+
+
+def for_sqlite(log: str, target: str) -> Converter:
+    """What a column of SQLite takes, by its declared type."""
+    kind = word(log)
+    affinity = affinity_of(target)
+    if kind == "bit" or log == "bigint unsigned":
+        return whole_or_text if affinity in ("TEXT", "BLOB") else whole
+    if kind == "year" and affinity != "TEXT":
+        return int
+    return {"float": floats.shortest, "double": floats.from_raw, "json": json_text, "timestamp": moment}.get(kind)
+
+
+def for_postgres(log: str, target: str) -> Converter:
+    """What a column of PostgreSQL takes: a text in PostgreSQL's spelling of its type."""
+    kind = word(log)
+    if kind in INTEGERS or kind == "bit":
+        return bits(log, target) if kind == "bit" else truth if target == "boolean" else str
+    if kind in ("float", "double"):
+        return real if kind == "float" else double
+    if kind == "json":
+        return json_text
+    if kind in ("date", "datetime"):
+        return day if target in MOMENTS else None
+    if kind == "timestamp":
+        return real_moment if target in MOMENTS else moment
+    if kind == "time":
+        return hour if target == "time without time zone" else None
+    if kind in BYTES:
+        return {"bytea": hexadecimal, "uuid": uuid}.get(target, no_text)
+    if kind in ("decimal", "year"):
+        return None
+    if kind == "set" and target.endswith("[]"):
+        return array
+    return bytes_of_text if target == "bytea" else text
+
+
+def word(log: str) -> str:
+    """A type of the log without its size, sign or character set."""
+    return log.partition(" ")[0].partition("(")[0]
+
+
+def affinity_of(declared: str) -> str:
+    """What SQLite makes of a declared type."""
+    upper = declared.upper()
+    for parts, affinity in ((("INT",), "INTEGER"), (("CHAR", "CLOB", "TEXT"), "TEXT"), (("BLOB",), "BLOB"), (("REAL", "FLOA", "DOUB"), "REAL")):
+        if any(part in upper for part in parts):
+            return affinity
+    return "NUMERIC" if upper else "BLOB"
+
+
+def whole(value: int) -> int:
+    """A whole number that SQLite has."""
+    if value > GREATEST:
+        raise UnfitError
+    return value
+
+
+def whole_or_text(value: int) -> int | str:
+    """A whole number, or its text where SQLite has no such number."""
+    return value if value <= GREATEST else str(value)
+
+
+def truth(value: int) -> str:
+    """A BOOL, which is a TINYINT in MySQL."""
+    if value not in (0, 1):
+        raise UnfitError
+    return "true" if value else "false"
+
+
+def bits(log: str, target: str) -> Callable[[int], str]:
+    """What makes a BIT."""
+    width = int(log[len("bit(") : -1])
+    if target == "boolean":
+        return truth
+    if target in ('"bit"', "bit varying"):
+        return lambda value: f"{value:0{width}b}"
+    if target == "bytea":
+        return lambda value: hexadecimal(value.to_bytes((width + 7) // 8, "big"))
+    return str
+
+
+def real(raw: bytes) -> str:
+    """A FLOAT."""
+    return repr(floats.shortest(raw))
+
+
+def double(raw: bytes) -> str:
+    """A DOUBLE."""
+    return repr(floats.from_raw(raw))
+
+
+def day(value: str) -> str:
+    """A DATE or DATETIME that is one: MySQL also has 0000-00-00, and days such as 2024-02-00."""
+    try:
+        datetime.date.fromisoformat(value[:10])
+    except ValueError:
+        raise UnfitError from None
+    return value
+
+
+def moment(value: str) -> str:
+    """A TIMESTAMP in UTC, which the log has in seconds since 1970; 0 is the zero date."""
+    seconds, point, fraction = value.partition(".")
+    if is_zero(value):
+        return f"0000-00-00 00:00:00{point}{fraction}"
+    return f"{EPOCH + datetime.timedelta(seconds=int(seconds))}{point}{fraction}+00:00"
+
+
+def real_moment(value: str) -> str:
+    """A TIMESTAMP that is a moment."""
+    if is_zero(value):
+        raise UnfitError
+    return moment(value)
+
+
+def is_zero(value: str) -> bool:
+    """Whether a TIMESTAMP is the zero date."""
+    return not value.strip("0.")
+
+
+def hour(value: str) -> str:
+    """A TIME of a day: MySQL's go from -838 hours to 838."""
+    if value[0] == "-" or value >= "24" or value[2] != ":":
+        raise UnfitError
+    return value
+
+
+def hexadecimal(value: bytes) -> str:
+    """Bytes."""
+    return f"\\x{value.hex()}"
+
+
+def uuid(value: bytes) -> str:
+    """A UUID in a BINARY(16)."""
+    if len(value) != 16:
+        raise UnfitError
+    return value.hex()
+
+
+def no_text(value: bytes) -> str:
+    """Bytes for a column that takes none."""
+    raise UnfitError
+
+
+def text(value: str | int | bytes) -> str:
+    """A text, or the number of an ENUM's or SET's value without a name. Bytes are a text whose character set isn't read."""
+    if isinstance(value, bytes) or isinstance(value, str) and "\0" in value:
+        raise UnfitError
+    return str(value)
+
+
+def bytes_of_text(value: str | int | bytes) -> str:
+    """The bytes of a text."""
+    return hexadecimal(value if isinstance(value, bytes) else str(value).encode())
+
+
+def array(value: str | int | bytes) -> str:
+    """The names of a SET, as an array."""
+    names = text(value).replace("\\", "\\\\").replace('"', '\\"')
+    return "{" + ",".join(f'"{name}"' for name in names.split(",") if names) + "}"
+
+
+def json_text(raw: bytes) -> str:
+    """The text of a JSON document."""
+    return json.dumps(json_binary.from_raw(raw), ensure_ascii=False, default=json_value)
+
+
+def json_value(value: Any) -> float | str:
+    """What JSON has for a value that it has no type for: a DECIMAL is a number where a DOUBLE holds its digits, all else a text."""
+    if isinstance(value, Decimal):
+        return float(value) if Decimal(repr(float(value))) == value else str(value)
+    if isinstance(value, datetime.timedelta):
+        size = abs(value)
+        hours, rest = divmod(size.seconds, 3600)
+        sign = "-" if value.days < 0 else ""
+        return f"{sign}{size.days * 24 + hours:02}:{rest // 60:02}:{rest % 60:02}.{size.microseconds:06}"
+    if isinstance(value, datetime.datetime):
+        return value.isoformat(" ", "microseconds")
+    return base64.b64encode(value).decode() if isinstance(value, bytes) else str(value)
+
+
+def or_null(convert: Converter) -> Converter:
+    """A converter that makes NULL of what the column can't hold."""
+    if convert is None:
+        return None
+
+    def converted(value: Any) -> Any:
+        """The value that the column takes, or None."""
+        try:
+            return convert(value)
+        except UnfitError:
+            return None
+
+    return converted

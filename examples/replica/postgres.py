@@ -1,0 +1,275 @@
+"""A replica in PostgreSQL: through psycopg where that is installed, else through the program psql."""
+from __future__ import annotations
+
+import contextlib
+import json
+from collections.abc import Iterator, Sequence
+from typing import Optional, Union
+
+import psql
+from batches import Batch
+from fitting import Converter, for_postgres
+from targets import PLACE, PLACE_MADE, AwayError, MisfitError, ReplicaError, Shape, Target, WrongWordsError
+
+try:
+    import psycopg
+except ImportError:  # it isn't installed, or finds no libpq
+    psycopg = None
+
+# Statements wait until they have so many characters, or are so many. Then one round trip carries them out.
+MOST_TEXT = 1 << 18
+MOST_STATEMENTS = 1000
+# From so many rows on an insert is a COPY.
+COPIED = 50
+# The classes of errors that may be gone when the replica is begun again: of the connection, its rights, the database, clashes with
+# other transactions, resources, locks, operators, the system, and the server's own.
+PASSING = {"08", "25", "28", "3D", "40", "53", "55", "57", "58", "XX"}
+SETTINGS = (
+    "SET standard_conforming_strings = on",
+    "SET client_encoding = 'UTF8'",
+    "SET client_min_messages = warning",
+    "SET TimeZone = 'UTC'",
+    "SET DateStyle = 'ISO'",
+    "SET IntervalStyle = 'postgres'",
+    "SET bytea_output = 'hex'",
+)
+SHAPE = """
+SELECT jsonb_build_array(attname, format_type(CASE typtype WHEN 'd' THEN typbasetype ELSE atttypid END, -1), array_position(indkey, attnum))::text
+FROM pg_attribute JOIN pg_type AS t ON t.oid = atttypid LEFT JOIN pg_index ON indrelid = attrelid AND indisprimary
+WHERE attrelid = to_regclass(quote_ident({})) AND attnum > 0 AND NOT attisdropped ORDER BY attnum
+"""
+# What has to be copied in another spelling.
+ESCAPES = str.maketrans({"\\": "\\\\", "\n": "\\n", "\r": "\\r", "\t": "\\t"})
+
+
+class Psycopg:
+    """A connection by psycopg, with the interface of `psql.Connection`."""
+
+    def __init__(self, words: str) -> None:
+        """Connects."""
+        self._connection = psycopg.connect(words, autocommit=True)
+
+    def run(self, statements: list[str]) -> list[int]:
+        """Carries out statements, in one round trip. Answers how many rows each has changed."""
+        cursor = self._connection.execute(";\n".join(statements).encode())
+        changed = [cursor.rowcount]
+        while cursor.nextset():
+            changed.append(cursor.rowcount)
+        return changed
+
+    def copy(self, statement: str, rows: str) -> int:
+        """Carries out a COPY from lines of text."""
+        with self._connection.cursor() as cursor:
+            with cursor.copy(statement.encode()) as copy:
+                copy.write(rows.encode())
+            return int(cursor.rowcount)
+
+    def query(self, statement: str) -> list[str]:
+        """What a query of one column answers."""
+        return [row[0] for row in self._connection.execute(statement.encode()).fetchall()]
+
+    def close(self) -> None:
+        """Ends the connection."""
+        self._connection.close()
+
+
+class Waiting:
+    """Statements that wait, and how many rows each has to change, for which batch."""
+
+    def __init__(self) -> None:
+        """None."""
+        self.statements: list[str] = []
+        self.wanted: list[tuple[int, Optional[Batch]]] = []
+        self.size = 0
+
+    def add(self, statement: str, count: int, batch: Batch | None = None) -> None:
+        """One more."""
+        self.statements.append(statement)
+        self.wanted.append((count, batch))
+        self.size += len(statement)
+
+
+class Postgres(Target):
+    """A PostgreSQL server."""
+
+    distinct = True
+
+    def __init__(self, words: str, client: str, schema: str, unfit_is_null: bool) -> None:
+        """Connects. The client is `psycopg` or `psql`; where none is named, psycopg if it is installed."""
+        super().__init__(schema, unfit_is_null)
+        self._words = words, client
+        self._connection: Union[Psycopg, psql.Connection] = connected(*self._words)
+        self._waiting = Waiting()
+        with judged():
+            self._connection.run(list(PLACE_MADE))
+
+    def place(self) -> str:
+        """The place that is kept."""
+        with judged():
+            return self._connection.query(f"SELECT place FROM {PLACE}")[0]
+
+    def begin(self, place: str) -> None:
+        """Begins a transaction, with a lock on the place."""
+        self._waiting.add("BEGIN", -1)
+        self._waiting.add(f"UPDATE {PLACE} SET place = place WHERE place = {literal(place)}", 1)
+
+    def put(self, batch: Batch) -> None:
+        """Makes the changes of a batch, with others, once there are enough."""
+        waiting = self._waiting
+        if batch.kind == "insert" and len(batch.rows) >= COPIED:
+            self.flush()
+            self._copy(batch)
+            return
+        waiting.add(statement_of(batch), len(batch.rows), batch)
+        if waiting.size >= MOST_TEXT or len(waiting.statements) >= MOST_STATEMENTS:
+            self.flush()
+
+    def flush(self) -> None:
+        """Carries out what waits."""
+        waiting, self._waiting = self._waiting, Waiting()
+        if not waiting.statements:
+            return
+        try:
+            with judged():
+                counts = self._connection.run(waiting.statements)
+        except MisfitError as error:
+            raise self._refused(waiting, error) from error
+        for changed, (count, batch) in zip(counts, waiting.wanted):
+            if changed != count and count >= 0:
+                if batch is None:
+                    raise AwayError("another process has moved the target on: start again")
+                raise self.misfit(batch, f"changed {changed} rows in place of {count}")
+
+    def commit(self, place: str) -> None:
+        """Ends the transaction, with its place, once all that waits has changed what it should."""
+        self._waiting.add(f"UPDATE {PLACE} SET place = {literal(place)}", 1)
+        self.flush()
+        with judged():
+            self._connection.run(["COMMIT"])
+
+    def rollback(self) -> None:
+        """Takes the transaction back. psql ends with an error, and the server has taken it back then."""
+        super().rollback()
+        self._waiting = Waiting()
+        try:
+            with judged():
+                self._connection.run(["ROLLBACK"])
+        except ReplicaError:
+            self._connection.close()
+            self._connection = connected(*self._words)
+
+    def close(self) -> None:
+        """Ends the connection."""
+        self._connection.close()
+
+    def shape(self, table: str) -> Shape:
+        """A table as the target has it."""
+        self.flush()
+        with judged():
+            rows = [json.loads(text) for text in self._connection.query(SHAPE.format(literal(table)))]
+        key = [name for name, _, number in sorted(rows, key=lambda row: row[2] or 0) if number is not None]
+        return Shape({name: type_ for name, type_, _ in rows}, key)
+
+    def converter(self, log: str, target: str) -> Converter:
+        """What makes of a value what the column takes."""
+        return for_postgres(log, target)
+
+    def _copy(self, batch: Batch) -> None:
+        """Puts in many rows."""
+        names = ", ".join(quoted(name) for name in batch.names)
+        rows = "".join("\t".join("\\N" if it is None else it.translate(ESCAPES) for it in row) + "\n" for row in batch.rows)
+        try:
+            with judged():
+                changed = self._connection.copy(f"COPY {quoted(batch.table.name)} ({names}) FROM STDIN", rows)
+        except MisfitError as error:
+            raise self.misfit(batch, f"is refused: {error}") from error
+        if changed != len(batch.rows):
+            raise self.misfit(batch, f"changed {changed} rows in place of {len(batch.rows)}")
+
+    def _refused(self, waiting: Waiting, error: MisfitError) -> MisfitError:
+        """The error of statements of which one was refused. Where a single change waited, it was that one."""
+        batches = [batch for _, batch in waiting.wanted if batch]
+        return self.misfit(batches[0], f"is refused: {error}") if len(batches) == 1 else error
+
+
+def connected(words: str, client: str) -> Psycopg | psql.Connection:
+    """A connection by a client."""
+    if client == "psycopg" and psycopg is None:
+        raise WrongWordsError("psycopg isn't installed: apt-get install python3-psycopg, or pip install 'psycopg[binary]'")
+    try:
+        with judged():
+            connection = Psycopg(words) if psycopg and client != "psql" else psql.Connection(words)
+            connection.run(list(SETTINGS))
+            return connection
+    except FileNotFoundError as error:
+        raise WrongWordsError("neither psycopg nor psql is installed") from error
+
+
+@contextlib.contextmanager
+def judged() -> Iterator[None]:
+    """Says of what PostgreSQL refuses whether it may go on when it is begun again."""
+    try:
+        yield
+    except psql.PsqlError as error:
+        raise of_state(error.state, str(error)) from error
+    except Exception as error:
+        if psycopg is None or not isinstance(error, psycopg.Error):
+            raise
+        raise of_state(error.sqlstate, str(error)) from error
+
+
+def of_state(state: str | None, said: str) -> ReplicaError:
+    """The error that stands for a code of PostgreSQL's: without one the connection is gone."""
+    line = said.strip().replace("\n", " ")
+    return AwayError(line) if not state or state[:2] in PASSING else MisfitError(line)
+
+
+def statement_of(batch: Batch) -> str:
+    """The statement that makes the changes of a batch."""
+    table = quoted(batch.table.name)
+    if batch.kind == "insert":
+        names = ", ".join(quoted(name) for name in batch.names)
+        return f"INSERT INTO {table} ({names}) OVERRIDING SYSTEM VALUE VALUES {tuples(batch.rows)}"
+    if len(batch.rows) == 1:
+        return single(batch, table)
+    types = batch.table.shape.types
+    columns = [*batch.names, *batch.key]
+    first, *others = batch.rows
+    # The types of the first row's values are those of all.
+    typed = ", ".join(f"{literal(value)}::{types[name]}" for name, value in zip(columns, first))
+    rows = f"({typed})" + (", " + tuples(others) if others else "")
+    parts = [f"c{number}" for number in range(len(columns))]
+    which = " AND ".join(f"t.{quoted(name)} = v.{part}" for name, part in zip(batch.key, parts[len(batch.names) :]))
+    values = f"(VALUES {rows}) AS v ({', '.join(parts)})"
+    if batch.kind == "delete":
+        return f"DELETE FROM {table} AS t USING {values} WHERE {which}"
+    put = ", ".join(f"{quoted(name)} = v.{part}" for name, part in zip(batch.names, parts) if name not in batch.key)
+    return f"UPDATE {table} AS t SET {put} FROM {values} WHERE {which}"
+
+
+def single(batch: Batch, table: str) -> str:
+    """The statement that makes an update or a delete of one row."""
+    (row,) = batch.rows
+    key = zip(batch.key, row[len(batch.names) :])
+    which = " AND ".join(f"{quoted(name)} = {literal(value)}" for name, value in key)
+    if batch.kind == "delete":
+        return f"DELETE FROM {table} WHERE {which}"
+    # A key that stays isn't written: PostgreSQL refuses that where it is an identity.
+    left = () if batch.moves(row) else batch.key
+    put = ", ".join(f"{quoted(name)} = {literal(value)}" for name, value in zip(batch.names, row) if name not in left)
+    return f"UPDATE {table} SET {put} WHERE {which}"
+
+
+def tuples(rows: Sequence[tuple[Optional[str], ...]]) -> str:
+    """Rows in parentheses."""
+    return ", ".join(["(" + ", ".join([literal(value) for value in row]) + ")" for row in rows])
+
+
+def literal(value: str | None) -> str:
+    """A value as PostgreSQL reads it, of the type that its column has."""
+    return "NULL" if value is None else "'" + value.replace("'", "''") + "'"
+
+
+def quoted(name: str) -> str:
+    """A table's or column's name in a statement."""
+    return '"' + name.replace('"', '""') + '"'

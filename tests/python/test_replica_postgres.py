@@ -1,0 +1,174 @@
+"""The replica in PostgreSQL, by psql, and by psycopg where that is installed."""
+import json
+import shutil
+import sys
+import unittest
+
+import postgres
+import psql
+import targets
+from replicas import SHOP_ROWS, Kills, LinesTest, PostgresServer, ended, full_line, in_order, python_with_psycopg, started
+from support import bank_rows
+
+# How often the replica is killed while it works: by each client, without and with batches over several transactions.
+KILLS = {"psql": [(16, ()), (12, ("--commit-every", "20"))], "psycopg": [(8, ()), (8, ("--commit-every", "20"))]}
+TYPES = {"id": "int", "v": "varchar utf8mb4"}
+TABLE = "CREATE TABLE t (id integer PRIMARY KEY, v text)"
+
+
+@unittest.skipUnless(
+    all(map(shutil.which, ("postgres", "initdb", "pg_ctl", "psql"))), "there is no PostgreSQL: postgres, initdb, pg_ctl and psql"
+)
+class Postgres(LinesTest):
+    """The replica in PostgreSQL."""
+
+    @classmethod
+    def setUpClass(cls):
+        """Starts a server."""
+        cls.server = PostgresServer()
+        cls.addClassCleanup(cls.server.stop)
+        cls.clients = {"psql": sys.executable}
+        python = python_with_psycopg()
+        if python:
+            cls.clients["psycopg"] = python
+        else:
+            print("skipped: the replica by psycopg: there is none (apt-get install python3-psycopg)")
+
+    def rows_of(self, target, place=None):
+        """The rows, with the balance, which is a number here, as the log spells it."""
+        rows = self.server.rows_of(target.replace("psycopg:", "psql:"), place)
+        if not place:
+            for row in rows.get("account", []):
+                row["balance"] = f"{row['balance']:.2f}"
+        return rows
+
+    def count(self, target):
+        """How many rows the table has."""
+        return self.server.asked(target.replace("psycopg:", "psql:"), "SELECT count(*) FROM t")
+
+    def in_clients(self, tables):
+        """For each client, a new target with tables, and the Python that has the client."""
+        return [(self.server.made(tables).replace("psql:", f"{client}:"), {"python": python}) for client, python in self.clients.items()]
+
+    def test_shop_and_bank(self):
+        for client, python in self.clients.items():
+            for options in ((), ("--commit-every", "50")):
+                for schema, wanted in (("shop", SHOP_ROWS), ("bank", in_order(bank_rows()))):
+                    target = self.server.new_target(schema).replace("psql:", f"{client}:")
+                    for _ in range(2):
+                        self.assertEqual(ended(target, schema, *options, python=python), (0, ""))
+                        self.assertEqual(self.rows_of(target), wanted)
+
+    def killed(self, client):
+        """Kills the replica by a client."""
+        for count, options in KILLS[client]:
+            kills = Kills("bank", count, lambda: self.server.new_target("bank").replace("psql:", f"{client}:"), self.rows_of, options)
+            kills.run()
+            kills.judge(self)
+
+    def test_killed(self):
+        self.killed("psql")
+
+    @unittest.skipUnless(postgres.psycopg, "this Python has no psycopg")
+    def test_killed_with_psycopg(self):
+        self.killed("psycopg")
+
+    def test_misfits(self):
+        """A change that doesn't fit is named, those before it stand, and nothing of its transaction does."""
+        lines = [full_line((n, 1), "t", None, {"id": n, "v": "new"}, TYPES) for n in range(1, 70)]
+        bad = {
+            "update": (full_line((80, 1), "t", {"id": 99, "v": "new"}, {"id": 99, "v": "x"}, TYPES), "changed 0 rows in place of 1"),
+            "delete": (full_line((80, 1), "t", {"id": 99, "v": "new"}, None, TYPES), "changed 0 rows in place of 1"),
+            "insert": (full_line((80, 1), "t", None, {"id": 5, "v": "x"}, TYPES), "is refused: duplicate key"),
+        }
+        for kind, (line, reason) in bad.items():
+            more = [full_line((81, n), "t", {"id": n, "v": "new"}, {"id": n, "v": "x"}, TYPES) for n in range(1, 9)]
+            told = self.told([*lines, full_line((79, 1), "t", {"id": 1, "v": "new"}, {"id": 1, "v": "x"}, TYPES), line, *more])
+            for options in ((), ("--commit-every", "100")):
+                for target, python in self.in_clients(TABLE):
+                    status, said = ended(target, "made", *options, **told, **python)
+                    self.assertEqual(status, 7, said)
+                    self.assertIn(f"replica: made.t: the {kind} at 8000.1@binlog.000001 {reason}", said)
+                    counted = "SELECT count(*) || ' ' || count(*) FILTER (WHERE v = 'x') FROM t"
+                    self.assertEqual(self.server.asked(target.replace("psycopg:", "psql:"), counted), ["69 1"])
+                    self.assertEqual(json.loads(self.rows_of(target, "binlogfeed_place"))["token"], "7900.1@binlog.000001")
+
+    def test_columns(self):
+        told = self.told([full_line((1, 1), "t", None, {"id": 1, "v": "a"}, TYPES)])
+        for target, python in self.in_clients("CREATE TABLE t (id integer PRIMARY KEY, w numeric(8,2))"):
+            line = "replica: the columns of made.t at 100.1@binlog.000001 aren't those of the target: in the log it has id int, v varchar utf8mb4"
+            self.assertEqual(ended(target, "made", **told, **python), (7, f"{line}; in the target id integer, w numeric\n"))
+        for target, python in self.in_clients("SELECT 1"):
+            self.assertEqual(ended(target, "made", **told, **python)[0], 7)
+
+    def test_deferred(self):
+        """What PostgreSQL refuses at the end of a transaction alone."""
+        told = self.told([full_line((n, 1), "t", None, {"id": n, "v": "same" if n > 2 else f"{n}"}, TYPES) for n in range(1, 5)])
+        for options in ((), ("--commit-every", "9")):
+            for target, python in self.in_clients(f"{TABLE}; ALTER TABLE t ADD UNIQUE (v) DEFERRABLE INITIALLY DEFERRED"):
+                status, said = ended(target, "made", *options, **told, **python)
+                self.assertEqual((status, said[:48]), (7, "replica: up to 400.1@binlog.000001: duplicate ke"))
+                self.assertEqual(self.count(target), ["3"])
+
+    def test_another_that_moved_the_target_on(self):
+        """Whoever comes second changes nothing, though its changes don't fit any more."""
+        for client, python in self.clients.items():
+            if python != sys.executable:
+                continue
+            target = self.server.made(TABLE)
+            opened = postgres.Postgres(target.partition(":")[2], client, "made", False)
+            self.addCleanup(opened.close)
+            self.assertEqual(opened.place(), "")
+            other = postgres.Postgres(target.partition(":")[2], client, "made", False)
+            other.begin("")
+            other.commit("first")
+            other.close()
+            opened.begin("")
+            with self.assertRaisesRegex(targets.AwayError, "start again"):
+                opened.commit("second")
+            opened.rollback()
+            self.assertEqual(opened.place(), "first")
+
+    def test_away(self):
+        """A server that isn't there, and one that goes while it is followed; with it back, the replica goes on."""
+        for client, python in self.clients.items():
+            status, _ = ended(f"{client}:host={self.folder} dbname=none", "shop", python=python)
+            self.assertEqual(status, 4)
+            status, _ = ended(f"{client}:{self.server.words('none')}", "shop", python=python)
+            self.assertEqual(status, 4)
+            target = self.server.made(TABLE).replace("psql:", f"{client}:")
+            lines = [full_line((n, 1), "t", None, {"id": n, "v": "new"}, TYPES) for n in range(1, 9)]
+            told = self.told(lines[:4])
+            with started(target, "made", "--follow", "--interval", "0.02", **told, python=python) as process:
+                self.in_time(process.kill)
+                while self.count(target) != ["4"]:
+                    self.assertIsNone(process.poll())
+                self.server.halt()
+                self.tell_more(lines[4:])
+                said = process.stderr.read()
+            self.server.start()
+            self.assertEqual(process.returncode, 4, said)
+            self.assertEqual(self.count(target), ["4"])
+            self.assertEqual(ended(target, "made", **told, python=python), (0, ""))
+            self.assertEqual(self.count(target), ["8"])
+
+    def test_clients(self):
+        """Without psycopg, and without psql."""
+        if "psycopg" not in self.clients or self.clients["psycopg"] != sys.executable:
+            status, said = ended(f"psycopg:{self.server.words('postgres')}", "shop")
+            self.assertEqual((status, said[:45]), (2, "replica: psycopg isn't installed: apt-get ins"))
+
+    def test_text(self):
+        """Each character comes back as it was."""
+        connection = psql.Connection(self.server.words("postgres"))
+        self.addCleanup(connection.close)
+        text = "".join(map(chr, range(1, 0x250))) + "'; DROP TABLE x; --\\ :name $1 %s %% \\gset '' \\' 李"
+        connection.run(["CREATE TABLE texts (t text, n integer)"])
+        self.assertEqual(connection.run([f"INSERT INTO texts (t) VALUES ({postgres.literal(text)})"]), [1])
+        copied = text.translate(postgres.ESCAPES)
+        self.assertEqual(connection.copy("COPY texts (t, n) FROM STDIN", f"{copied}\t\\N\n{copied}\t5\n"), 2)
+        self.assertEqual([json.loads(row) for row in connection.query("SELECT to_json(t) FROM texts")], [text] * 3)
+        self.assertEqual(connection.run(["UPDATE texts SET n = 1 WHERE n = 2", "DELETE FROM texts WHERE n = 5"]), [0, 1])
+        with self.assertRaises(psql.PsqlError) as raised:
+            connection.run(["SELECT 1 / 0"])
+        self.assertEqual((raised.exception.state, str(raised.exception)), ("22012", "division by zero"))

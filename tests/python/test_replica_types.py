@@ -1,0 +1,266 @@
+"""The replica's values: those of a log that has all types are what its server says, in SQLite and in PostgreSQL."""
+import calendar
+import datetime
+import json
+import shutil
+import struct
+import time
+import unittest
+from decimal import Decimal
+
+import fitting
+from built.truth import STRINGS, TRUTH, declared_types, decoded, server_truth
+from replicas import LinesTest, PostgresServer, SqliteFiles, ended, full_line, python_with_psycopg
+
+LOGS = f"{TRUTH}/binlog.0*"
+HAS_POSTGRES = all(map(shutil.which, ("postgres", "initdb", "pg_ctl", "psql")))
+# PostgreSQL's types for the kinds of columns, where the kind alone says it.
+POSTGRES = {
+    "bit": "bit varying", "decimal": "numeric", "bytes": "bytea", "json": "jsonb", "year": "smallint", "date": "date", "datetime": "timestamp",
+    "time": "interval", "timestamp": "timestamptz", "int": "numeric",
+}  # fmt: skip
+SQLITE = {"bytes": "BLOB", "year": "INTEGER", "float": "REAL", "int": "INTEGER"}
+# A value of each kind of column that may be null, and the target's type for it.
+ALL = [
+    ("flag", "tinyint", 1, "boolean", True), ("bits", "bit(3)", 5, "bit(3)", "101"), ("on", "bit(1)", 0, "boolean", False),
+    ("most", "bigint unsigned", 18446744073709551615, "numeric(20)", 18446744073709551615), ("least", "tinyint", -128, "smallint", -128),
+    ("price", "decimal(8,2)", "-0.50", "numeric(8,2)", -0.50), ("ratio", "float", {"raw": "zczMPQ=="}, "real", 0.1),
+    ("size", "double", {"raw": "mpmZmZmZuT8="}, "double precision", 0.1), ("doc", "json", {"raw": "AAEADAALAAEABQEAYQ=="}, "jsonb", {"a": 1}),
+    ("born", "date", "2024-02-29", "date", "2024-02-29"), ("at", "datetime(3)", "2024-02-29 01:02:03.500", "timestamp", "2024-02-29T01:02:03.5"),
+    ("seen", "timestamp(2)", "1714982400.25", "timestamptz", "2024-05-06T08:00:00.25+00:00"), ("wait", "time", "-01:02:03", "interval", "-01:02:03"),
+    ("hour", "time", "23:59:59", "time", "23:59:59"), ("made", "year", "1999", "smallint", 1999), ("level", "enum utf8mb4", "gold", "text", "gold"),
+    ("marks", "set utf8mb4", "new,o\"k", "text[]", ["new", 'o"k']), ("none", "set utf8mb4", "", "text[]", []), ("names", "set utf8mb4", "a,b", "text", "a,b"),
+    ("raw", "varbinary(9)", {"base64": "AP9c"}, "bytea", "\\x00ff5c"), ("uid", "binary(16)", {"base64": "AAECAwQFBgcICQoLDA0ODw=="}, "uuid", "00010203-0405-0607-0809-0a0b0c0d0e0f"),
+    ("code", "char utf8mb4", "ab", "char(4)", "ab  "), ("text", "text utf8mb4", "it's\t\\N \\\n\r:x 李", "text", "it's\t\\N \\\n\r:x 李"),
+    ("gbk", "varchar gbk", {"base64": "1tA=", "charset": "gbk"}, "bytea", "\\xd6d0"), ("latin", "varchar utf8mb4", "é", "bytea", "\\xc3a9"),
+]  # fmt: skip
+# Values that PostgreSQL's columns can't hold.
+UNFIT = [
+    ("date", "0000-00-00", "date"), ("date", "2024-02-00", "date"), ("datetime", "2024-00-01 00:00:00", "timestamp"), ("timestamp(1)", "0.0", "timestamptz"),
+    ("time", "-00:00:01", "time"), ("time", "24:00:00", "time"), ("time", "838:59:59", "time"), ("tinyint", 2, "boolean"), ("varchar utf8mb4", "a\0b", "text"),
+    ("varchar gbk", {"base64": "1tA=", "charset": "gbk"}, "text"), ("blob", {"base64": "AP8="}, "text"), ("binary(2)", {"base64": "AP8="}, "uuid"),
+]  # fmt: skip
+
+
+def expected(kind, type_, true):
+    """What a server says of a value, so that it can be compared."""
+    if kind in ("text", "enum", "set"):
+        return bytes.fromhex(true).decode()
+    if kind == "bytes":
+        return bytes.fromhex(true)
+    if kind == "json":
+        return json.loads(true)
+    if kind == "float":
+        return struct.unpack("<f", struct.pack("<f", float(true)))[0] if type_.startswith("float") else float(true)
+    return int(true) if kind in ("int", "bit", "year") else Decimal(true) if kind in ("decimal", "timestamp") else true
+
+
+def of_sqlite(kind, type_, value):
+    """A value of SQLite, so that it can be compared."""
+    if kind in ("text", "enum", "set") and isinstance(value, bytes):
+        return decoded(value, type_.split(" ")[1])
+    if kind == "timestamp":
+        whole = calendar.timegm(time.strptime(value[:19], "%Y-%m-%d %H:%M:%S"))
+        return Decimal(f"{whole}{value[19:].replace('+00:00', '')}")
+    if kind == "float":
+        return struct.unpack("<f", struct.pack("<f", value))[0] if type_.startswith("float") else value
+    return {"json": json.loads, "decimal": Decimal, "int": int, "bit": int}.get(kind, lambda it: it)(value)
+
+
+def of_postgres(kind, type_, value):
+    """A value of PostgreSQL, by its text, so that it can be compared."""
+    if kind == "bytes" or value.startswith("\\x") and kind in ("text", "enum", "set"):
+        raw = bytes.fromhex(value[2:])
+        return raw if kind == "bytes" else decoded(raw, type_.split(" ")[1])
+    if kind == "float":
+        return of_sqlite(kind, type_, float(value))
+    if kind == "bit":
+        return int(value, 2)
+    return {"json": json.loads, "int": int, "year": int}.get(kind, Decimal if kind in ("decimal", "timestamp", "time") else str)(value)
+
+
+def made(type_of):
+    """The statements that make the tables, each column of a type that fits."""
+    tables = []
+    for name, table in server_truth().items():
+        columns = ", ".join(f"{column} {type_of(kind, declared_types()[name][column])}" for column, kind in table.kinds.items())
+        tables.append(f"CREATE TABLE {name} (id INTEGER PRIMARY KEY, {columns})")
+    return "; ".join(tables)
+
+
+def postgres_type(kind, type_):
+    """A column's type in PostgreSQL."""
+    if kind == "float":
+        return "real" if type_.startswith("float") else "double precision"
+    return POSTGRES.get(kind) or ("text" if type_.rpartition(" ")[2] in STRINGS else "bytea")
+
+
+def expected_of_postgres(kind, type_, true):
+    """What PostgreSQL should have of what the server says: no days that are none, and no zeros at the end of a fraction."""
+    if kind in ("date", "datetime"):
+        return None if not is_day(true) else true.rstrip("0").rstrip(".") if "." in true else true
+    if kind == "time":
+        return seconds(true)
+    found = expected(kind, type_, true)
+    return None if kind in ("text", "enum", "set") and "\0" in found and type_.rpartition(" ")[2] in STRINGS else found
+
+
+def seconds(text):
+    """The seconds of a TIME."""
+    sign, (hours, minutes, rest) = -1 if text[0] == "-" else 1, text.lstrip("-").split(":")
+    return sign * (int(hours) * 3600 + int(minutes) * 60 + Decimal(rest))
+
+
+def is_day(text):
+    """Whether a date is a day."""
+    try:
+        return bool(datetime.date.fromisoformat(text[:10]))
+    except ValueError:
+        return False
+
+
+class Truth(LinesTest):
+    """A server's tables of all types."""
+
+    def check(self, rows_of, read, wanted_of):
+        """Compares each value."""
+        checked = 0
+        for name, table in server_truth().items():
+            types = declared_types()[name]
+            rows = rows_of(name, table.kinds)
+            self.assertEqual({str(row) for row in rows}, set(table.rows))
+            for number, row in rows.items():
+                for column, true in table.rows[str(number)].items():
+                    kind, type_ = table.kinds[column], types[column]
+                    found = None if row[column] is None else read(kind, type_, row[column])
+                    wanted = None if true is None else wanted_of(kind, type_, true)
+                    self.assertEqual(found, wanted, f"{name}.{column} of {number}, {type_}")
+                    checked += 1
+        self.assertGreater(checked, 4000)
+
+    def test_sqlite(self):
+        files = SqliteFiles()
+        self.addCleanup(files.stop)
+        target = files.made(made(lambda kind, type_: "TEXT" if type_ == "bigint unsigned" else SQLITE.get(kind, "TEXT")))
+        self.assertEqual(ended(target, "truth", "--commit-every", "20", logs=LOGS), (0, ""))
+        self.check(lambda name, _: {row["id"]: row for row in files.asked(target, f"SELECT * FROM {name}")}, of_sqlite, expected)
+
+    @unittest.skipUnless(HAS_POSTGRES, "there is no PostgreSQL")
+    def test_postgres(self):
+        server = PostgresServer()
+        self.addCleanup(server.stop)
+        target = server.made(made(postgres_type))
+
+        def rows_of(name, kinds):
+            """The rows of a table, each value as a text."""
+            parts = [f"extract(epoch FROM {it})::text AS {it}" if kinds[it] in ("time", "timestamp") else f"{it}::text" for it in kinds]
+            rows = map(json.loads, server.asked(target, f"SELECT row_to_json(t) FROM (SELECT id, {', '.join(parts)} FROM {name}) AS t"))
+            return {row["id"]: row for row in rows}
+
+        self.assertEqual(ended(target, "truth", "--commit-every", "20", logs=LOGS)[0], 7)
+        self.assertEqual(ended(target, "truth", "--commit-every", "20", "--unfit", "null", logs=LOGS), (0, ""))
+        self.check(rows_of, of_postgres, expected_of_postgres)
+
+
+class Columns(LinesTest):
+    """Columns of PostgreSQL, and values that they can't hold."""
+
+    @classmethod
+    def setUpClass(cls):
+        """Starts a server."""
+        if not HAS_POSTGRES:
+            raise unittest.SkipTest("there is no PostgreSQL")
+        cls.server = PostgresServer()
+        cls.addClassCleanup(cls.server.stop)
+
+    def rows(self, target):
+        """The rows of the table."""
+        return [json.loads(text) for text in self.server.asked(target.replace("psycopg:", "psql:"), "SELECT row_to_json(t) FROM t ORDER BY id")]
+
+    def test_all(self):
+        """Each kind of column, put in by a row, by many, and by updates of one and of many."""
+        types = {"id": "int", **{name: type_ for name, type_, *_ in ALL}}
+        new = {name: value for name, _, value, *_ in ALL}
+        none = dict.fromkeys(new)
+        lines = [full_line((1, n), "t", None, {"id": n, **(none if n % 2 else new)}, types) for n in range(1, 80)]
+        lines += [full_line((2, 1), "t", None, {"id": 80, **new}, types)]
+        lines += [full_line((3, n), "t", {"id": n, **none}, {"id": n, **new}, types) for n in range(1, 30, 2)]
+        lines += [full_line((4, 1), "t", {"id": 31, **none}, {"id": 31, **new}, types)]
+        lines += [full_line((5, n), "t", {"id": n, **new}, None, types) for n in range(4, 30, 2)]
+        told = self.told(lines)
+        filled = {n: n % 2 == 0 or n <= 31 for n in [1, 2, 3, *range(5, 30, 2), *range(30, 81)]}
+        wanted = [{"id": n, **({name: value for name, *_, value in ALL} if filled[n] else none)} for n in filled]
+        columns = ", ".join(f"{name} {kind}" for name, _, _, kind, _ in ALL).replace(" on bit", ' "on" bit').replace(" on boolean", ' "on" boolean')
+        for client, python in (("psql", None), ("psycopg", python_with_psycopg())):
+            if client == "psycopg" and not python:
+                continue
+            target = self.server.made(f"CREATE TABLE t (id integer GENERATED ALWAYS AS IDENTITY PRIMARY KEY, {columns})").replace("psql:", f"{client}:")
+            self.assertEqual(ended(target, "made", **told, **({"python": python} if python else {})), (0, ""))
+            self.assertEqual(self.rows(target), wanted)
+
+    def test_unfit(self):
+        """A value that the column can't hold ends the run, or is NULL there."""
+        for log, value, kind in UNFIT:
+            with self.subTest(value=value, kind=kind):
+                types = {"id": "int", "v": log}
+                told = self.told([full_line((1, 1), "t", None, {"id": 1, "v": None}, types), full_line((1, 2), "t", None, {"id": 2, "v": value}, types)])
+                target = self.server.made(f"CREATE TABLE t (id integer PRIMARY KEY, v {kind})")
+                status, said = ended(target, "made", **told)
+                self.assertEqual(status, 7)
+                self.assertRegex(said, r"\Areplica: made\.t\.v is [a-z ]+ in the target, and can't hold .+ at 100\.2@binlog\.000001\n\Z")
+                self.assertEqual(self.rows(target), [])
+                self.assertEqual(ended(target, "made", "--unfit", "null", **told), (0, ""))
+                self.assertEqual(self.rows(target), [{"id": 1, "v": None}, {"id": 2, "v": None}])
+
+    def test_refused_by_the_server(self):
+        """What PostgreSQL itself refuses ends the run, also with --unfit null: the server has no NULL for it."""
+        told = self.told([full_line((1, 1), "t", None, {"id": 3000000000}, {"id": "bigint"})])
+        target = self.server.made("CREATE TABLE t (id integer PRIMARY KEY)")
+        status, said = ended(target, "made", "--unfit", "null", **told)
+        self.assertEqual(status, 7)
+        self.assertRegex(said, "the insert at 100.1@binlog.000001 is refused: .*3000000000.* is out of range")
+
+
+class Fitting(LinesTest):
+    """What a value becomes, and what SQLite can't hold."""
+
+    def test_sqlite_unfit(self):
+        for log, value in (("bigint unsigned", 1 << 63), ("bit(64)", (1 << 64) - 1)):
+            types = {"id": "int", "v": log}
+            told = self.told([full_line((1, 1), "t", None, {"id": 1, "v": value}, types)])
+            files = SqliteFiles()
+            self.addCleanup(files.stop)
+            target = files.made("CREATE TABLE t (id INTEGER PRIMARY KEY, v INTEGER)")
+            said = f"replica: made.t.v is INTEGER in the target, and can't hold {value} at 100.1@binlog.000001\n"
+            self.assertEqual(ended(target, "made", **told), (7, said))
+            self.assertEqual(ended(target, "made", "--unfit", "null", **told), (0, ""))
+            self.assertEqual(files.asked(target, "SELECT v FROM t"), [{"v": None}])
+            target = files.made("CREATE TABLE t (id INTEGER PRIMARY KEY, v TEXT)")
+            self.assertEqual(ended(target, "made", **told), (0, ""))
+            self.assertEqual(files.asked(target, "SELECT v FROM t"), [{"v": str(value)}])
+
+    def test_affinity(self):
+        """As SQLite itself says it."""
+        files = SqliteFiles()
+        self.addCleanup(files.stop)
+        for declared in ("INT", "bigint", "CHARINT", "VARCHAR(9)", "CLOB", "text", "BLOB", "", "REAL", "FLOAT", "DOUBLE PRECISION", "DECIMAL(8,2)", "DATE"):
+            target = files.made(f"CREATE TABLE t (v {declared})")
+            for value in ("5", 5):
+                files.asked(target, "INSERT INTO t VALUES (?)", [value])
+            found = [row["it"] for row in files.asked(target, "SELECT typeof(v) AS it FROM t ORDER BY rowid")]
+            affinity = fitting.affinity_of(declared)
+            wanted = {"TEXT": ["text", "text"], "BLOB": ["text", "integer"], "REAL": ["real", "real"]}.get(affinity, ["integer", "integer"])
+            self.assertEqual(found, wanted, declared)
+
+    def test_json(self):
+        self.assertEqual(fitting.json_text(b"\x0c\x03abc"), '"abc"')
+        self.assertEqual(fitting.json_text(bytes.fromhex("02 0200 0a00 04 0100 05 feff")), "[true, -2]")
+        self.assertEqual(fitting.json_text(b""), "null")
+        values = [Decimal("1.10"), Decimal("12345678901234567890.5"), datetime.timedelta(days=-1, hours=-2, microseconds=-5)]
+        values += [datetime.timedelta(hours=838, seconds=9), datetime.datetime(2024, 1, 2, 3, 4, 5), datetime.date(2024, 1, 2), b"\xff"]
+        wanted = [1.1, "12345678901234567890.5", "-26:00:00.000005", "838:00:09.000000", "2024-01-02 03:04:05.000000", "2024-01-02", "/w=="]
+        self.assertEqual([fitting.json_value(value) for value in values], wanted)
+
+    def test_moments(self):
+        told = {"0": "0000-00-00 00:00:00", "0.00": "0000-00-00 00:00:00.00", "0.5": "1970-01-01 00:00:00.5+00:00", "2147483647.999": "2038-01-19 03:14:07.999+00:00"}
+        self.assertEqual({value: fitting.moment(value) for value in told}, told)
