@@ -19,8 +19,8 @@ Row = tuple[Any, ...]
 class Batch:
     """Changes of one table and kind, which name the same columns.
 
-    A row has the values of `names`, those of the row as it is then. Behind them an update has those of the key of the row as it
-    was. A delete has only those.
+    A row has the values of `names`, those of the row as it is then. Behind them an update has those of the key of the
+    row as it was. A delete has only those.
     """
 
     __slots__ = ("table", "kind", "names", "key", "rows", "token", "size", "_keys", "_places")
@@ -34,7 +34,7 @@ class Batch:
         self.rows: list[Row] = []
         self.token = change.token
         self.size = 0
-        # The keys of the rows that were taken; and which values of a row, and which of its key, tell whether that has changed.
+        # The keys of the rows that were taken; and which values of a row tell whether its key has changed.
         self._keys: set[Row] = set()
         names = self.names
         self._places = [(names.index(name), len(names) + at) for at, name in enumerate(self.key) if name in names]

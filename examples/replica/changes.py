@@ -1,4 +1,4 @@
-"""The changes that a server's logs have behind a place, by the full lines of `read --follow`, with the types of their columns."""
+"""The changes that a server's logs have behind a place, by the full lines of `read --follow`."""
 from __future__ import annotations
 
 import base64
@@ -10,6 +10,8 @@ from binlogfeed import Place
 from binlogfeed.watch import Watch
 
 Image = dict[str, Any]
+# Its texts are read some microseconds faster than by `json.loads`.
+DECODER = json.JSONDecoder()
 
 
 class Column(NamedTuple):
@@ -32,7 +34,7 @@ class Change(NamedTuple):
     before: Optional[Image]
     after: Optional[Image]
     token: str
-    # How many bytes its line has.
+    # How many characters its line has.
     size: int
 
 
@@ -43,12 +45,12 @@ class Changes:
         """The changes of logs (an index, its folder, or a pattern) behind a place."""
         command = [program, "read", "--follow", "--full", f"--only-schemas={schema}"]
         self._watch = Watch(logs, command, place)
-        self._forms: dict[bytes, Columns] = {}
+        self._forms: dict[str, Columns] = {}
 
     def look(self) -> Iterator[Change]:
         """The changes that are new by now. Raises what ended the reading early behind the changes before it."""
         for block in self._watch.look():
-            for line in block.split(b"\n")[:-1]:
+            for line in block.decode().split("\n")[:-1]:
                 yield change_of(line, self._forms)
 
     @property
@@ -70,16 +72,16 @@ class Changes:
         self._watch.end()
 
 
-def change_of(line: bytes, forms: dict[bytes, Columns]) -> Change:
+def change_of(line: str, forms: dict[str, Columns]) -> Change:
     """The change of a full line. `forms` has the columns that were read before, by their text: most lines repeat it."""
     # No text in JSON has bare quotes, and no value of a row begins with a bracket.
-    begin, end = line.index(b',"key":['), line.rindex(b'},"kind":"') + 1
+    begin, end = line.index(',"key":['), line.rindex('},"kind":"') + 1
     form = line[begin:end]
     columns = forms.get(form)
     if columns is None:
-        types = json.loads(b"{" + form[1:] + b"}")["types"]
+        types = json.loads("{" + form[1:] + "}")["types"]
         columns = forms[form] = tuple(Column(name, type_) for name, type_ in types.items())
-    members = json.loads(line[:begin] + line[end:])
+    members = DECODER.raw_decode(line[:begin] + line[end:])[0]
     before, after = members["before"], members["after"]
     for image in (before, after):
         if image is not None:

@@ -18,6 +18,11 @@ BYTES = {"binary", "varbinary", "tinyblob", "blob", "mediumblob", "longblob", "g
 # PostgreSQL's types of days and moments, which have no 0000-00-00.
 MOMENTS = {"date", "timestamp without time zone", "timestamp with time zone"}
 EPOCH = datetime.datetime(1970, 1, 1)
+# SQLite goes by the first of these that a declared type has in it.
+AFFINITIES = (
+    *(("INT", "INTEGER"), ("CHAR", "TEXT"), ("CLOB", "TEXT"), ("TEXT", "TEXT"), ("BLOB", "BLOB")),
+    *(("REAL", "REAL"), ("FLOA", "REAL"), ("DOUB", "REAL")),
+)
 # The greatest whole number of SQLite.
 GREATEST = (1 << 63) - 1
 
@@ -34,7 +39,7 @@ def for_sqlite(log: str, target: str) -> Converter:
         return whole_or_text if affinity in ("TEXT", "BLOB") else whole
     if kind == "year" and affinity != "TEXT":
         return int
-    return {"float": floats.shortest, "double": floats.from_raw, "json": json_text, "timestamp": moment}.get(kind)
+    return OTHERS.get(kind)
 
 
 def for_postgres(log: str, target: str) -> Converter:
@@ -69,8 +74,8 @@ def word(log: str) -> str:
 def affinity_of(declared: str) -> str:
     """What SQLite makes of a declared type."""
     upper = declared.upper()
-    for parts, affinity in ((("INT",), "INTEGER"), (("CHAR", "CLOB", "TEXT"), "TEXT"), (("BLOB",), "BLOB"), (("REAL", "FLOA", "DOUB"), "REAL")):
-        if any(part in upper for part in parts):
+    for part, affinity in AFFINITIES:
+        if part in upper:
             return affinity
     return "NUMERIC" if upper else "BLOB"
 
@@ -170,7 +175,7 @@ def no_text(value: bytes) -> str:
 
 
 def text(value: str | int | bytes) -> str:
-    """A text, or the number of an ENUM's or SET's value without a name. Bytes are a text whose character set isn't read."""
+    """A text, or the number of an ENUM or a SET without a name. Bytes are a text whose character set isn't read."""
     if isinstance(value, bytes) or isinstance(value, str) and "\0" in value:
         raise UnfitError
     return str(value)
@@ -193,7 +198,7 @@ def json_text(raw: bytes) -> str:
 
 
 def json_value(value: Any) -> float | str:
-    """What JSON has for a value that it has no type for: a DECIMAL is a number where a DOUBLE holds its digits, all else a text."""
+    """What JSON has for a value that it has no type for. A DECIMAL is a number where a DOUBLE holds its digits."""
     if isinstance(value, Decimal):
         return float(value) if Decimal(repr(float(value))) == value else str(value)
     if isinstance(value, datetime.timedelta):
@@ -206,10 +211,8 @@ def json_value(value: Any) -> float | str:
     return base64.b64encode(value).decode() if isinstance(value, bytes) else str(value)
 
 
-def or_null(convert: Converter) -> Converter:
+def or_null(convert: Callable[[Any], Any]) -> Callable[[Any], Any]:
     """A converter that makes NULL of what the column can't hold."""
-    if convert is None:
-        return None
 
     def converted(value: Any) -> Any:
         """The value that the column takes, or None."""
@@ -219,3 +222,12 @@ def or_null(convert: Converter) -> Converter:
             return None
 
     return converted
+
+
+# What SQLite takes of types that the log has otherwise.
+OTHERS: dict[str, Converter] = {
+    "double": floats.from_raw,
+    "float": floats.shortest,
+    "json": json_text,
+    "timestamp": moment,
+}

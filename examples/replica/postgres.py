@@ -21,8 +21,8 @@ MOST_TEXT = 1 << 18
 MOST_STATEMENTS = 1000
 # From so many rows on an insert is a COPY.
 COPIED = 50
-# The classes of errors that may be gone when the replica is begun again: of the connection, its rights, the database, clashes with
-# other transactions, resources, locks, operators, the system, and the server's own.
+# The classes of errors that may be gone when the replica is begun again: of the connection, its rights, the database,
+# clashes with other transactions, resources, locks, operators, the system, and the server's own.
 PASSING = {"08", "25", "28", "3D", "40", "53", "55", "57", "58", "XX"}
 SETTINGS = (
     "SET standard_conforming_strings = on",
@@ -34,7 +34,9 @@ SETTINGS = (
     "SET bytea_output = 'hex'",
 )
 SHAPE = """
-SELECT jsonb_build_array(attname, format_type(CASE typtype WHEN 'd' THEN typbasetype ELSE atttypid END, -1), array_position(indkey, attnum))::text
+SELECT jsonb_build_array(
+    attname, format_type(CASE typtype WHEN 'd' THEN typbasetype ELSE atttypid END, -1), array_position(indkey, attnum)
+)::text
 FROM pg_attribute JOIN pg_type AS t ON t.oid = atttypid LEFT JOIN pg_index ON indrelid = attrelid AND indisprimary
 WHERE attrelid = to_regclass(quote_ident({})) AND attnum > 0 AND NOT attisdropped ORDER BY attnum
 """
@@ -73,6 +75,9 @@ class Psycopg:
         self._connection.close()
 
 
+Client = Union[Psycopg, psql.Connection]
+
+
 class Waiting:
     """Statements that wait, and how many rows each has to change, for which batch."""
 
@@ -98,10 +103,14 @@ class Postgres(Target):
         """Connects. The client is `psycopg` or `psql`; where none is named, psycopg if it is installed."""
         super().__init__(schema, unfit_is_null)
         self._words = words, client
-        self._connection: Union[Psycopg, psql.Connection] = connected(*self._words)
+        self._connection = connected(*self._words)
         self._waiting = Waiting()
-        with judged():
-            self._connection.run(list(PLACE_MADE))
+        try:
+            self._make_place()
+        except MisfitError:
+            # Another process may have made it at the same moment.
+            self.rollback()
+            self._make_place()
 
     def place(self) -> str:
         """The place that is kept."""
@@ -174,10 +183,15 @@ class Postgres(Target):
         """What makes of a value what the column takes."""
         return for_postgres(log, target)
 
+    def _make_place(self) -> None:
+        """Makes the table of the place where there is none."""
+        with judged():
+            self._connection.run(list(PLACE_MADE))
+
     def _copy(self, batch: Batch) -> None:
         """Puts in many rows."""
         names = ", ".join(quoted(name) for name in batch.names)
-        rows = "".join("\t".join("\\N" if it is None else it.translate(ESCAPES) for it in row) + "\n" for row in batch.rows)
+        rows = "".join("\t".join(map(copied, row)) + "\n" for row in batch.rows)
         try:
             with judged():
                 changed = self._connection.copy(f"COPY {quoted(batch.table.name)} ({names}) FROM STDIN", rows)
@@ -187,18 +201,20 @@ class Postgres(Target):
             raise self.misfit(batch, f"changed {changed} rows in place of {len(batch.rows)}")
 
     def _refused(self, waiting: Waiting, error: MisfitError) -> MisfitError:
-        """The error of statements of which one was refused. Where a single change waited, it was that one."""
+        """The error of statements of which one was refused. Where a single batch waited, it was that one."""
         batches = [batch for _, batch in waiting.wanted if batch]
         return self.misfit(batches[0], f"is refused: {error}") if len(batches) == 1 else error
 
 
-def connected(words: str, client: str) -> Psycopg | psql.Connection:
+def connected(words: str, client: str) -> Client:
     """A connection by a client."""
     if client == "psycopg" and psycopg is None:
-        raise WrongWordsError("psycopg isn't installed: apt-get install python3-psycopg, or pip install 'psycopg[binary]'")
+        how = "apt-get install python3-psycopg, or pip install 'psycopg[binary]'"
+        raise WrongWordsError(f"psycopg isn't installed: {how}")
     try:
         with judged():
-            connection = Psycopg(words) if psycopg and client != "psql" else psql.Connection(words)
+            by_psycopg = psycopg is not None and client != "psql"
+            connection: Client = Psycopg(words) if by_psycopg else psql.Connection(words)
             connection.run(list(SETTINGS))
             return connection
     except FileNotFoundError as error:
@@ -268,6 +284,11 @@ def tuples(rows: Sequence[tuple[Optional[str], ...]]) -> str:
 def literal(value: str | None) -> str:
     """A value as PostgreSQL reads it, of the type that its column has."""
     return "NULL" if value is None else "'" + value.replace("'", "''") + "'"
+
+
+def copied(value: str | None) -> str:
+    """A value as COPY reads it."""
+    return "\\N" if value is None else value.translate(ESCAPES)
 
 
 def quoted(name: str) -> str:

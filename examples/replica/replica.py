@@ -4,13 +4,13 @@
     replica.py sqlite:FILE SCHEMA LOGS
     replica.py postgres:CONNECTION SCHEMA LOGS
 
-postgres takes psycopg where that is installed, else the program psql; psycopg:CONNECTION and psql:CONNECTION name one of them.
-LOGS is the server's index file, the folder that has one, or a pattern in quotes. The tables stand in the target already, by the
-same names, with the same columns and with their primary keys. Each run takes what is new in the logs, and ends; with --follow it
-goes on.
+postgres takes psycopg where that is installed, else the program psql; psycopg:CONNECTION and psql:CONNECTION name one
+of them. LOGS is the server's index file, the folder that has one, or a pattern in quotes. The tables stand in the
+target already, by the same names, with the same columns and with their primary keys. Each run takes what is new in the
+logs, and ends; with --follow it goes on.
 
-One transaction of the target has whole transactions of the log, and the place behind them. So whenever this process is killed,
-the target has each change up to its place once, and none behind it.
+One transaction of the target has whole transactions of the log, and the place behind them. So whenever this process is
+killed, the target has each change up to its place once, and none behind it.
 """
 from __future__ import annotations
 
@@ -56,7 +56,7 @@ class Replica:
         self._kept = target.place()
         self._place = Place.from_text(self._kept) if self._kept else Place()
         self._changes = Changes(logs, schema, self._place, program)
-        # The log's transaction that is being taken, by its place; the token of its last change; and how many are whole before it.
+        # The log's transaction that is being taken, the token of its last change, and how many are whole before it.
         self._transaction: str | None = None
         self._token = ""
         self._whole = 0
@@ -75,8 +75,8 @@ class Replica:
                 self._take_back()
                 if self._alone or not is_open:
                     raise
-                # An error of a batch doesn't say which change it is of, and whole transactions may stand before it. Taken change
-                # by change, these come in, and the error is that of a change.
+                # An error of a batch doesn't say which change it is of, and whole transactions may stand before it.
+                # Taken change by change, these come in, and the error is that of a change.
                 self._alone = self._commit_every
 
     def close(self) -> None:
@@ -132,7 +132,7 @@ class Replica:
             self._batcher.alone = self._alone > 0
 
     def _keep(self, place: Place) -> None:
-        """Keeps the place at the end of a look, which may be in a later log than that of the last change. Without a log there is none."""
+        """Keeps the place at the end of a look, which may be in a later log than the last change."""
         text = place.to_text()
         if text != self._kept and place.file is not None:
             self._target.begin(self._kept)
@@ -178,12 +178,10 @@ def given_words() -> argparse.Namespace:
     parser.add_argument("--program", default="binlogfeed", metavar="PATH", help="the program (binlogfeed)")
     parser.add_argument("--follow", action="store_true", help="go on when the logs grow, until SIGTERM")
     parser.add_argument("--interval", type=float, default=1.0, metavar="SECONDS", help="how often to look for more (1)")
-    parser.add_argument(
-        "--commit-every", type=count, default=1, metavar="N", help="commit after so many of the log's transactions (1), and behind each look"
-    )
-    parser.add_argument(
-        "--unfit", choices=("error", "null"), default="error", help="what a value becomes that its column can't hold, as 0000-00-00 (error)"
-    )
+    every = "commit after so many of the log's transactions (1), and behind each look"
+    parser.add_argument("--commit-every", type=count, default=1, metavar="N", help=every)
+    unfit = "what a value becomes that its column can't hold, such as 0000-00-00 (error)"
+    parser.add_argument("--unfit", choices=("error", "null"), default="error", help=unfit)
     return parser.parse_args()
 
 

@@ -130,12 +130,13 @@ class Target:
         lists = f"in the log it has {listed(columns)}; in the target {listed(tuple(shape.types.items()))}"
         if met and met != columns:
             # Begun again, the replica takes the table as it is by then.
-            raise MisfitError(f"the columns of {where} have changed at {change.token}: before, it had {listed(met)}; {lists}")
+            changed = f"the columns of {where} have changed at {change.token}"
+            raise MisfitError(f"{changed}: before, it had {listed(met)}; {lists}")
         if {column.name for column in columns} != set(shape.types):
             raise MisfitError(f"the columns of {where} at {change.token} aren't those of the target: {lists}")
         converters = {column.name: self.converter(column.type, shape.types[column.name]) for column in columns}
         if self._unfit_is_null:
-            converters = {column: or_null(convert) for column, convert in converters.items()}
+            converters = {column: convert and or_null(convert) for column, convert in converters.items()}
         self._met[name] = columns
         self._tables[name] = Table(name, columns, converters, shape)
         return self._tables[name]
@@ -154,7 +155,8 @@ class Target:
                         convert(value)
                 except UnfitError:
                     where = f"{self._schema}.{table.name}.{name}"
-                    return MisfitError(f"{where} is {table.shape.types[name]} in the target, and can't hold {value!r} at {change.token}")
+                    held = f"can't hold {value!r} at {change.token}"
+                    return MisfitError(f"{where} is {table.shape.types[name]} in the target, and {held}")
         return MisfitError(f"{self._schema}.{table.name}: a value at {change.token} can't be converted")
 
 

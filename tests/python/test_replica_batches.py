@@ -37,7 +37,7 @@ def batches_of(lines, distinct=False):
     target, forms = Batches(distinct), {}
     batcher = Batcher(target)
     for line in lines:
-        batcher.take(change_of(line.encode(), forms))
+        batcher.take(change_of(line, forms))
     batcher.hand_over()
     return [(table, kind, len(rows)) for table, kind, rows in target.put_in]
 
