@@ -3,7 +3,7 @@ from __future__ import annotations
 
 from typing import TYPE_CHECKING, Any
 
-from changes import Change
+from binlogfeed.lines import Change
 from fitting import UnfitError
 
 if TYPE_CHECKING:
@@ -23,12 +23,13 @@ class Batch:
     row as it was. A delete has only those.
     """
 
-    __slots__ = ("table", "kind", "names", "key", "rows", "token", "size", "_keys", "_places")
+    __slots__ = ("form", "table", "kind", "names", "key", "rows", "token", "size", "_keys", "_places")
 
     def __init__(self, table: Table, change: Change) -> None:
         """An empty batch for changes such as this one."""
+        self.form = change.form
         self.table = table
-        self.kind = change.kind
+        self.kind = change.form.kind
         self.names = tuple(change.after or ())
         self.key = () if self.kind == "insert" else tuple(table.shape.key)
         self.rows: list[Row] = []
@@ -41,10 +42,9 @@ class Batch:
 
     def takes(self, change: Change) -> bool:
         """Whether a change may stand in this batch."""
+        # A form is that of a kind, a table and its columns.
         return (
-            change.kind == self.kind
-            and change.table == self.table.name
-            and (change.columns is self.table.columns or change.columns == self.table.columns)
+            change.form is self.form
             and (change.after is None or len(change.after) == len(self.names) and tuple(change.after) == self.names)
             and len(self.rows) < MOST_CHANGES
             and self.size < MOST_BYTES
@@ -83,8 +83,8 @@ class Batcher:
         # Whether each change is made by itself, so that an error names the one that is wrong.
         self.alone = False
 
-    def take(self, change: Change) -> None:
-        """Takes a change behind the others."""
+    def take(self, change: Change, size: int) -> None:
+        """Takes a change, with the length of its line, behind the others."""
         batch = self._batch
         if batch is None or not batch.takes(change):
             self.hand_over()
@@ -101,7 +101,7 @@ class Batcher:
             # An update that changes the key of its row stays alone.
             if not batch.is_new(row):
                 batch.size = MOST_BYTES
-        batch.add(row, change.size)
+        batch.add(row, size)
         if self.alone:
             self.hand_over()
             self._target.flush()

@@ -1,57 +1,34 @@
 """The changes that a server's logs have behind a place, by the full lines of `read --follow`."""
 from __future__ import annotations
 
-import base64
-import json
 from collections.abc import Iterator
-from typing import Any, NamedTuple, Optional
 
 from binlogfeed import Place
+from binlogfeed.lines import Change, reader_of_lines
+from binlogfeed.values import Style
 from binlogfeed.watch import Watch
-
-Image = dict[str, Any]
-# Its texts are read some microseconds faster than by `json.loads`.
-DECODER = json.JSONDecoder()
-
-
-class Column(NamedTuple):
-    """A column, and its type in the log's words."""
-
-    name: str
-    type: str
-
-
-Columns = tuple[Column, ...]
-
-
-class Change(NamedTuple):
-    """A change of one row. A value is that of the line; what it has in base64 is bytes."""
-
-    kind: str
-    table: str
-    # The same object for all changes of one form of a table.
-    columns: Columns
-    before: Optional[Image]
-    after: Optional[Image]
-    token: str
-    # How many characters its line has.
-    size: int
 
 
 class Changes:
-    """A schema's changes, look after look, each once."""
+    """A schema's changes, look after look, each once.
+
+    BinLogStreamReader makes its events of the same changes. It goes on behind a token; this goes on behind a whole place,
+    which also holds where the token's file is gone, and it knows where a look ends.
+    """
 
     def __init__(self, logs: str, schema: str, place: Place, program: str) -> None:
         """The changes of logs (an index, its folder, or a pattern) behind a place."""
         command = [program, "read", "--follow", "--full", f"--only-schemas={schema}"]
         self._watch = Watch(logs, command, place)
-        self._forms: dict[str, Columns] = {}
+        # Values stay as the line has them, but for bytes.
+        self._taken_apart = reader_of_lines(Style(raw=True), {})
 
-    def look(self) -> Iterator[Change]:
-        """The changes that are new by now. Raises what ended the reading early behind the changes before it."""
+    def look(self) -> Iterator[tuple[Change, int]]:
+        """The changes that are new by now, each with the length of its line. What ended the reading early is raised."""
+        taken_apart = self._taken_apart
         for block in self._watch.look():
-            for line in block.decode().split("\n")[:-1]:
-                yield change_of(line, self._forms)
+            for line in block.split(b"\n")[:-1]:
+                yield taken_apart(line), len(line)
 
     @property
     def place(self) -> Place:
@@ -70,22 +47,3 @@ class Changes:
     def close(self) -> None:
         """Ends the program."""
         self._watch.end()
-
-
-def change_of(line: str, forms: dict[str, Columns]) -> Change:
-    """The change of a full line. `forms` has the columns that were read before, by their text: most lines repeat it."""
-    # No text in JSON has bare quotes, and no value of a row begins with a bracket.
-    begin, end = line.index(',"key":['), line.rindex('},"kind":"') + 1
-    form = line[begin:end]
-    columns = forms.get(form)
-    if columns is None:
-        types = json.loads("{" + form[1:] + "}")["types"]
-        columns = forms[form] = tuple(Column(name, type_) for name, type_ in types.items())
-    members = DECODER.raw_decode(line[:begin] + line[end:])[0]
-    before, after = members["before"], members["after"]
-    for image in (before, after):
-        if image is not None:
-            for name, value in image.items():
-                if type(value) is dict:
-                    image[name] = base64.b64decode(value["raw"] if "raw" in value else value["base64"])
-    return Change(members["kind"], members["table"], columns, before, after, members["token"], len(line))

@@ -6,10 +6,13 @@ import datetime
 import json
 from collections.abc import Callable
 from decimal import Decimal
-from typing import Any, Optional
+from typing import Any, Optional, Union
 
 from binlogfeed import floats, json_binary
+from binlogfeed.charsets import CODECS, to_text
 
+# A text of the log, bytes in a character set that the program doesn't read, or a number without a name.
+Text = Union[str, int, bytes]
 # What makes another value; None where the value may stay as it is. NULL is never converted.
 Converter = Optional[Callable[[Any], Any]]
 
@@ -39,7 +42,8 @@ def for_sqlite(log: str, target: str) -> Converter:
         return whole_or_text if affinity in ("TEXT", "BLOB") else whole
     if kind == "year" and affinity != "TEXT":
         return int
-    return OTHERS.get(kind)
+    charset = charset_of(log)
+    return text_or_bytes(charset) if charset in CODECS else OTHERS.get(kind)
 
 
 def for_postgres(log: str, target: str) -> Converter:
@@ -61,14 +65,20 @@ def for_postgres(log: str, target: str) -> Converter:
         return {"bytea": hexadecimal, "uuid": uuid}.get(target, no_text)
     if kind in ("decimal", "year"):
         return None
-    if kind == "set" and target.endswith("[]"):
-        return array
-    return bytes_of_text if target == "bytea" else text
+    if target == "bytea":
+        return bytes_of_text
+    text = text_of(charset_of(log))
+    return (lambda value: array(text(value))) if kind == "set" and target.endswith("[]") else text
 
 
 def word(log: str) -> str:
     """A type of the log without its size, sign or character set."""
     return log.partition(" ")[0].partition("(")[0]
+
+
+def charset_of(log: str) -> str:
+    """The character set of a text's type; empty where it is unknown."""
+    return log.partition(" ")[2]
 
 
 def affinity_of(declared: str) -> str:
@@ -174,21 +184,43 @@ def no_text(value: bytes) -> str:
     raise UnfitError
 
 
-def text(value: str | int | bytes) -> str:
-    """A text, or the number of an ENUM or a SET without a name. Bytes are a text whose character set isn't read."""
-    if isinstance(value, bytes) or isinstance(value, str) and "\0" in value:
-        raise UnfitError
-    return str(value)
+def text_or_bytes(charset: str) -> Callable[[Text], Text]:
+    """What makes a text of bytes in a character set. They stay bytes where they are none."""
+
+    def converted(value: Text) -> Text:
+        """The text."""
+        try:
+            return to_text(value, charset) if isinstance(value, bytes) else value
+        except ValueError:
+            return value
+
+    return converted
 
 
-def bytes_of_text(value: str | int | bytes) -> str:
+def text_of(charset: str) -> Callable[[Text], str]:
+    """What makes a text of a value: of bytes in a character set, too, and of a number without a name."""
+
+    def converted(value: Text) -> str:
+        """The text. PostgreSQL has none with a zero byte."""
+        try:
+            found = to_text(value, charset) if isinstance(value, bytes) else str(value)
+        except ValueError:
+            raise UnfitError from None
+        if "\0" in found:
+            raise UnfitError
+        return found
+
+    return converted
+
+
+def bytes_of_text(value: Text) -> str:
     """The bytes of a text."""
     return hexadecimal(value if isinstance(value, bytes) else str(value).encode())
 
 
-def array(value: str | int | bytes) -> str:
+def array(value: str) -> str:
     """The names of a SET, as an array."""
-    names = text(value).replace("\\", "\\\\").replace('"', '\\"')
+    names = value.replace("\\", "\\\\").replace('"', '\\"')
     return "{" + ",".join(f'"{name}"' for name in names.split(",") if names) + "}"
 
 

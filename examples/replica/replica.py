@@ -26,7 +26,8 @@ sys.path.insert(0, str(Path(__file__).resolve().parents[2] / "python"))
 
 from batches import Batcher  # noqa: E402
 from binlogfeed import BinlogfeedError, LogFault, Place  # noqa: E402
-from changes import Change, Changes  # noqa: E402
+from binlogfeed.lines import Change  # noqa: E402
+from changes import Changes  # noqa: E402
 from postgres import Postgres  # noqa: E402
 from sqlite import Sqlite  # noqa: E402
 from targets import AwayError, MisfitError, ReplicaError, Target, WrongWordsError  # noqa: E402
@@ -87,8 +88,8 @@ class Replica:
         """Takes what is new. What isn't whole behind an error is taken back when the target is closed."""
         self._batcher.alone = self._alone > 0
         try:
-            for change in self._changes.look():
-                self._take(change)
+            for change, size in self._changes.look():
+                self._take(change, size)
         except LogFault as fault:
             # A log's fault stands behind whole transactions, unless the file changed while it was read.
             if self._transaction and fault.what != "SourceChanged":
@@ -101,7 +102,7 @@ class Replica:
             self._said_none = True
             print(f"replica: no log matches {self._source[0]} yet", file=sys.stderr, flush=True)
 
-    def _take(self, change: Change) -> None:
+    def _take(self, change: Change, size: int) -> None:
         """Takes a change, and ends the transaction before it where it is of another."""
         position, _, rest = change.token.partition(".")
         transaction = position + rest[rest.index("@") :]
@@ -114,7 +115,7 @@ class Replica:
                 self._target.begin(self._kept)
             self._transaction = transaction
         self._token = change.token
-        self._batcher.take(change)
+        self._batcher.take(change, size)
 
     def _commit(self) -> None:
         """Keeps what was taken, up to the last change."""

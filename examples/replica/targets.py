@@ -4,8 +4,11 @@ from __future__ import annotations
 from typing import Any, NamedTuple
 
 from batches import Batch
-from changes import Change, Columns
+from binlogfeed.lines import Change
+from binlogfeed.values import Column
 from fitting import Converter, UnfitError, or_null
+
+Columns = tuple[Column, ...]
 
 # The table that has the place, in one row.
 PLACE = "binlogfeed_place"
@@ -119,7 +122,7 @@ class Target:
 
     def table(self, change: Change) -> Table:
         """The table of a change, which has to have the columns of the target's, and those that it had before."""
-        name, columns = change.table, change.columns
+        name, columns = change.form.table, change.form.columns
         known = self._tables.get(name)
         if known and known.columns == columns:
             return known

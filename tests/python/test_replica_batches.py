@@ -5,7 +5,8 @@ import shutil
 import unittest
 
 from batches import Batcher
-from changes import change_of
+from binlogfeed.lines import reader_of_lines
+from binlogfeed.values import Style
 from fitting import for_sqlite
 from replicas import LinesTest, PostgresServer, SqliteFiles, ended, full_line, python_with_psycopg
 from targets import Shape, Table
@@ -24,8 +25,9 @@ class Batches:
 
     def table(self, change):
         """A table with the key `id`."""
-        converters = {column.name: for_sqlite(column.type, "TEXT") for column in change.columns}
-        return Table(change.table, change.columns, converters, Shape(dict(change.columns), ["id"]))
+        columns = change.form.columns
+        converters = {column.name: for_sqlite(column.type, "TEXT") for column in columns}
+        return Table(change.form.table, columns, converters, Shape(dict(columns), ["id"]))
 
     def put(self, batch):
         """Notes a batch."""
@@ -34,10 +36,10 @@ class Batches:
 
 def batches_of(lines, distinct=False):
     """The batches of changes: the table, the kind and the number of each."""
-    target, forms = Batches(distinct), {}
+    target, taken_apart = Batches(distinct), reader_of_lines(Style(raw=True), {})
     batcher = Batcher(target)
     for line in lines:
-        batcher.take(change_of(line, forms))
+        batcher.take(taken_apart(line.encode()), len(line))
     batcher.hand_over()
     return [(table, kind, len(rows)) for table, kind, rows in target.put_in]
 

@@ -9,7 +9,7 @@ import unittest
 from decimal import Decimal
 
 import fitting
-from built.truth import STRINGS, TRUTH, declared_types, decoded, server_truth
+from built.truth import TRUTH, declared_types, server_truth
 from replicas import LinesTest, PostgresServer, SqliteFiles, ended, full_line, python_with_psycopg
 
 LOGS = f"{TRUTH}/binlog.0*"
@@ -32,13 +32,14 @@ ALL = [
     ("marks", "set utf8mb4", "new,o\"k", "text[]", ["new", 'o"k']), ("none", "set utf8mb4", "", "text[]", []), ("names", "set utf8mb4", "a,b", "text", "a,b"),
     ("raw", "varbinary(9)", {"base64": "AP9c"}, "bytea", "\\x00ff5c"), ("uid", "binary(16)", {"base64": "AAECAwQFBgcICQoLDA0ODw=="}, "uuid", "00010203-0405-0607-0809-0a0b0c0d0e0f"),
     ("code", "char utf8mb4", "ab", "char(4)", "ab  "), ("text", "text utf8mb4", "it's\t\\N \\\n\r:x 李", "text", "it's\t\\N \\\n\r:x 李"),
-    ("gbk", "varchar gbk", {"base64": "1tA=", "charset": "gbk"}, "bytea", "\\xd6d0"), ("latin", "varchar utf8mb4", "é", "bytea", "\\xc3a9"),
+    ("gbk", "varchar gbk", {"base64": "1tA=", "charset": "gbk"}, "bytea", "\\xd6d0"), ("han", "varchar gbk", {"base64": "1tA=", "charset": "gbk"}, "text", "中"), ("latin", "varchar utf8mb4", "é", "bytea", "\\xc3a9"),
 ]  # fmt: skip
 # Values that PostgreSQL's columns can't hold.
 UNFIT = [
     ("date", "0000-00-00", "date"), ("date", "2024-02-00", "date"), ("datetime", "2024-00-01 00:00:00", "timestamp"), ("timestamp(1)", "0.0", "timestamptz"),
     ("time", "-00:00:01", "time"), ("time", "24:00:00", "time"), ("time", "838:59:59", "time"), ("tinyint", 2, "boolean"), ("varchar utf8mb4", "a\0b", "text"),
-    ("varchar gbk", {"base64": "1tA=", "charset": "gbk"}, "text"), ("blob", {"base64": "AP8="}, "text"), ("binary(2)", {"base64": "AP8="}, "uuid"),
+    ("varchar gbk", {"base64": "1g==", "charset": "gbk"}, "text"), ("char swe7", {"base64": "QQ==", "charset": "swe7"}, "text"),
+    ("text utf8mb4", {"base64": "/w==", "charset": "utf8mb4"}, "text"), ("varchar", {"base64": "QQ=="}, "text"), ("blob", {"base64": "AP8="}, "text"), ("binary(2)", {"base64": "AP8="}, "uuid"),
 ]  # fmt: skip
 
 
@@ -57,8 +58,6 @@ def expected(kind, type_, true):
 
 def of_sqlite(kind, type_, value):
     """A value of SQLite, so that it can be compared."""
-    if kind in ("text", "enum", "set") and isinstance(value, bytes):
-        return decoded(value, type_.split(" ")[1])
     if kind == "timestamp":
         whole = calendar.timegm(time.strptime(value[:19], "%Y-%m-%d %H:%M:%S"))
         return Decimal(f"{whole}{value[19:].replace('+00:00', '')}")
@@ -69,9 +68,8 @@ def of_sqlite(kind, type_, value):
 
 def of_postgres(kind, type_, value):
     """A value of PostgreSQL, by its text, so that it can be compared."""
-    if kind == "bytes" or value.startswith("\\x") and kind in ("text", "enum", "set"):
-        raw = bytes.fromhex(value[2:])
-        return raw if kind == "bytes" else decoded(raw, type_.split(" ")[1])
+    if kind == "bytes":
+        return bytes.fromhex(value[2:])
     if kind == "float":
         return of_sqlite(kind, type_, float(value))
     if kind == "bit":
@@ -92,7 +90,7 @@ def postgres_type(kind, type_):
     """A column's type in PostgreSQL."""
     if kind == "float":
         return "real" if type_.startswith("float") else "double precision"
-    return POSTGRES.get(kind) or ("text" if type_.rpartition(" ")[2] in STRINGS else "bytea")
+    return POSTGRES.get(kind, "text")
 
 
 def expected_of_postgres(kind, type_, true):
@@ -102,7 +100,7 @@ def expected_of_postgres(kind, type_, true):
     if kind == "time":
         return seconds(true)
     found = expected(kind, type_, true)
-    return None if kind in ("text", "enum", "set") and "\0" in found and type_.rpartition(" ")[2] in STRINGS else found
+    return None if kind in ("text", "enum", "set") and "\0" in found else found
 
 
 def seconds(text):
