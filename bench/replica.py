@@ -3,9 +3,10 @@
 
     bench/replica.py FOLDER --program PATH [--postgres CONNECTION] [--rows N] [--clients NAME,..]
 
-makes two logs in FOLDER: `bulk`, whose transactions insert 5,000 rows of five columns, and `mixed`, whose transactions insert four rows of
-such a table, update four older ones and delete two. The tables are filled in a file of SQLite in FOLDER, and in the database that
---postgres names, where they are made anew. A run's seconds are by the clock, with the start of Python and of the program.
+makes two logs in FOLDER: `bulk`, whose transactions insert 5,000 rows of five columns, and `mixed`, whose transactions
+insert four rows of such a table, update four older ones and delete two. The tables are filled in a file of SQLite in FOLDER,
+and in the database that --postgres names, where they are made anew. A run's seconds are by the clock, with the start of
+Python and of the program.
 """
 from __future__ import annotations
 
@@ -92,15 +93,16 @@ def emptied(target: str) -> None:
         connection.close()
         return
     statements = "; ".join([*drop, f"CREATE TABLE loaded ({COLUMNS['postgres']})"])
-    subprocess.run(["psql", "-X", "-q", "-d", words, "-c", "SET client_min_messages = error", "-c", statements], check=True)
+    quiet = "SET client_min_messages = error"
+    subprocess.run(["psql", "-X", "-q", "-d", words, "-c", quiet, "-c", statements], check=True)
 
 
 def timed(target: str, log: pathlib.Path, program: str, every: int) -> float:
     """The seconds that the replica of a log takes."""
     emptied(target)
     began = time.monotonic()
-    command = [sys.executable, str(REPLICA), "--program", program, "--commit-every", str(every), target, "bench", f"{log}*"]
-    subprocess.run(command, check=True)
+    options = ["--program", program, "--commit-every", str(every)]
+    subprocess.run([sys.executable, str(REPLICA), *options, target, "bench", f"{log}*"], check=True)
     return time.monotonic() - began
 
 
@@ -117,8 +119,8 @@ def main() -> None:
     logs = {name: given.folder / name / "binlog.000001" for name in ("bulk", "mixed")}
     for log in logs.values():
         log.parent.mkdir(exist_ok=True)
-    bulk = max(1, given.rows // make_log.BULK_ROWS)
-    written(logs["bulk"], make_log.made_units(TABLE, made_rows.loaded(), make_log.BULK_ROWS, make_log.BULK_BYTES, False, bulk))
+    loaded, bulk = made_rows.loaded(), max(1, given.rows // make_log.BULK_ROWS)
+    written(logs["bulk"], make_log.made_units(TABLE, loaded, make_log.BULK_ROWS, make_log.BULK_BYTES, False, bulk))
     written(logs["mixed"], mixed_units(given.rows // (INSERTED + UPDATED + DELETED)))
     targets = [f"sqlite:{given.folder}/replica.db"]
     targets += [f"{client}:{given.postgres}" for client in given.clients.split(",") if given.postgres]

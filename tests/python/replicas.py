@@ -1,4 +1,4 @@
-"""What the replica's tests share: replicas that run in processes of their own, targets, and a program that gives lines as told."""
+"""What the replica's tests share: replicas in processes of their own, targets, and a program that tells lines."""
 import json
 import os
 import random
@@ -18,23 +18,28 @@ from support import BANK, PROGRAM, SHOP, TOP, FolderTest, bank_rows
 REPLICA = TOP / "examples/replica/replica.py"
 TABLES = {"shop": TOP / "examples/replica/shop.sql", "bank": TOP / "tests/python/bank.sql"}
 LOGS = {"shop": str(SHOP[0].parent / "binlog.0*"), "bank": str(BANK[0].parent / "binlog.0*")}
+HAS_POSTGRES = all(map(shutil.which, ("postgres", "initdb", "pg_ctl", "psql")))
 # How long a test of kills may take at most.
 SECONDS = 120
 
 # The shop's tables at the end, by its statements.
+PAID = "2024-05-06 08:00:00+00:00"
 SHOP_ROWS = {
     "customer": [
         {"id": 1, "name": "Ada Lovelace", "email": "ada@example.org", "joined": "2024-01-15", "level": "gold"},
         {"id": 3, "name": "李清照", "email": "li@example.org", "joined": "2024-03-08", "level": "gold"},
     ],
-    "line": [{"purchase": 1, "nr": 1, "sku": "TEA-0001", "amount": 2}, {"purchase": 3, "nr": 1, "sku": "POT-0003", "amount": 1}],
+    "line": [
+        {"purchase": 1, "nr": 1, "sku": "TEA-0001", "amount": 2},
+        {"purchase": 3, "nr": 1, "sku": "POT-0003", "amount": 1},
+    ],
     "product": [
         {"sku": "CUP-0007", "title": 'Cup "Blue"', "price": "10.80", "tags": "sale", "weight": 0.35},
         {"sku": "POT-0003", "title": "Tea pot", "price": "35.55", "tags": "sale", "weight": 1.2},
         {"sku": "TEA-0001", "title": "Green tea, 100 g", "price": "4.90", "tags": "eco", "weight": 0.1},
     ],
     "purchase": [
-        {"id": 1, "customer": 1, "placed": "2024-05-06 07:08:09.125", "paid": "2024-05-06 08:00:00+00:00", "total": "9.80"},
+        {"id": 1, "customer": 1, "placed": "2024-05-06 07:08:09.125", "paid": PAID, "total": "9.80"},
         {"id": 3, "customer": 3, "placed": "2024-06-01 23:59:59.999", "paid": None, "total": "35.55"},
     ],
 }
@@ -145,11 +150,12 @@ class Forked:
 
 
 class Kills:
-    """Kills the replica of a schema again and again, from an empty target to the end, until it was killed often enough."""
+    """Kills the replica of a schema again and again, from an empty target to the end, until that was often enough."""
 
     def __init__(self, schema, count, new_target, rows_of, options=()):
         """`new_target` makes an empty target, `rows_of` reads its tables' rows."""
-        self.schema, self.count, self.new_target, self.rows_of, self.options = schema, count, new_target, rows_of, options
+        self.schema, self.count, self.options = schema, count, options
+        self.new_target, self.rows_of = new_target, rows_of
         self.chance = random.Random(f"{schema} {count} {options}")
         self.killed = self.inside = self.finished = 0
         # Kills in a row that left no new place: the later ones come later, however fast the machine is just now.
@@ -191,9 +197,9 @@ class Kills:
                 self.reasons.append(f"the tables differ after {self.killed} kills")
 
     def judge(self, test):
-        """What a test wants of it: that it was killed so often, in some of them amid the logs, and nothing was wrong."""
-        options = " ".join(self.options)
-        print(f"{self.schema} {options}: {self.killed} kills, {self.inside} places, {self.finished} times to the end", flush=True)
+        """What a test wants of it: it was killed so often, some of these amid the logs, and nothing was wrong."""
+        counts = f"{self.killed} kills, {self.inside} places, {self.finished} times to the end"
+        print(f"{' '.join([self.schema, *self.options])}: {counts}", flush=True)
         test.assertEqual(self.reasons, [])
         test.assertFalse(self.wanted())
 
@@ -282,7 +288,8 @@ class PostgresServer:
 
     def call(self, *command):
         """Runs one of the server's programs."""
-        subprocess.run(command, user=self.user, cwd=self.folder, stdout=subprocess.DEVNULL, stderr=subprocess.DEVNULL, check=True)
+        quiet = {"stdout": subprocess.DEVNULL, "stderr": subprocess.DEVNULL}
+        subprocess.run(command, user=self.user, cwd=self.folder, check=True, **quiet)
 
     def halt(self):
         """Ends the server at once, with all connections."""
@@ -325,12 +332,13 @@ class PostgresServer:
             kept = self.asked(target, f"SELECT place FROM {place}") if place in names else []
             return kept[0] if kept else ""
         query = "SELECT row_to_json(t) FROM (SELECT * FROM {}) AS t"
-        return in_order({table: [json.loads(text) for text in self.asked(target, query.format(table))] for table in names if table in KEYS})
+        rows = {table: self.asked(target, query.format(table)) for table in names & KEYS.keys()}
+        return in_order({table: [json.loads(text) for text in rows[table]] for table in rows})
 
 
 def python_with_psycopg():
     """This Python, or the system's, if psycopg is there for it."""
-    for python in (sys.executable, "/usr/bin/python3"):
-        if shutil.which(python) and subprocess.run([python, "-c", "import psycopg"], capture_output=True, check=False).returncode == 0:
+    for python in filter(shutil.which, (sys.executable, "/usr/bin/python3")):
+        if subprocess.run([python, "-c", "import psycopg"], capture_output=True, check=False).returncode == 0:
             return python
     return None

@@ -1,14 +1,13 @@
-"""Changes that the replica makes at once: what may stand in one batch, and that the tables are those that one by one would give."""
+"""Changes that the replica makes at once: what may stand in one batch, and that the tables are right in the end."""
 import json
 import random
-import shutil
 import unittest
 
 from batches import Batcher
 from binlogfeed.lines import reader_of_lines
 from binlogfeed.values import Style
 from fitting import for_sqlite
-from replicas import LinesTest, PostgresServer, SqliteFiles, ended, full_line, python_with_psycopg
+from replicas import HAS_POSTGRES, LinesTest, PostgresServer, SqliteFiles, ended, full_line, python_with_psycopg
 from targets import Shape, Table
 
 TYPES = {"id": "int", "u": "int", "v": "varchar utf8mb4"}
@@ -103,7 +102,8 @@ class Together(unittest.TestCase):
 
     def test_other_columns(self):
         """An image that lacks a column is of another batch."""
-        lines = [full_line((1, 1), "t", {"id": 1}, {"id": 1, "v": "b"}, TYPES), full_line((1, 2), "t", {"id": 2}, {"id": 2, "u": 7}, TYPES)]
+        images = [({"id": 1}, {"id": 1, "v": "b"}), ({"id": 2}, {"id": 2, "u": 7})]
+        lines = [full_line((1, n), "t", before, after, TYPES) for n, (before, after) in enumerate(images, 1)]
         self.assertEqual([count for _, _, count in batches_of(lines)], [1, 1])
 
     def test_size(self):
@@ -135,7 +135,7 @@ class Random(LinesTest):
         made = (lambda: files.made(f"CREATE TABLE a {TABLE}; CREATE TABLE b {TABLE};"), None)
         self.check([made], lambda target, table: files.asked(target, f"SELECT * FROM {table} ORDER BY id"))
 
-    @unittest.skipUnless(all(map(shutil.which, ("postgres", "initdb", "pg_ctl", "psql"))), "there is no PostgreSQL")
+    @unittest.skipUnless(HAS_POSTGRES, "there is no PostgreSQL")
     def test_postgres(self):
         server = PostgresServer()
         self.addCleanup(server.stop)

@@ -1,13 +1,23 @@
 """The replica in PostgreSQL, by psql, and by psycopg where that is installed."""
 import json
-import shutil
 import sys
 import unittest
 
 import postgres
 import psql
 import targets
-from replicas import SHOP_ROWS, Kills, LinesTest, PostgresServer, ended, full_line, in_order, python_with_psycopg, started
+from replicas import (
+    HAS_POSTGRES,
+    SHOP_ROWS,
+    Kills,
+    LinesTest,
+    PostgresServer,
+    ended,
+    full_line,
+    in_order,
+    python_with_psycopg,
+    started,
+)
 from support import bank_rows
 
 # How often the replica is killed while it works: by each client, without and with batches over several transactions.
@@ -16,9 +26,7 @@ TYPES = {"id": "int", "v": "varchar utf8mb4"}
 TABLE = "CREATE TABLE t (id integer PRIMARY KEY, v text)"
 
 
-@unittest.skipUnless(
-    all(map(shutil.which, ("postgres", "initdb", "pg_ctl", "psql"))), "there is no PostgreSQL: postgres, initdb, pg_ctl and psql"
-)
+@unittest.skipUnless(HAS_POSTGRES, "there is no PostgreSQL: postgres, initdb, pg_ctl and psql")
 class Postgres(LinesTest):
     """The replica in PostgreSQL."""
 
@@ -48,7 +56,11 @@ class Postgres(LinesTest):
 
     def in_clients(self, tables):
         """For each client, a new target with tables, and the Python that has the client."""
-        return [(self.server.made(tables).replace("psql:", f"{client}:"), {"python": python}) for client, python in self.clients.items()]
+        return [(self.made(tables, client), {"python": python}) for client, python in self.clients.items()]
+
+    def made(self, tables, client):
+        """A target with tables, for a client."""
+        return self.server.made(tables).replace("psql:", f"{client}:")
 
     def test_shop_and_bank(self):
         for client, python in self.clients.items():
@@ -62,7 +74,12 @@ class Postgres(LinesTest):
     def killed(self, client):
         """Kills the replica by a client."""
         for count, options in KILLS[client]:
-            kills = Kills("bank", count, lambda: self.server.new_target("bank").replace("psql:", f"{client}:"), self.rows_of, options)
+
+            def new_target():
+                """An empty target."""
+                return self.server.new_target("bank").replace("psql:", f"{client}:")
+
+            kills = Kills("bank", count, new_target, self.rows_of, options)
             kills.run()
             kills.judge(self)
 
@@ -75,15 +92,21 @@ class Postgres(LinesTest):
 
     def test_misfits(self):
         """A change that doesn't fit is named, those before it stand, and nothing of its transaction does."""
-        lines = [full_line((n, 1), "t", None, {"id": n, "v": "new"}, TYPES) for n in range(1, 70)]
+
+        def line(number, before, after):
+            """A line of a change between values of a row."""
+            images = [value and {"id": id_, "v": value} for id_, value in (before, after)]
+            return full_line(number, "t", *images, TYPES)
+
+        lines = [line((n, 1), (n, None), (n, "new")) for n in range(1, 70)]
         bad = {
-            "update": (full_line((80, 1), "t", {"id": 99, "v": "new"}, {"id": 99, "v": "x"}, TYPES), "changed 0 rows in place of 1"),
-            "delete": (full_line((80, 1), "t", {"id": 99, "v": "new"}, None, TYPES), "changed 0 rows in place of 1"),
-            "insert": (full_line((80, 1), "t", None, {"id": 5, "v": "x"}, TYPES), "is refused: duplicate key"),
+            "update": (line((80, 1), (99, "new"), (99, "x")), "changed 0 rows in place of 1"),
+            "delete": (line((80, 1), (99, "new"), (99, None)), "changed 0 rows in place of 1"),
+            "insert": (line((80, 1), (5, None), (5, "x")), "is refused: duplicate key"),
         }
-        for kind, (line, reason) in bad.items():
-            more = [full_line((81, n), "t", {"id": n, "v": "new"}, {"id": n, "v": "x"}, TYPES) for n in range(1, 9)]
-            told = self.told([*lines, full_line((79, 1), "t", {"id": 1, "v": "new"}, {"id": 1, "v": "x"}, TYPES), line, *more])
+        for kind, (wrong, reason) in bad.items():
+            more = [line((81, n), (n, "new"), (n, "x")) for n in range(1, 9)]
+            told = self.told([*lines, line((79, 1), (1, "new"), (1, "x")), wrong, *more])
             for options in ((), ("--commit-every", "100")):
                 for target, python in self.in_clients(TABLE):
                     status, said = ended(target, "made", *options, **told, **python)
@@ -91,21 +114,25 @@ class Postgres(LinesTest):
                     self.assertIn(f"replica: made.t: the {kind} at 8000.1@binlog.000001 {reason}", said)
                     counted = "SELECT count(*) || ' ' || count(*) FILTER (WHERE v = 'x') FROM t"
                     self.assertEqual(self.server.asked(target.replace("psycopg:", "psql:"), counted), ["69 1"])
-                    self.assertEqual(json.loads(self.rows_of(target, "binlogfeed_place"))["token"], "7900.1@binlog.000001")
+                    place = json.loads(self.rows_of(target, "binlogfeed_place"))
+                    self.assertEqual(place["token"], "7900.1@binlog.000001")
 
     def test_columns(self):
         told = self.told([full_line((1, 1), "t", None, {"id": 1, "v": "a"}, TYPES)])
         for target, python in self.in_clients("CREATE TABLE t (id integer PRIMARY KEY, w numeric(8,2))"):
-            line = "replica: the columns of made.t at 100.1@binlog.000001 aren't those of the target: in the log it has id int, v varchar utf8mb4"
-            self.assertEqual(ended(target, "made", **told, **python), (7, f"{line}; in the target id integer, w numeric\n"))
+            first = "replica: the columns of made.t at 100.1@binlog.000001 aren't those of the target: "
+            lists = "in the log it has id int, v varchar utf8mb4; in the target id integer, w numeric\n"
+            self.assertEqual(ended(target, "made", **told, **python), (7, first + lists))
         for target, python in self.in_clients("SELECT 1"):
             self.assertEqual(ended(target, "made", **told, **python)[0], 7)
 
     def test_deferred(self):
         """What PostgreSQL refuses at the end of a transaction alone."""
-        told = self.told([full_line((n, 1), "t", None, {"id": n, "v": "same" if n > 2 else f"{n}"}, TYPES) for n in range(1, 5)])
+        rows = [{"id": n, "v": "same" if n > 2 else f"{n}"} for n in range(1, 5)]
+        told = self.told([full_line((row["id"], 1), "t", None, row, TYPES) for row in rows])
+        unique = "ALTER TABLE t ADD UNIQUE (v) DEFERRABLE INITIALLY DEFERRED"
         for options in ((), ("--commit-every", "9")):
-            for target, python in self.in_clients(f"{TABLE}; ALTER TABLE t ADD UNIQUE (v) DEFERRABLE INITIALLY DEFERRED"):
+            for target, python in self.in_clients(f"{TABLE}; {unique}"):
                 status, said = ended(target, "made", *options, **told, **python)
                 self.assertEqual((status, said[:48]), (7, "replica: up to 400.1@binlog.000001: duplicate ke"))
                 self.assertEqual(self.count(target), ["3"])
@@ -136,7 +163,7 @@ class Postgres(LinesTest):
             self.assertEqual(status, 4)
             status, _ = ended(f"{client}:{self.server.words('none')}", "shop", python=python)
             self.assertEqual(status, 4)
-            target = self.server.made(TABLE).replace("psql:", f"{client}:")
+            target = self.made(TABLE, client)
             lines = [full_line((n, 1), "t", None, {"id": n, "v": "new"}, TYPES) for n in range(1, 9)]
             told = self.told(lines[:4])
             with started(target, "made", "--follow", "--interval", "0.02", **told, python=python) as process:
@@ -168,7 +195,8 @@ class Postgres(LinesTest):
         copied = text.translate(postgres.ESCAPES)
         self.assertEqual(connection.copy("COPY texts (t, n) FROM STDIN", f"{copied}\t\\N\n{copied}\t5\n"), 2)
         self.assertEqual([json.loads(row) for row in connection.query("SELECT to_json(t) FROM texts")], [text] * 3)
-        self.assertEqual(connection.run(["UPDATE texts SET n = 1 WHERE n = 2", "DELETE FROM texts WHERE n = 5"]), [0, 1])
+        statements = ["UPDATE texts SET n = 1 WHERE n = 2", "DELETE FROM texts WHERE n = 5"]
+        self.assertEqual(connection.run(statements), [0, 1])
         with self.assertRaises(psql.PsqlError) as raised:
             connection.run(["SELECT 1 / 0"])
         self.assertEqual((raised.exception.state, str(raised.exception)), ("22012", "division by zero"))

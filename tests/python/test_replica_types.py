@@ -2,7 +2,6 @@
 import calendar
 import datetime
 import json
-import shutil
 import struct
 import time
 import unittest
@@ -10,36 +9,47 @@ from decimal import Decimal
 
 import fitting
 from built.truth import TRUTH, declared_types, server_truth
-from replicas import LinesTest, PostgresServer, SqliteFiles, ended, full_line, python_with_psycopg
+from replicas import HAS_POSTGRES, LinesTest, PostgresServer, SqliteFiles, ended, full_line, python_with_psycopg
 
 LOGS = f"{TRUTH}/binlog.0*"
-HAS_POSTGRES = all(map(shutil.which, ("postgres", "initdb", "pg_ctl", "psql")))
 # PostgreSQL's types for the kinds of columns, where the kind alone says it.
 POSTGRES = {
-    "bit": "bit varying", "decimal": "numeric", "bytes": "bytea", "json": "jsonb", "year": "smallint", "date": "date", "datetime": "timestamp",
-    "time": "interval", "timestamp": "timestamptz", "int": "numeric",
+    "bit": "bit varying", "decimal": "numeric", "bytes": "bytea", "json": "jsonb", "year": "smallint", "date": "date",
+    "datetime": "timestamp", "time": "interval", "timestamp": "timestamptz", "int": "numeric",
 }  # fmt: skip
 SQLITE = {"bytes": "BLOB", "year": "INTEGER", "float": "REAL", "int": "INTEGER"}
 # A value of each kind of column that may be null, and the target's type for it.
 ALL = [
-    ("flag", "tinyint", 1, "boolean", True), ("bits", "bit(3)", 5, "bit(3)", "101"), ("on", "bit(1)", 0, "boolean", False),
-    ("most", "bigint unsigned", 18446744073709551615, "numeric(20)", 18446744073709551615), ("least", "tinyint", -128, "smallint", -128),
-    ("price", "decimal(8,2)", "-0.50", "numeric(8,2)", -0.50), ("ratio", "float", {"raw": "zczMPQ=="}, "real", 0.1),
-    ("size", "double", {"raw": "mpmZmZmZuT8="}, "double precision", 0.1), ("doc", "json", {"raw": "AAEADAALAAEABQEAYQ=="}, "jsonb", {"a": 1}),
-    ("born", "date", "2024-02-29", "date", "2024-02-29"), ("at", "datetime(3)", "2024-02-29 01:02:03.500", "timestamp", "2024-02-29T01:02:03.5"),
-    ("seen", "timestamp(2)", "1714982400.25", "timestamptz", "2024-05-06T08:00:00.25+00:00"), ("wait", "time", "-01:02:03", "interval", "-01:02:03"),
-    ("hour", "time", "23:59:59", "time", "23:59:59"), ("made", "year", "1999", "smallint", 1999), ("level", "enum utf8mb4", "gold", "text", "gold"),
-    ("marks", "set utf8mb4", "new,o\"k", "text[]", ["new", 'o"k']), ("none", "set utf8mb4", "", "text[]", []), ("names", "set utf8mb4", "a,b", "text", "a,b"),
-    ("raw", "varbinary(9)", {"base64": "AP9c"}, "bytea", "\\x00ff5c"), ("uid", "binary(16)", {"base64": "AAECAwQFBgcICQoLDA0ODw=="}, "uuid", "00010203-0405-0607-0809-0a0b0c0d0e0f"),
-    ("code", "char utf8mb4", "ab", "char(4)", "ab  "), ("text", "text utf8mb4", "it's\t\\N \\\n\r:x 李", "text", "it's\t\\N \\\n\r:x 李"),
-    ("gbk", "varchar gbk", {"base64": "1tA=", "charset": "gbk"}, "bytea", "\\xd6d0"), ("han", "varchar gbk", {"base64": "1tA=", "charset": "gbk"}, "text", "中"), ("latin", "varchar utf8mb4", "é", "bytea", "\\xc3a9"),
+    ("flag", "tinyint", 1, "boolean", True), ("bits", "bit(3)", 5, "bit(3)", "101"),
+    ("on", "bit(1)", 0, "boolean", False),
+    ("most", "bigint unsigned", 18446744073709551615, "numeric(20)", 18446744073709551615),
+    ("least", "tinyint", -128, "smallint", -128), ("price", "decimal(8,2)", "-0.50", "numeric(8,2)", -0.50),
+    ("ratio", "float", {"raw": "zczMPQ=="}, "real", 0.1),
+    ("size", "double", {"raw": "mpmZmZmZuT8="}, "double precision", 0.1),
+    ("doc", "json", {"raw": "AAEADAALAAEABQEAYQ=="}, "jsonb", {"a": 1}),
+    ("born", "date", "2024-02-29", "date", "2024-02-29"),
+    ("at", "datetime(3)", "2024-02-29 01:02:03.500", "timestamp", "2024-02-29T01:02:03.5"),
+    ("seen", "timestamp(2)", "1714982400.25", "timestamptz", "2024-05-06T08:00:00.25+00:00"),
+    ("wait", "time", "-01:02:03", "interval", "-01:02:03"), ("hour", "time", "23:59:59", "time", "23:59:59"),
+    ("made", "year", "1999", "smallint", 1999), ("level", "enum utf8mb4", "gold", "text", "gold"),
+    ("marks", "set utf8mb4", "new,o\"k", "text[]", ["new", 'o"k']), ("none", "set utf8mb4", "", "text[]", []),
+    ("names", "set utf8mb4", "a,b", "text", "a,b"), ("raw", "varbinary(9)", {"base64": "AP9c"}, "bytea", "\\x00ff5c"),
+    ("uid", "binary(16)", {"base64": "AAECAwQFBgcICQoLDA0ODw=="}, "uuid", "00010203-0405-0607-0809-0a0b0c0d0e0f"),
+    ("code", "char utf8mb4", "ab", "char(4)", "ab  "),
+    ("text", "text utf8mb4", "it's\t\\N \\\n\r:x 李", "text", "it's\t\\N \\\n\r:x 李"),
+    ("gbk", "varchar gbk", {"base64": "1tA=", "charset": "gbk"}, "bytea", "\\xd6d0"),
+    ("han", "varchar gbk", {"base64": "1tA=", "charset": "gbk"}, "text", "中"),
+    ("latin", "varchar utf8mb4", "é", "bytea", "\\xc3a9"),
 ]  # fmt: skip
 # Values that PostgreSQL's columns can't hold.
 UNFIT = [
-    ("date", "0000-00-00", "date"), ("date", "2024-02-00", "date"), ("datetime", "2024-00-01 00:00:00", "timestamp"), ("timestamp(1)", "0.0", "timestamptz"),
-    ("time", "-00:00:01", "time"), ("time", "24:00:00", "time"), ("time", "838:59:59", "time"), ("tinyint", 2, "boolean"), ("varchar utf8mb4", "a\0b", "text"),
-    ("varchar gbk", {"base64": "1g==", "charset": "gbk"}, "text"), ("char swe7", {"base64": "QQ==", "charset": "swe7"}, "text"),
-    ("text utf8mb4", {"base64": "/w==", "charset": "utf8mb4"}, "text"), ("varchar", {"base64": "QQ=="}, "text"), ("blob", {"base64": "AP8="}, "text"), ("binary(2)", {"base64": "AP8="}, "uuid"),
+    ("date", "0000-00-00", "date"), ("date", "2024-02-00", "date"), ("datetime", "2024-00-01 00:00:00", "timestamp"),
+    ("timestamp(1)", "0.0", "timestamptz"), ("time", "-00:00:01", "time"), ("time", "24:00:00", "time"),
+    ("time", "838:59:59", "time"), ("tinyint", 2, "boolean"), ("varchar utf8mb4", "a\0b", "text"),
+    ("varchar gbk", {"base64": "1g==", "charset": "gbk"}, "text"),
+    ("char swe7", {"base64": "QQ==", "charset": "swe7"}, "text"),
+    ("text utf8mb4", {"base64": "/w==", "charset": "utf8mb4"}, "text"), ("varchar", {"base64": "QQ=="}, "text"),
+    ("blob", {"base64": "AP8="}, "text"), ("binary(2)", {"base64": "AP8="}, "uuid"),
 ]  # fmt: skip
 
 
@@ -74,14 +84,16 @@ def of_postgres(kind, type_, value):
         return of_sqlite(kind, type_, float(value))
     if kind == "bit":
         return int(value, 2)
-    return {"json": json.loads, "int": int, "year": int}.get(kind, Decimal if kind in ("decimal", "timestamp", "time") else str)(value)
+    readers = {"json": json.loads, "int": int, "year": int, "decimal": Decimal, "timestamp": Decimal, "time": Decimal}
+    return readers.get(kind, str)(value)
 
 
 def made(type_of):
     """The statements that make the tables, each column of a type that fits."""
     tables = []
     for name, table in server_truth().items():
-        columns = ", ".join(f"{column} {type_of(kind, declared_types()[name][column])}" for column, kind in table.kinds.items())
+        types = declared_types()[name]
+        columns = ", ".join(f"{column} {type_of(kind, types[column])}" for column, kind in table.kinds.items())
         tables.append(f"CREATE TABLE {name} (id INTEGER PRIMARY KEY, {columns})")
     return "; ".join(tables)
 
@@ -94,7 +106,7 @@ def postgres_type(kind, type_):
 
 
 def expected_of_postgres(kind, type_, true):
-    """What PostgreSQL should have of what the server says: no days that are none, and no zeros at the end of a fraction."""
+    """What PostgreSQL should have of what the server says: no days that are none, no zeros at a fraction's end."""
     if kind in ("date", "datetime"):
         return None if not is_day(true) else true.rstrip("0").rstrip(".") if "." in true else true
     if kind == "time":
@@ -139,9 +151,18 @@ class Truth(LinesTest):
     def test_sqlite(self):
         files = SqliteFiles()
         self.addCleanup(files.stop)
-        target = files.made(made(lambda kind, type_: "TEXT" if type_ == "bigint unsigned" else SQLITE.get(kind, "TEXT")))
+
+        def type_of(kind, type_):
+            """A column's type in SQLite."""
+            return "TEXT" if type_ == "bigint unsigned" else SQLITE.get(kind, "TEXT")
+
+        def rows_of(name, _kinds):
+            """The rows of a table."""
+            return {row["id"]: row for row in files.asked(target, f"SELECT * FROM {name}")}
+
+        target = files.made(made(type_of))
         self.assertEqual(ended(target, "truth", "--commit-every", "20", logs=LOGS), (0, ""))
-        self.check(lambda name, _: {row["id"]: row for row in files.asked(target, f"SELECT * FROM {name}")}, of_sqlite, expected)
+        self.check(rows_of, of_sqlite, expected)
 
     @unittest.skipUnless(HAS_POSTGRES, "there is no PostgreSQL")
     def test_postgres(self):
@@ -151,9 +172,10 @@ class Truth(LinesTest):
 
         def rows_of(name, kinds):
             """The rows of a table, each value as a text."""
-            parts = [f"extract(epoch FROM {it})::text AS {it}" if kinds[it] in ("time", "timestamp") else f"{it}::text" for it in kinds]
-            rows = map(json.loads, server.asked(target, f"SELECT row_to_json(t) FROM (SELECT id, {', '.join(parts)} FROM {name}) AS t"))
-            return {row["id"]: row for row in rows}
+            shown = {"time": "extract(epoch FROM {0})::text AS {0}", "timestamp": "extract(epoch FROM {0})::text AS {0}"}
+            parts = ", ".join(shown.get(kind, "{0}::text").format(column) for column, kind in kinds.items())
+            query = f"SELECT row_to_json(t) FROM (SELECT id, {parts} FROM {name}) AS t"
+            return {row["id"]: row for row in map(json.loads, server.asked(target, query))}
 
         self.assertEqual(ended(target, "truth", "--commit-every", "20", logs=LOGS)[0], 7)
         self.assertEqual(ended(target, "truth", "--commit-every", "20", "--unfit", "null", logs=LOGS), (0, ""))
@@ -173,7 +195,8 @@ class Columns(LinesTest):
 
     def rows(self, target):
         """The rows of the table."""
-        return [json.loads(text) for text in self.server.asked(target.replace("psycopg:", "psql:"), "SELECT row_to_json(t) FROM t ORDER BY id")]
+        query = "SELECT row_to_json(t) FROM t ORDER BY id"
+        return [json.loads(text) for text in self.server.asked(target.replace("psycopg:", "psql:"), query)]
 
     def test_all(self):
         """Each kind of column, put in by a row, by many, and by updates of one and of many."""
@@ -188,11 +211,12 @@ class Columns(LinesTest):
         told = self.told(lines)
         filled = {n: n % 2 == 0 or n <= 31 for n in [1, 2, 3, *range(5, 30, 2), *range(30, 81)]}
         wanted = [{"id": n, **({name: value for name, *_, value in ALL} if filled[n] else none)} for n in filled]
-        columns = ", ".join(f"{name} {kind}" for name, _, _, kind, _ in ALL).replace(" on bit", ' "on" bit').replace(" on boolean", ' "on" boolean')
+        columns = ", ".join(f'"{name}" {kind}' for name, _, _, kind, _ in ALL)
+        table = f"CREATE TABLE t (id integer GENERATED ALWAYS AS IDENTITY PRIMARY KEY, {columns})"
         for client, python in (("psql", None), ("psycopg", python_with_psycopg())):
             if client == "psycopg" and not python:
                 continue
-            target = self.server.made(f"CREATE TABLE t (id integer GENERATED ALWAYS AS IDENTITY PRIMARY KEY, {columns})").replace("psql:", f"{client}:")
+            target = self.server.made(table).replace("psql:", f"{client}:")
             self.assertEqual(ended(target, "made", **told, **({"python": python} if python else {})), (0, ""))
             self.assertEqual(self.rows(target), wanted)
 
@@ -201,11 +225,13 @@ class Columns(LinesTest):
         for log, value, kind in UNFIT:
             with self.subTest(value=value, kind=kind):
                 types = {"id": "int", "v": log}
-                told = self.told([full_line((1, 1), "t", None, {"id": 1, "v": None}, types), full_line((1, 2), "t", None, {"id": 2, "v": value}, types)])
+                rows = [{"id": 1, "v": None}, {"id": 2, "v": value}]
+                told = self.told([full_line((1, row["id"]), "t", None, row, types) for row in rows])
                 target = self.server.made(f"CREATE TABLE t (id integer PRIMARY KEY, v {kind})")
                 status, said = ended(target, "made", **told)
                 self.assertEqual(status, 7)
-                self.assertRegex(said, r"\Areplica: made\.t\.v is [a-z ]+ in the target, and can't hold .+ at 100\.2@binlog\.000001\n\Z")
+                line = r"\Areplica: made\.t\.v is [a-z ]+ in the target, and can't hold .+ at 100\.2@binlog\.000001\n\Z"
+                self.assertRegex(said, line)
                 self.assertEqual(self.rows(target), [])
                 self.assertEqual(ended(target, "made", "--unfit", "null", **told), (0, ""))
                 self.assertEqual(self.rows(target), [{"id": 1, "v": None}, {"id": 2, "v": None}])
@@ -241,24 +267,36 @@ class Fitting(LinesTest):
         """As SQLite itself says it."""
         files = SqliteFiles()
         self.addCleanup(files.stop)
-        for declared in ("INT", "bigint", "CHARINT", "VARCHAR(9)", "CLOB", "text", "BLOB", "", "REAL", "FLOAT", "DOUBLE PRECISION", "DECIMAL(8,2)", "DATE"):
+        types = "INT, bigint, CHARINT, VARCHAR(9), CLOB, text, BLOB, , REAL, FLOAT, DOUBLE PRECISION, DECIMAL(8), DATE"
+        for declared in types.split(", "):
             target = files.made(f"CREATE TABLE t (v {declared})")
             for value in ("5", 5):
                 files.asked(target, "INSERT INTO t VALUES (?)", [value])
             found = [row["it"] for row in files.asked(target, "SELECT typeof(v) AS it FROM t ORDER BY rowid")]
             affinity = fitting.affinity_of(declared)
-            wanted = {"TEXT": ["text", "text"], "BLOB": ["text", "integer"], "REAL": ["real", "real"]}.get(affinity, ["integer", "integer"])
-            self.assertEqual(found, wanted, declared)
+            kept = {"TEXT": ["text", "text"], "BLOB": ["text", "integer"], "REAL": ["real", "real"]}
+            self.assertEqual(found, kept.get(affinity, ["integer", "integer"]), declared)
 
     def test_json(self):
         self.assertEqual(fitting.json_text(b"\x0c\x03abc"), '"abc"')
         self.assertEqual(fitting.json_text(bytes.fromhex("02 0200 0a00 04 0100 05 feff")), "[true, -2]")
         self.assertEqual(fitting.json_text(b""), "null")
-        values = [Decimal("1.10"), Decimal("12345678901234567890.5"), datetime.timedelta(days=-1, hours=-2, microseconds=-5)]
-        values += [datetime.timedelta(hours=838, seconds=9), datetime.datetime(2024, 1, 2, 3, 4, 5), datetime.date(2024, 1, 2), b"\xff"]
-        wanted = [1.1, "12345678901234567890.5", "-26:00:00.000005", "838:00:09.000000", "2024-01-02 03:04:05.000000", "2024-01-02", "/w=="]
-        self.assertEqual([fitting.json_value(value) for value in values], wanted)
+        values = [
+            (Decimal("1.10"), 1.1),
+            (Decimal("12345678901234567890.5"), "12345678901234567890.5"),
+            (datetime.timedelta(days=-1, hours=-2, microseconds=-5), "-26:00:00.000005"),
+            (datetime.timedelta(hours=838, seconds=9), "838:00:09.000000"),
+            (datetime.datetime(2024, 1, 2, 3, 4, 5), "2024-01-02 03:04:05.000000"),
+            (datetime.date(2024, 1, 2), "2024-01-02"),
+            (b"\xff", "/w=="),
+        ]
+        self.assertEqual([fitting.json_value(value) for value, _ in values], [wanted for _, wanted in values])
 
     def test_moments(self):
-        told = {"0": "0000-00-00 00:00:00", "0.00": "0000-00-00 00:00:00.00", "0.5": "1970-01-01 00:00:00.5+00:00", "2147483647.999": "2038-01-19 03:14:07.999+00:00"}
+        told = {
+            "0": "0000-00-00 00:00:00",
+            "0.00": "0000-00-00 00:00:00.00",
+            "0.5": "1970-01-01 00:00:00.5+00:00",
+            "2147483647.999": "2038-01-19 03:14:07.999+00:00",
+        }
         self.assertEqual({value: fitting.moment(value) for value in told}, told)
