@@ -40,21 +40,24 @@ class Connection:
             stderr=self._said,
             encoding="utf-8",
         )
+        (version,) = self._answer("\\echo :VERSION_NUM")
+        # From version 15 on psql says of each statement that it sends in one request what it changed; before, of the last one.
+        self._between = "\\;\n" if int(version) >= 150000 else ";\n"
 
     def run(self, statements: list[str]) -> list[int]:
         """Carries out statements. Answers how many rows each has changed; -1 of one that changes none."""
-        found = (CHANGED.fullmatch(line) for line in self._answer(";\n".join(statements)))
+        found = (CHANGED.fullmatch(line) for line in self._answer(self._between.join(statements) + ";"))
         return [int(changed[1]) if changed else -1 for changed in found]
 
     def copy(self, statement: str, rows: str) -> int:
         """Carries out a COPY from lines of text. Answers how many rows it has put in."""
-        (line,) = self._answer(f"{statement};\n{rows}\\.\n")
+        (line,) = self._answer(f"{statement};\n{rows}\\.")
         changed = CHANGED.fullmatch(line)
         return int(changed[1]) if changed else -1
 
     def query(self, statement: str) -> list[str]:
         """What a query of one column answers. No value has a line feed."""
-        return self._answer(statement)
+        return self._answer(f"{statement};")
 
     def close(self) -> None:
         """Ends psql. A transaction that is open is rolled back."""
@@ -66,10 +69,10 @@ class Connection:
                     pipe.close()
 
     def _answer(self, text: str) -> list[str]:
-        """What psql prints for a text of statements."""
+        """What psql prints for a text of statements and commands."""
         assert self._process.stdin is not None and self._process.stdout is not None
         with contextlib.suppress(BrokenPipeError):  # it ended, which the reading tells
-            self._process.stdin.write(f"{text};\n\\echo '{DONE}'\n")
+            self._process.stdin.write(f"{text}\n\\echo '{DONE}'\n")
             self._process.stdin.flush()
         lines: list[str] = []
         for line in self._process.stdout:
