@@ -1,4 +1,4 @@
-"""The command line: `python3 -m binlogfeed follow --state FILE LOGS`."""
+"""The command line: `python3 -m binlogfeed follow --state FILE LOGS`, and `python3 -m binlogfeed summary LOGS`."""
 from __future__ import annotations
 
 import argparse
@@ -8,12 +8,14 @@ import sys
 import threading
 import time
 from pathlib import Path
+from typing import Any
 
 from binlogfeed.faults import BinlogfeedError
+from binlogfeed.filters import add_filters, filter_words
 from binlogfeed.follow import Follower
+from binlogfeed.summary.command import add_summary
 from binlogfeed.version import VERSION
 
-FILTERS = ("only-events", "only-tables", "ignored-tables", "only-schemas", "ignored-schemas", "auto-position")
 # A look that goes on when SIGTERM comes has so many seconds to come to its end.
 GRACE = 5.0
 HELP = """LOGS is the server's index file (binlog.index), the folder that has one, or a pattern in quotes ('/copies/binlog.*').
@@ -25,33 +27,37 @@ were still to be read are gone, and 70 where the program can't be started. docs/
 
 
 def given_words() -> argparse.Namespace:
-    """Reads the command line."""
+    """Reads the command line. `run` of what it answers is the command's function."""
     parser = argparse.ArgumentParser(prog="python3 -m binlogfeed", description=__doc__)
     parser.add_argument("--version", action="version", version=f"binlogfeed {VERSION}", help="print the version")
     commands = parser.add_subparsers(dest="command", required=True)
-    follow = commands.add_parser(
+    add_follow(commands)
+    add_summary(commands)
+    return parser.parse_args()
+
+
+def add_follow(commands: Any) -> None:
+    """Gives the command line the command `follow`."""
+    parser: argparse.ArgumentParser = commands.add_parser(
         "follow",
         help="print the lines of `binlogfeed read` while a server writes its logs",
         epilog=HELP,
         formatter_class=argparse.RawDescriptionHelpFormatter,
     )
-    follow.add_argument("logs", metavar="LOGS", help="where the logs are")
-    follow.add_argument("--state", metavar="FILE", required=True, type=Path, help="keeps the place; made where there is none")
-    follow.add_argument("--once", action="store_true", help="end where the logs end by now")
-    follow.add_argument("--interval", metavar="SECONDS", type=float, default=1.0, help="how often to look for more (1)")
-    follow.add_argument("--status", metavar="SECONDS", type=float, help="say on standard error how far it is, so often")
-    follow.add_argument("--program", metavar="PATH", default="binlogfeed", help="the program (binlogfeed)")
-    follow.add_argument("--full", action="store_true", help="print full lines")
-    for name in FILTERS:
-        metavar = "SET" if name == "auto-position" else "LIST"
-        follow.add_argument(f"--{name}", metavar=metavar, help="that of `binlogfeed read`")
-    return parser.parse_args()
+    parser.add_argument("logs", metavar="LOGS", help="where the logs are")
+    parser.add_argument("--state", metavar="FILE", required=True, type=Path, help="keeps the place; made where there is none")
+    parser.add_argument("--once", action="store_true", help="end where the logs end by now")
+    parser.add_argument("--interval", metavar="SECONDS", type=float, default=1.0, help="how often to look for more (1)")
+    parser.add_argument("--status", metavar="SECONDS", type=float, help="say on standard error how far it is, so often")
+    parser.add_argument("--program", metavar="PATH", default="binlogfeed", help="the program (binlogfeed)")
+    parser.add_argument("--full", action="store_true", help="print full lines")
+    add_filters(parser)
+    parser.set_defaults(run=follow)
 
 
 def follow(given: argparse.Namespace) -> None:
     """Prints lines until something ends it, or the logs end."""
-    chosen = ((name, getattr(given, name.replace("-", "_"))) for name in FILTERS)
-    words = [f"--{name}={value}" for name, value in chosen if value is not None]
+    words = filter_words(given)
     if given.full:
         words.insert(0, "--full")
     follower = Follower(given.logs, given.state, words, given.program)
@@ -91,7 +97,8 @@ def say_status(follower: Follower, seconds: float) -> None:
 def main() -> int:
     """Runs the command. The answer is the exit status."""
     try:
-        follow(given_words())
+        given = given_words()
+        given.run(given)
     except BinlogfeedError as error:
         print(error.line, file=sys.stderr)
         return error.status if error.status > 0 else 128 - error.status

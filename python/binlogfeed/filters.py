@@ -1,0 +1,19 @@
+"""The program's filters, as options of this package's commands."""
+from __future__ import annotations
+
+import argparse
+
+FILTERS = ("only-events", "only-tables", "ignored-tables", "only-schemas", "ignored-schemas", "auto-position")
+
+
+def add_filters(parser: argparse.ArgumentParser) -> None:
+    """Gives a command the filters."""
+    for name in FILTERS:
+        metavar = "SET" if name == "auto-position" else "LIST"
+        parser.add_argument(f"--{name}", metavar=metavar, help="that of `binlogfeed read`")
+
+
+def filter_words(given: argparse.Namespace) -> list[str]:
+    """The program's words for the filters that are given."""
+    chosen = ((name, getattr(given, name.replace("-", "_"))) for name in FILTERS)
+    return [f"--{name}={value}" for name, value in chosen if value is not None]
