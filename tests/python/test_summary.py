@@ -6,10 +6,12 @@ import os
 import pty
 import random
 import re
+import signal
 import struct
 import subprocess
 import sys
 import termios
+import time
 import xml.etree.ElementTree
 from collections import Counter
 from html.parser import HTMLParser
@@ -58,6 +60,15 @@ def ran(*words, program=PROGRAM, env=ENVIRONMENT):
     return subprocess.run(
         command(*words, program=program), capture_output=True, encoding="utf-8", env=env, check=False, timeout=SECONDS
     )
+
+
+def runs(number):
+    """Whether a process still runs. One that ended may stand in the list until somebody takes its status."""
+    try:
+        with open(f"/proc/{number}/stat", encoding="utf-8") as told:
+            return told.read().rpartition(")")[2].split()[0] != "Z"
+    except (FileNotFoundError, ProcessLookupError):
+        return False
 
 
 def lines_of(files):
@@ -364,6 +375,22 @@ class Faults(FolderTest):
             process.stdout.close()
             said = process.stderr.read()
         self.assertEqual((process.returncode, said), (4, b"binlogfeed: write fault\n"))
+
+    def test_interrupted(self):
+        """Ctrl-C reaches all processes. None of them is left, and none says anything."""
+        path = self.put("binlog.000001", b"")
+        os.truncate(path, 1 << 24)
+        program = self.stub(f"echo $$ >> {self.folder}/started\nexec sleep 60")
+        options = {"stdout": subprocess.PIPE, "stderr": subprocess.PIPE, "env": ENVIRONMENT, "start_new_session": True}
+        with running(command(path, program=program), **options) as process:
+            started = self.folder / "started"
+            while not started.exists() or started.read_text().count("\n") < 2:
+                time.sleep(0.01)
+            os.killpg(process.pid, signal.SIGINT)
+            # Both end once no process has them any more.
+            said = process.stdout.read(), process.stderr.read()
+        self.assertEqual((process.returncode, said), (130, (b"", b"")))
+        self.assertEqual([number for number in started.read_text().split() if runs(number)], [])
 
     def test_work_that_ends_early(self):
         for work in (lambda: os._exit(3), lambda: os.kill(os.getpid(), 9)):
