@@ -168,7 +168,8 @@ class Made(Package):
             wanted = base64.urlsafe_b64encode(hashlib.sha256(content[name]).digest()).decode().rstrip("=")
             self.assertEqual((digest, length), (f"sha256={wanted}", str(len(content[name]))))
         self.assertEqual(rows[-1], [f"{info}/RECORD", "", ""])
-        package = {f"binlogfeed/{path.name}" for path in (TOP / "python/binlogfeed").iterdir() if path.is_file()}
+        sources = {name.removeprefix("python/") for name, data in self.before.items() if data is not None}
+        package = {name for name in sources if name.startswith("binlogfeed/")}
         self.assertEqual({name for name in content if name.startswith("binlogfeed/")}, package)
 
     def test_one_time(self):
