@@ -276,8 +276,15 @@ class Debian(Package):
         """An upgrade takes the old bytecode away, which has the time of the new sources."""
         ran(["dpkg-deb", "--control", self.deb, self.room / "control"])
         self.assertEqual({path.name for path in (self.room / "control").iterdir()}, {"control", "postinst", "prerm"})
-        (folder,) = re.findall(r"rm -rf /(.*)/__pycache__$", (self.room / "control/prerm").read_text(), re.MULTILINE)
-        self.assertTrue((self.room / "deb" / folder / "__init__.py").is_file())
+        installed = self.room / "installed"
+        shutil.copytree(self.room / "deb/usr/lib/python3/dist-packages", installed)
+        before = tree(installed)
+        for folder in {path.parent for path in installed.rglob("*.py")}:
+            (folder / "__pycache__").mkdir()
+            (folder / "__pycache__/reader.pyc").touch()
+        script = (self.room / "control/prerm").read_text(encoding="utf-8")
+        ran(["sh", "-c", script.replace("/usr/lib/python3/dist-packages", str(installed))])
+        self.assertEqual(tree(installed), before)
         for name in ("postinst", "prerm"):
             self.assertTrue(os.access(self.room / "control" / name, os.X_OK))
         # Nothing is installed here that it could compile: it does nothing, and ends well.
