@@ -263,16 +263,17 @@ class Counting(FolderTest):
 
     def test_tails_within_a_row(self):
         """A row of a table whose columns are named as a line's members are, and whose values look like them."""
-        image = '{"gtid":null,"kind":"insert","schema":"s","table":"t","timestamp":5,"token":"9.1@f"}'
-        line = f'{{"after":{image},"before":{image},"gtid":null,"kind":"update","schema":"x","table":"y",'
-        line += '"timestamp":7,"token":"4.1@f"}\n'
-        changes = Changes()
         with self.assertRaises(ProgramFailed):
             counted_block(b'{"after":null}\n', 0)
-        changes.add(counted_block((line + line.replace("4.1@", "6.1@")).encode(), 0))
-        changes.end()
-        self.assertEqual(changes.tables(), {Table("x", "y"): {"update": 2}})
-        self.assertEqual(changes.sizes.largest, [(1, Change(7, "4.1@f", None)), (1, Change(7, "6.1@f", None))])
+        for token in ("9.1@f", "", "9", "9.1", "@", "4.1@f"):
+            image = f'{{"gtid":null,"kind":"insert","schema":"s","table":"t","timestamp":5,"token":"{token}"}}'
+            line = f'{{"after":{image},"before":{image},"gtid":null,"kind":"update","schema":"x","table":"y",'
+            line += '"timestamp":7,"token":"4.1@f"}\n'
+            changes = Changes()
+            changes.add(counted_block((line + line.replace('"4.1@f"}\n', '"6.1@f"}\n')).encode(), 0))
+            changes.end()
+            self.assertEqual(changes.tables(), {Table("x", "y"): {"update": 2}}, token)
+            self.assertEqual(changes.sizes.largest, [(1, Change(7, "4.1@f", None)), (1, Change(7, "6.1@f", None))])
 
     def test_empty(self):
         for content in (b"", logs.MAGIC, logs.front()):

@@ -20,7 +20,7 @@ TEXT = rb'(?:[^"\\]|\\.)*'
 def tail_pattern(text: bytes) -> re.Pattern[bytes]:
     """The tails of lines whose names are such texts: kind and table, time, and the position of the transaction."""
     names = rb'kind":"([^"]*","schema":"%s","table":"%s)"' % (text, text)
-    return re.compile(rb'%s,"timestamp":([^,]*),"token":"([^.]*)\.[^@]*@%s"\}\n' % (names, text))
+    return re.compile(rb'%s,"timestamp":([^,]*),"token":"(\d+)\.\d+@%s"\}\n' % (names, text))
 
 
 # Names without a quote are found faster. A line that isn't found so has one with a quote.
