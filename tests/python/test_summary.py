@@ -275,6 +275,18 @@ class Counting(FolderTest):
             self.assertEqual(changes.tables(), {Table("x", "y"): {"update": 2}}, token)
             self.assertEqual(changes.sizes.largest, [(1, Change(7, "4.1@f", None)), (1, Change(7, "6.1@f", None))])
 
+    def test_tails_of_one_transaction(self):
+        """Lines of one transaction that have its first tail as often as there are lines, though not each at its end."""
+        tail = '"gtid":null,"kind":"insert","schema":"x","table":"y","timestamp":7,"token":"4.%d@f"}'
+        first = '{"after":{"kind":"insert","schema":"x","table":"y","timestamp":7,"token":"4."},"before":null,' + tail % 1
+        second = '{"after":{"id":1},"before":null,' + tail.replace("insert", "update") % 2
+        for lines in ((first, second), (second, first)):
+            changes = Changes()
+            changes.add(counted_block("".join(f"{line}\n" for line in lines).encode(), 0))
+            changes.end()
+            self.assertEqual(changes.tables(), {Table("x", "y"): {"insert": 1, "update": 1}})
+            self.assertEqual([size for size, _ in changes.sizes.largest], [2])
+
     def test_empty(self):
         for content in (b"", logs.MAGIC, logs.front()):
             found = summed_up([self.put("binlog.000001", content)], (), PROGRAM)
