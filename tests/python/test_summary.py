@@ -287,6 +287,17 @@ class Counting(FolderTest):
             self.assertEqual(changes.tables(), {Table("x", "y"): {"insert": 1, "update": 1}})
             self.assertEqual([size for size, _ in changes.sizes.largest], [2])
 
+    def test_tails_of_others(self):
+        """A row has what looks like the token of a large transaction before it."""
+        text = ""
+        for token in ("2.1", "4.1", "4.2", "4.3", "6.1", "8.1"):
+            text += '{"after":{"token":"4.9@f"},"before":null,"gtid":null,"kind":"insert","schema":"x","table":"y",'
+            text += f'"timestamp":7,"token":"{token}@f"}}\n'
+        changes = Changes()
+        changes.add(counted_block(text.encode(), 0))
+        changes.end()
+        self.assertEqual(changes.sizes.largest[0], (3, Change(7, "4.3@f", None)))
+
     def test_empty(self):
         for content in (b"", logs.MAGIC, logs.front()):
             found = summed_up([self.put("binlog.000001", content)], (), PROGRAM)
