@@ -19,7 +19,7 @@ LETTER = 8
 LONGEST_NAME = 34
 TICKS = 5
 MOST_GAPS = 500
-LEAST_PERCENT = 0.25
+LEAST_PERCENT, WIDEST_PERCENT = 0.25, 12
 
 
 class Part(NamedTuple):
@@ -88,14 +88,15 @@ def columns(title: str, noun: str, counts: Sequence[tuple[str, int]]) -> str:
     top = _rounded_up(most)
     described = f"{len(counts):,} columns from {counts[0][0]} to {counts[-1][0]}, the highest {most:,} {noun}"
     each = 100 / len(counts)
+    width = min(0.8 * each, WIDEST_PERCENT)
     drawn = "".join(_grid_line(share) for share in (0, 0.5, 1))
     for number, (name, count) in enumerate(counts):
         height = max(1.0, PLOT * count / top) if count else 0
         drawn += (
             f"<g><title>{escape(name)}: {count:,} {noun}</title>"
             f'<rect class="hover" x="{each * number:.3f}%" y="{PLOT_TOP}" width="{each:.3f}%" height="{PLOT}"/>'
-            f'<rect class="all" x="{each * (number + 0.1):.3f}%" y="{PLOT_TOP + PLOT - height:.1f}"'
-            f' width="{each * 0.8:.3f}%" height="{height:.1f}"/></g>'
+            f'<rect class="all" x="{each * (number + 0.5) - width / 2:.3f}%" y="{PLOT_TOP + PLOT - height:.1f}"'
+            f' width="{width:.3f}%" height="{height:.1f}"/></g>'
         )
     drawn += _names_below([name for name, _ in counts])
     labels = [f"{round(top * share):,}" for share in (0, 0.5, 1)] if top > 1 else ["0", "", "1"]

@@ -56,6 +56,7 @@ g:hover .hover { fill: var(--room); }
 .legend li { display: flex; align-items: center; gap: .4rem; }
 @media (max-width: 40rem) {
   .rare { display: none; }
+  .plot text { font-size: 12px; }
   th, td { padding-right: .5rem; font-size: .85rem; }
   td:last-child, th:last-child { padding-right: 0; }
   .tables tr { display: grid; grid-template-columns: repeat(4, 1fr); border-bottom: 1px solid var(--line); }
