@@ -28,7 +28,7 @@ from binlogfeed.summary.reading import logs_of, summed_up
 from binlogfeed.summary.sizes import Sizes, class_bounds, class_of
 from binlogfeed.summary.text import as_text, bar, shown_width
 from binlogfeed.summary.times import Times, spoken
-from binlogfeed.summary.units import Unit
+from binlogfeed.summary.units import Limit, Unit, lines_within
 from built import logs
 from support import BANK, PROGRAM, SECONDS, SHOP, TOP, FolderTest, running
 from test_documents import blocks
@@ -322,6 +322,11 @@ class Counting(FolderTest):
             self.assertIn("1 to 12: 6 numbers, 6 missing between, in 3 gaps", text)
             self.assertIn("3-4, 7-8, 10-11", text)
             self.assertIn("without a gtid: 3", text.lower())
+        # Six transactions of 218 bytes; then one of 170 without a GTID, which is committed, and one of 172, which isn't.
+        behind = 153 + 6 * 218
+        told = [(size, unit.begin, unit.gtid) for size, unit in found.units.sizes.largest]
+        self.assertEqual(told[5:], [(218, behind - 218, f"{SHOP_SOURCE}:12"), (172, behind + 170, None), (170, behind, None)])
+        self.assertIn(f"{behind}.0@binlog.000001no GTID", "".join(parsed(as_page(found)).text))
 
 
 class Faults(FolderTest):
@@ -353,6 +358,17 @@ class Faults(FolderTest):
             self.assertEqual(found.fault.what, "UnmappedTable")
             self.assertEqual((found.changes.total, found.units.endings), (5, {"xid": 5}))
             self.assertEqual(found.units.gtids[SHOP_SOURCE].last, 3)
+
+    def test_limits(self):
+        """What ends where the limit does is still counted, and what begins there isn't; nor is what stands in files behind."""
+        order = {"a": 0, "b": 1, "c": 2}
+        rows = [(4, 9, "a"), (90, 95, "a"), (4, 9, "b"), (9, 12, "b"), (12, 15, "b"), (4, 9, "c")]
+        lines = [f"{begin}\t{end}\t-\txid\t{file}\n".encode() for begin, end, file in rows]
+        for limit, count in (
+            (Limit("b", 99, 12), 4), (Limit("b", 99, 11), 3), (Limit("b", 12, 99), 4), (Limit("b", 13, 99), 5),
+            (Limit("b", 99, 99), 5), (Limit("a", 99, 99), 2), (Limit("a", 4, 99), 0), (Limit("c", 99, 99), 6),
+        ):  # fmt: skip
+            self.assertEqual(lines_within(b"".join(lines), limit, order), b"".join(lines[:count]), limit)
 
     def test_other_ends(self):
         """A run that is out of memory, say: the transactions up to that of the last change are told."""
