@@ -571,34 +571,38 @@ class Telling(FolderTest):
 class Terminal(FolderTest):
     """The line of progress."""
 
-    def waiting(self):
-        """A program that has read 1,000 bytes of its log, and goes on a second later."""
+    def waiting(self, until):
+        """A program that has read 1,000 bytes of its last log, waits, and then begins anew."""
         return self.stub(
             f'[ $1 = read ] || exec {PROGRAM} "$@"\nfor log; do :; done\nexec 5< "$log"\n'
-            f'dd bs=500 count=2 <&5 >/dev/null 2>&1\nsleep 1\nexec {PROGRAM} "$@"'
+            f'dd bs=500 count=2 <&5 >/dev/null 2>&1\n{until}\nexec {PROGRAM} "$@"'
         )
 
     def test_terminal(self):
-        program = self.waiting()
+        program = self.waiting(f"until [ -e {self.folder}/seen ]; do sleep 0.02; done")
         main, side = pty.openpty()
         fcntl.ioctl(side, termios.TIOCSWINSZ, struct.pack("HHHH", 24, 80, 0, 0))
+        told = "binlogfeed: 5,025 of 6,498 bytes"
         with running(command(*SHOP, program=program), stdout=subprocess.PIPE, stderr=side, env=ENVIRONMENT) as process:
             os.close(side)
-            text, said = process.stdout.read().decode(), b""
+            said = b""
             try:
                 while True:
                     said += os.read(main, 1 << 16)
+                    if told.encode() in said:
+                        self.put("seen", b"")
             except OSError:  # nobody writes to it any more
                 os.close(main)
+            text = process.stdout.read().decode()
         self.assertEqual((process.returncode, text), (0, ran(*SHOP).stdout))
-        told = f"binlogfeed: {SHOP[0].stat().st_size + 1_000:,} of 6,498 bytes"
-        self.assertEqual(told, "binlogfeed: 5,025 of 6,498 bytes")
+        # The first log, and 1,000 bytes of the second.
+        self.assertEqual(SHOP[0].stat().st_size + 1_000, 5_025)
         self.assertIn(f"\r{told}".encode(), said)
         self.assertNotIn(b"\n", said)
         self.assertTrue(said.endswith(b"\r" + b" " * len(told) + b"\r"), said)
 
     def test_no_terminal(self):
-        self.assertEqual(ran(*SHOP, program=self.waiting()).stderr, "")
+        self.assertEqual(ran(*SHOP, program=self.waiting("sleep 1")).stderr, "")
 
 
 class Parts(TestCase):
