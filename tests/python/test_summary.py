@@ -28,6 +28,7 @@ from binlogfeed.summary.reading import logs_of, summed_up
 from binlogfeed.summary.sizes import Sizes, class_bounds, class_of
 from binlogfeed.summary.text import as_text, bar, shown_width
 from binlogfeed.summary.times import Times, spoken
+from binlogfeed.summary.told import byte_sizes, change_sizes
 from binlogfeed.summary.units import Limit, Unit, lines_within
 from built import logs
 from support import BANK, PROGRAM, SECONDS, SHOP, TOP, FolderTest, running
@@ -517,6 +518,22 @@ class Telling(FolderTest):
     def test_bars(self):
         self.assertEqual([bar(value, 16, 2) for value in (0, 1, 2, 8, 9, 16)], ["", "▏", "▎", "█", "█▏", "██"])
         self.assertEqual(bar(1, 10**9, 10), "▏")
+
+    def test_widths_of_letters(self):
+        self.assertEqual([shown_width(text) for text in ("", "abc", "李清照", "e\u0301é")], [0, 3, 6, 2])
+
+    def test_small_and_empty_transactions(self):
+        """Transactions of 66 bytes that change nothing, of one row, and of 1,001 bytes with a long statement."""
+        content = logs.front()
+        # The statement has a header of 19 bytes, and 15 before its text; what is around it has 66.
+        statement = (logs.QUERY, logs.BEGIN_BODY.replace(b"BEGIN", b"x" * (1_001 - 66 - 19 - 15)))
+        for inside in ((), ONE_ROW, (statement,)):
+            for kind, body in ((logs.QUERY, logs.BEGIN_BODY), *inside, (logs.XID, logs.XID_BODY)):
+                content = logs.appended(content, kind, body)
+        found = summed_up([self.put("binlog.000001", content)], (), PROGRAM)
+        self.assertEqual(change_sizes(found), [("none", 2), ("1", 1)])
+        self.assertEqual(byte_sizes(found), [("up to 1 kB", 2), ("1 kB-10 kB", 1)])
+        self.assertEqual([size for size, _ in found.units.sizes.largest], [1_001, 66 + 53 + 38, 66])
 
     def test_names_in_both(self):
         """A table whose name is a piece of a page, one that would move the cursor, and one with wide letters."""
