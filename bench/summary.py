@@ -3,9 +3,9 @@
 
     bench/summary.py FOLDER [--bytes N] [--program PATH] [--runs N]
 
-FOLDER gets the logs that bench/make_log.py makes, one after the other. Over each of them `read` and `summary` run five times
-in turns, with their output thrown away. It prints the best and the middle of their seconds by the clock, the seconds of
-processor time of the best run, and the most memory that one process of a summary took.
+FOLDER gets the logs that bench/make_log.py makes, one after the other. Over each of them `read` and `summary` run five
+times in turns, with their output thrown away. It prints the best and the middle of their seconds by the clock, the
+seconds of processor time of the best run, and the most memory that one process of a summary took.
 """
 import argparse
 import os

@@ -279,7 +279,8 @@ class Counting(FolderTest):
     def test_tails_of_one_transaction(self):
         """Lines of one transaction that have its first tail as often as there are lines, though not each at its end."""
         tail = '"gtid":null,"kind":"insert","schema":"x","table":"y","timestamp":7,"token":"4.%d@f"}'
-        first = '{"after":{"kind":"insert","schema":"x","table":"y","timestamp":7,"token":"4."},"before":null,' + tail % 1
+        first = '{"after":{"kind":"insert","schema":"x","table":"y","timestamp":7,"token":"4."},"before":null,'
+        first += tail % 1
         second = '{"after":{"id":1},"before":null,' + tail.replace("insert", "update") % 2
         for lines in ((first, second), (second, first)):
             changes = Changes()
@@ -323,10 +324,11 @@ class Counting(FolderTest):
             self.assertIn("1 to 12: 6 numbers, 6 missing between, in 3 gaps", text)
             self.assertIn("3-4, 7-8, 10-11", text)
             self.assertIn("without a gtid: 3", text.lower())
-        # Six transactions of 218 bytes; then one of 170 without a GTID, which is committed, and one of 172, which isn't.
+        # Six transactions of 218 bytes, one of 170 without a GTID, which is committed, and one of 172, which isn't.
         behind = 153 + 6 * 218
         told = [(size, unit.begin, unit.gtid) for size, unit in found.units.sizes.largest]
-        self.assertEqual(told[5:], [(218, behind - 218, f"{SHOP_SOURCE}:12"), (172, behind + 170, None), (170, behind, None)])
+        self.assertEqual(told[5:6], [(218, behind - 218, f"{SHOP_SOURCE}:12")])
+        self.assertEqual(told[6:], [(172, behind + 170, None), (170, behind, None)])
         self.assertIn(f"{behind}.0@binlog.000001no GTID", "".join(parsed(as_page(found)).text))
 
 
@@ -361,7 +363,7 @@ class Faults(FolderTest):
             self.assertEqual(found.units.gtids[SHOP_SOURCE].last, 3)
 
     def test_limits(self):
-        """What ends where the limit does is still counted, and what begins there isn't; nor is what stands in files behind."""
+        """What ends where the limit does is still counted, but not what begins there, nor what is in files behind."""
         order = {"a": 0, "b": 1, "c": 2}
         rows = [(4, 9, "a"), (90, 95, "a"), (4, 9, "b"), (9, 12, "b"), (12, 15, "b"), (4, 9, "c")]
         lines = [f"{begin}\t{end}\t-\txid\t{file}\n".encode() for begin, end, file in rows]
