@@ -27,6 +27,7 @@ sys.path.insert(0, str(Path(__file__).resolve().parents[2] / "python"))
 from batches import Batcher  # noqa: E402
 from binlogfeed import BinlogfeedError, LogFault, Place  # noqa: E402
 from binlogfeed.lines import Change  # noqa: E402
+from binlogfeed.tokens import beginning  # noqa: E402
 from changes import Changes  # noqa: E402
 from postgres import Postgres  # noqa: E402
 from sqlite import Sqlite  # noqa: E402
@@ -104,8 +105,7 @@ class Replica:
 
     def _take(self, change: Change, size: int) -> None:
         """Takes a change, and ends the transaction before it where it is of another."""
-        position, _, rest = change.token.partition(".")
-        transaction = position + rest[rest.index("@") :]
+        transaction = beginning(change.token)
         if transaction != self._transaction:
             if self._transaction is not None:
                 self._whole += 1

@@ -41,6 +41,7 @@ ALL = [
     ("han", "varchar gbk", {"base64": "1tA=", "charset": "gbk"}, "text", "中"),
     ("latin", "varchar utf8mb4", "é", "bytea", "\\xc3a9"),
 ]  # fmt: skip
+ALL += [("rank", "enum utf8mb4", "tin", "metal", "tin"), ("count", "int", 8, "few", 8)]
 # Values that PostgreSQL's columns can't hold.
 UNFIT = [
     ("date", "0000-00-00", "date"), ("date", "2024-02-00", "date"), ("datetime", "2024-00-01 00:00:00", "timestamp"),
@@ -200,19 +201,20 @@ class Columns(LinesTest):
 
     def test_all(self):
         """Each kind of column, put in by a row, by many, and by updates of one and of many."""
-        types = {"id": "int", **{name: type_ for name, type_, *_ in ALL}}
+        kinds = {"id": "int", **{name: type_ for name, type_, *_ in ALL}}
         new = {name: value for name, _, value, *_ in ALL}
         none = dict.fromkeys(new)
-        lines = [full_line((1, n), "t", None, {"id": n, **(none if n % 2 else new)}, types) for n in range(1, 80)]
-        lines += [full_line((2, 1), "t", None, {"id": 80, **new}, types)]
-        lines += [full_line((3, n), "t", {"id": n, **none}, {"id": n, **new}, types) for n in range(1, 30, 2)]
-        lines += [full_line((4, 1), "t", {"id": 31, **none}, {"id": 31, **new}, types)]
-        lines += [full_line((5, n), "t", {"id": n, **new}, None, types) for n in range(4, 30, 2)]
+        lines = [full_line((1, n), "t", None, {"id": n, **(none if n % 2 else new)}, kinds) for n in range(1, 80)]
+        lines += [full_line((2, 1), "t", None, {"id": 80, **new}, kinds)]
+        lines += [full_line((3, n), "t", {"id": n, **none}, {"id": n, **new}, kinds) for n in range(1, 30, 2)]
+        lines += [full_line((4, 1), "t", {"id": 31, **none}, {"id": 31, **new}, kinds)]
+        lines += [full_line((5, n), "t", {"id": n, **new}, None, kinds) for n in range(4, 30, 2)]
         told = self.told(lines)
         filled = {n: n % 2 == 0 or n <= 31 for n in [1, 2, 3, *range(5, 30, 2), *range(30, 81)]}
         wanted = [{"id": n, **({name: value for name, *_, value in ALL} if filled[n] else none)} for n in filled]
         columns = ", ".join(f'"{name}" {kind}' for name, _, _, kind, _ in ALL)
-        table = f"CREATE TABLE t (id integer GENERATED ALWAYS AS IDENTITY PRIMARY KEY, {columns})"
+        types = "CREATE TYPE metal AS ENUM ('gold', 'tin'); CREATE DOMAIN few AS integer CHECK (VALUE < 9); "
+        table = f"{types}CREATE TABLE t (id integer GENERATED ALWAYS AS IDENTITY PRIMARY KEY, {columns})"
         for client, python in (("psql", None), ("psycopg", python_with_psycopg())):
             if client == "psycopg" and not python:
                 continue
