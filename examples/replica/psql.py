@@ -12,8 +12,8 @@ DONE = "\x01"
 CHANGED = re.compile(r"(?:INSERT 0|UPDATE|DELETE|COPY) (\d+)")
 # What psql says of an error of the server, with the error's code.
 SAID = re.compile(r"(?:ERROR|FATAL|PANIC):  ([0-9A-Z]{5}): (.*(?:\nDETAIL: .*)?)")
-# psql ends with this status where a statement is refused.
-REFUSED = 3
+# The code of PostgreSQL's error for a text that it doesn't have.
+NO_TEXT = "22021"
 
 
 class PsqlError(Exception):
@@ -71,6 +71,9 @@ class Connection:
     def _answer(self, text: str) -> list[str]:
         """What psql prints for a text of statements and commands."""
         assert self._process.stdin is not None and self._process.stdout is not None
+        if "\0" in text:
+            # It would end the line for psql.
+            raise PsqlError("PostgreSQL has no text with a zero byte", NO_TEXT)
         with contextlib.suppress(BrokenPipeError):  # it ended, which the reading tells
             self._process.stdin.write(f"{text}\n\\echo '{DONE}'\n")
             self._process.stdin.flush()

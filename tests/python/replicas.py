@@ -8,6 +8,7 @@ import sqlite3
 import subprocess
 import sys
 import tempfile
+import threading
 import time
 from pathlib import Path
 
@@ -19,7 +20,7 @@ REPLICA = TOP / "examples/replica/replica.py"
 TABLES = {"shop": TOP / "examples/replica/shop.sql", "bank": TOP / "tests/python/bank.sql"}
 LOGS = {"shop": str(SHOP[0].parent / "binlog.0*"), "bank": str(BANK[0].parent / "binlog.0*")}
 HAS_POSTGRES = all(map(shutil.which, ("postgres", "initdb", "pg_ctl", "psql")))
-# How long a test of kills may take at most.
+# How long a test of kills, or a replica that is waited for, may take at most.
 SECONDS = 120
 
 # The shop's tables at the end, by its statements.
@@ -89,7 +90,10 @@ def started(target, schema, *options, python=sys.executable, program=PROGRAM, lo
 def ended(*words, **options):
     """The status of a replica that has ended, and what it said."""
     with started(*words, **options) as process:
+        late = threading.Timer(SECONDS, process.kill)
+        late.start()
         said = process.stderr.read()
+        late.cancel()
     return process.returncode, said
 
 

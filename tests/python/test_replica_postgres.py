@@ -197,6 +197,8 @@ class Postgres(LinesTest):
         self.assertEqual([json.loads(row) for row in connection.query("SELECT to_json(t) FROM texts")], [text] * 3)
         statements = ["UPDATE texts SET n = 1 WHERE n = 2", "DELETE FROM texts WHERE n = 5"]
         self.assertEqual(connection.run(statements), [0, 1])
+        with self.assertRaisesRegex(psql.PsqlError, "zero byte"):
+            connection.run(["SELECT 'a\0'"])
         with self.assertRaises(psql.PsqlError) as raised:
             connection.run(["SELECT 1 / 0"])
         self.assertEqual((raised.exception.state, str(raised.exception)), ("22012", "division by zero"))
