@@ -179,6 +179,14 @@ class Postgres(LinesTest):
             self.assertEqual(ended(target, "made", **told, python=python), (0, ""))
             self.assertEqual(self.count(target), ["8"])
 
+    def test_states(self):
+        """Which of PostgreSQL's errors may be gone when the replica is begun again."""
+        away = [None, "", "08006", "25006", "28P01", "3D000", "40001", "40P01", "53300", "55P03", "57P01", "58030", "XX000"]
+        misfits = ["21000", "22003", "22P02", "23502", "23505", "23514", "42501", "42601", "42P01", "P0001"]
+        for states, kind in ((away, targets.AwayError), (misfits, targets.MisfitError)):
+            for state in states:
+                self.assertIs(type(postgres.of_state(state, "said")), kind, state)
+
     def test_clients(self):
         """Without psycopg, and without psql."""
         if "psycopg" not in self.clients or self.clients["psycopg"] != sys.executable:
@@ -192,7 +200,7 @@ class Postgres(LinesTest):
         text = "".join(map(chr, range(1, 0x250))) + "'; DROP TABLE x; --\\ :name $1 %s %% \\gset '' \\' 李"
         connection.run(["CREATE TABLE texts (t text, n integer)"])
         self.assertEqual(connection.run([f"INSERT INTO texts (t) VALUES ({postgres.literal(text)})"]), [1])
-        copied = text.translate(postgres.ESCAPES)
+        copied = postgres.copied(text)
         self.assertEqual(connection.copy("COPY texts (t, n) FROM STDIN", f"{copied}\t\\N\n{copied}\t5\n"), 2)
         self.assertEqual([json.loads(row) for row in connection.query("SELECT to_json(t) FROM texts")], [text] * 3)
         statements = ["UPDATE texts SET n = 1 WHERE n = 2", "DELETE FROM texts WHERE n = 5"]

@@ -1,4 +1,5 @@
 """The replica's values: those of a log that has all types are what its server says, in SQLite and in PostgreSQL."""
+import argparse
 import calendar
 import datetime
 import json
@@ -6,8 +7,11 @@ import struct
 import time
 import unittest
 from decimal import Decimal
+from unittest import mock
 
 import fitting
+import postgres
+import replica
 from built.truth import TRUTH, declared_types, server_truth
 from replicas import HAS_POSTGRES, LinesTest, PostgresServer, SqliteFiles, ended, full_line, python_with_psycopg
 
@@ -20,7 +24,7 @@ POSTGRES = {
 SQLITE = {"bytes": "BLOB", "year": "INTEGER", "float": "REAL", "int": "INTEGER"}
 # A value of each kind of column that may be null, and the target's type for it.
 ALL = [
-    ("flag", "tinyint", 1, "boolean", True), ("bits", "bit(3)", 5, "bit(3)", "101"),
+    ("flag", "tinyint", 1, "boolean", True), ("bits", "bit(3)", 1, "bit(3)", "001"),
     ("on", "bit(1)", 0, "boolean", False),
     ("most", "bigint unsigned", 18446744073709551615, "numeric(20)", 18446744073709551615),
     ("least", "tinyint", -128, "smallint", -128), ("price", "decimal(8,2)", "-0.50", "numeric(8,2)", -0.50),
@@ -199,8 +203,8 @@ class Columns(LinesTest):
         query = "SELECT row_to_json(t) FROM t ORDER BY id"
         return [json.loads(text) for text in self.server.asked(target.replace("psycopg:", "psql:"), query)]
 
-    def test_all(self):
-        """Each kind of column, put in by a row, by many, and by updates of one and of many."""
+    def all_lines(self):
+        """Each kind of column, put in by a row, by many, and by updates of one and of many; its table, and its rows at the end."""
         kinds = {"id": "int", **{name: type_ for name, type_, *_ in ALL}}
         new = {name: value for name, _, value, *_ in ALL}
         none = dict.fromkeys(new)
@@ -209,18 +213,31 @@ class Columns(LinesTest):
         lines += [full_line((3, n), "t", {"id": n, **none}, {"id": n, **new}, kinds) for n in range(1, 30, 2)]
         lines += [full_line((4, 1), "t", {"id": 31, **none}, {"id": 31, **new}, kinds)]
         lines += [full_line((5, n), "t", {"id": n, **new}, None, kinds) for n in range(4, 30, 2)]
-        told = self.told(lines)
         filled = {n: n % 2 == 0 or n <= 31 for n in [1, 2, 3, *range(5, 30, 2), *range(30, 81)]}
         wanted = [{"id": n, **({name: value for name, *_, value in ALL} if filled[n] else none)} for n in filled]
         columns = ", ".join(f'"{name}" {kind}' for name, _, _, kind, _ in ALL)
         types = "CREATE TYPE metal AS ENUM ('gold', 'tin'); CREATE DOMAIN few AS integer CHECK (VALUE < 9); "
         table = f"{types}CREATE TABLE t (id integer GENERATED ALWAYS AS IDENTITY PRIMARY KEY, {columns})"
+        return lines, table, wanted
+
+    def test_all(self):
+        lines, table, wanted = self.all_lines()
+        told = self.told(lines)
         for client, python in (("psql", None), ("psycopg", python_with_psycopg())):
             if client == "psycopg" and not python:
                 continue
             target = self.server.made(table).replace("psql:", f"{client}:")
             self.assertEqual(ended(target, "made", **told, **({"python": python} if python else {})), (0, ""))
             self.assertEqual(self.rows(target), wanted)
+
+    def test_nothing_is_taken_back(self):
+        """What is right is put in at once, and not taken back to be put in one by one."""
+        lines, table, wanted = self.all_lines()
+        target = self.server.made(table)
+        given = argparse.Namespace(target=target, schema="made", **self.told(lines), follow=False, commit_every=9, unfit="error")
+        with mock.patch.object(postgres.Postgres, "rollback", side_effect=AssertionError):
+            replica.keep_up(given)
+        self.assertEqual(self.rows(target), wanted)
 
     def test_unfit(self):
         """A value that the column can't hold ends the run, or is NULL there."""
