@@ -248,6 +248,20 @@ class Follows(Files):
         self.assertEqual(ended(target, "shop", logs=str(self.folder)), (0, ""))
         self.assertEqual(self.files.rows_of(target), SHOP_ROWS)
 
+    def test_a_log_without_changes(self):
+        """The place goes on to the end of a log without changes, so that the logs before it may be purged."""
+        target = self.files.new_target("shop")
+        front = SHOP[0].read_bytes()
+        first_event = front[: 4 + int.from_bytes(front[13:17], "little")]
+        for number, log in enumerate((front, SHOP[1].read_bytes(), first_event), 1):
+            self.put(f"binlog.00000{number}", log)
+        self.assertEqual(ended(target, "shop", logs=f"{self.folder}/binlog.0*"), (0, ""))
+        self.assertEqual(json.loads(self.place(target))["file"], "binlog.000003")
+        for number in (1, 2):
+            (self.folder / f"binlog.00000{number}").unlink()
+        self.assertEqual(ended(target, "shop", logs=f"{self.folder}/binlog.0*"), (0, ""))
+        self.assertEqual(self.files.rows_of(target), SHOP_ROWS)
+
     def test_a_log_that_was_read_may_be_purged(self):
         target = self.files.new_target("shop")
         first, second = (self.put(path.name, path.read_bytes()) for path in SHOP)
