@@ -14,6 +14,7 @@ MOST_CHANGES = 1000
 MOST_BYTES = 1 << 20
 
 Row = tuple[Any, ...]
+PRIVATE = ("_after", "_before", "_keys", "_places")
 
 
 class Batch:
@@ -23,7 +24,7 @@ class Batch:
     row as it was. A delete has only those.
     """
 
-    __slots__ = ("form", "table", "kind", "names", "key", "rows", "token", "size", "_keys", "_places")
+    __slots__ = ("form", "table", "kind", "names", "key", "rows", "token", "size", *PRIVATE)
 
     def __init__(self, table: Table, change: Change) -> None:
         """An empty batch for changes such as this one."""
@@ -35,10 +36,11 @@ class Batch:
         self.rows: list[Row] = []
         self.token = change.token
         self.size = 0
+        self._after, self._before = table.taker(self.names), table.taker(self.key)
         # The keys of the rows that were taken; and which values of a row tell whether its key has changed.
         self._keys: set[Row] = set()
-        names = self.names
-        self._places = [(names.index(name), len(names) + at) for at, name in enumerate(self.key) if name in names]
+        names, key = self.names, self.key if self.kind == "update" else ()
+        self._places = [(names.index(name), len(names) + at) for at, name in enumerate(key) if name in names]
 
     def takes(self, change: Change) -> bool:
         """Whether a change may stand in this batch."""
@@ -52,8 +54,8 @@ class Batch:
 
     def row(self, change: Change) -> Row:
         """A change's values."""
-        after = () if change.after is None else self.table.values(change.after, self.names)
-        return after if change.before is None else after + self.table.values(change.before, self.key)
+        after = () if change.after is None else self._after(change.after)
+        return after if change.before is None else after + self._before(change.before)
 
     def add(self, row: Row, size: int) -> None:
         """Takes a change."""

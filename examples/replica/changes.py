@@ -12,8 +12,8 @@ from binlogfeed.watch import Watch
 class Changes:
     """A schema's changes, look after look, each once.
 
-    BinLogStreamReader makes its events of the same changes. It goes on behind a token; this goes on behind a whole place,
-    which also holds where the token's file is gone, and it knows where a look ends.
+    BinLogStreamReader makes its events of the same changes. It goes on behind a token; this goes on behind a whole
+    place, which also holds where the token's file is gone, and it knows where a look ends.
     """
 
     def __init__(self, logs: str, schema: str, place: Place, program: str) -> None:

@@ -4,6 +4,7 @@ from __future__ import annotations
 import contextlib
 import json
 from collections.abc import Iterator, Sequence
+from functools import lru_cache
 from typing import Optional, Union
 
 import psql
@@ -19,6 +20,8 @@ except ImportError:  # it isn't installed, or finds no libpq
 # Statements wait until they have so many characters, or are so many. Then one round trip carries them out.
 MOST_TEXT = 1 << 18
 MOST_STATEMENTS = 1000
+# So many statements' words are known at once.
+MOST_FORMS = 1000
 # From so many rows on an insert is a COPY.
 COPIED = 50
 # The classes of errors that may be gone when the replica is begun again: of the connection, its rights, the database,
@@ -242,38 +245,61 @@ def of_state(state: str | None, said: str) -> ReplicaError:
 
 def statement_of(batch: Batch) -> str:
     """The statement that makes the changes of a batch."""
-    table = quoted(batch.table.name)
+    table, names, key = batch.table.name, batch.names, batch.key
     if batch.kind == "insert":
-        names = ", ".join(quoted(name) for name in batch.names)
-        return f"INSERT INTO {table} ({names}) OVERRIDING SYSTEM VALUE VALUES {tuples(batch.rows)}"
+        return front_of_insert(table, names) + tuples(batch.rows)
     if len(batch.rows) == 1:
-        return single(batch, table)
+        return single(batch)
     types = batch.table.shape.types
-    columns = [*batch.names, *batch.key]
-    first, *others = batch.rows
+    front, back, casts = frame_of(table, names, key, tuple(types[name] for name in names + key))
     # The types of the first row's values are those of all.
-    typed = ", ".join(f"{literal(value)}::{types[name]}" for name, value in zip(columns, first))
-    rows = f"({typed})" + (", " + tuples(others) if others else "")
-    parts = [f"c{number}" for number in range(len(columns))]
-    which = " AND ".join(f"t.{quoted(name)} = v.{part}" for name, part in zip(batch.key, parts[len(batch.names) :]))
-    values = f"(VALUES {rows}) AS v ({', '.join(parts)})"
-    if batch.kind == "delete":
-        return f"DELETE FROM {table} AS t USING {values} WHERE {which}"
-    put = ", ".join(f"{quoted(name)} = v.{part}" for name, part in zip(batch.names, parts) if name not in batch.key)
-    return f"UPDATE {table} AS t SET {put} FROM {values} WHERE {which}"
+    first = ", ".join([literal(value) + cast for value, cast in zip(batch.rows[0], casts)])
+    return f"{front}({first}), {tuples(batch.rows[1:])}{back}"
 
 
-def single(batch: Batch, table: str) -> str:
+def single(batch: Batch) -> str:
     """The statement that makes an update or a delete of one row."""
     (row,) = batch.rows
-    key = zip(batch.key, row[len(batch.names) :])
-    which = " AND ".join(f"{quoted(name)} = {literal(value)}" for name, value in key)
-    if batch.kind == "delete":
-        return f"DELETE FROM {table} WHERE {which}"
+    names = batch.names
+    key = row[len(names) :]
     # A key that stays isn't written: PostgreSQL refuses that where it is an identity.
-    left = () if batch.moves(row) else batch.key
-    put = ", ".join(f"{quoted(name)} = {literal(value)}" for name, value in zip(batch.names, row) if name not in left)
-    return f"UPDATE {table} SET {put} WHERE {which}"
+    others = tuple(name for name in names if name not in batch.key)
+    put = names if batch.moves(row) or not others else others
+    values = [value for name, value in zip(names, row) if name in put]
+    fronts = fronts_of(batch.kind, batch.table.name, put, batch.key)
+    return "".join([front + literal(value) for front, value in zip(fronts, [*values, *key])])
+
+
+@lru_cache(MOST_FORMS)
+def front_of_insert(table: str, names: tuple[str, ...]) -> str:
+    """What stands before the rows of an insert."""
+    columns = ", ".join(map(quoted, names))
+    return f"INSERT INTO {quoted(table)} ({columns}) OVERRIDING SYSTEM VALUE VALUES "
+
+
+@lru_cache(MOST_FORMS)
+def fronts_of(kind: str, table: str, put: tuple[str, ...], key: tuple[str, ...]) -> list[str]:
+    """What stands before each value of an update of one row, or of a delete."""
+    which = [f"{' AND ' if at else ' WHERE '}{quoted(name)} = " for at, name in enumerate(key)]
+    if kind == "delete":
+        which[0] = f"DELETE FROM {quoted(table)}{which[0]}"
+        return which
+    fronts = [f"{', ' if at else f'UPDATE {quoted(table)} SET '}{quoted(name)} = " for at, name in enumerate(put)]
+    return fronts + which
+
+
+@lru_cache(MOST_FORMS)
+def frame_of(
+    table: str, names: tuple[str, ...], key: tuple[str, ...], types: tuple[str, ...]
+) -> tuple[str, str, list[str]]:
+    """What stands before and behind the rows of an update or a delete, and behind each value of the first one."""
+    parts = [f"c{number}" for number in range(len(types))]
+    which = " AND ".join(f"t.{quoted(name)} = v.{part}" for name, part in zip(key, parts[len(names) :]))
+    others = [name for name in names if name not in key] or names
+    put = ", ".join(f"{quoted(name)} = v.{part}" for name, part in zip(names, parts) if name in others)
+    front = f"UPDATE {quoted(table)} AS t SET {put} FROM" if names else f"DELETE FROM {quoted(table)} AS t USING"
+    back = f") AS v ({', '.join(parts)}) WHERE {which}"
+    return f"{front} (VALUES ", back, [f"::{type_}" for type_ in types]
 
 
 def tuples(rows: Sequence[tuple[Optional[str], ...]]) -> str:

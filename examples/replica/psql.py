@@ -41,7 +41,7 @@ class Connection:
             encoding="utf-8",
         )
         (version,) = self._answer("\\echo :VERSION_NUM")
-        # From version 15 on psql says of each statement that it sends in one request what it changed; before, of the last one.
+        # From version 15 on psql says of each statement of a request what it changed; before that, of the last one.
         self._between = "\\;\n" if int(version) >= 150000 else ";\n"
 
     def run(self, statements: list[str]) -> list[int]:

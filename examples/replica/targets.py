@@ -1,6 +1,8 @@
 """The databases that a replica is kept in: what SQLite and PostgreSQL have in common, and what goes wrong with them."""
 from __future__ import annotations
 
+from collections.abc import Callable
+from operator import itemgetter
 from typing import Any, NamedTuple
 
 from batches import Batch
@@ -9,6 +11,8 @@ from binlogfeed.values import Column
 from fitting import Converter, UnfitError, or_null
 
 Columns = tuple[Column, ...]
+Image = dict[str, Any]
+Taker = Callable[[Image], tuple[Any, ...]]
 
 # The table that has the place, in one row.
 PLACE = "binlogfeed_place"
@@ -57,15 +61,39 @@ class Table(NamedTuple):
     converters: dict[str, Converter]
     shape: Shape
 
-    def values(self, image: dict[str, Any], names: tuple[str, ...]) -> tuple[Any, ...]:
-        """The values of some columns of a row, as the target takes them."""
-        converters = self.converters
-        found = []
-        for name in names:
-            value = image[name]
-            convert = converters[name]
-            found.append(value if value is None or convert is None else convert(value))
-        return tuple(found)
+    # What takes the values of some columns of a row, as the target has them, by the columns' names.
+    takers: dict[tuple[str, ...], Taker]
+
+    def taker(self, names: tuple[str, ...]) -> Taker:
+        """What takes the values of some columns of a row, as the target has them."""
+        if names not in self.takers:
+            self.takers[names] = taker_of(names, [self.converters[name] for name in names])
+        return self.takers[names]
+
+
+def taker_of(names: tuple[str, ...], converters: list[Converter]) -> Taker:
+    """What takes the values of some columns, each as its converter makes it."""
+
+    def some(image: Image) -> tuple[Any, ...]:
+        """The values of less than two columns, of which `itemgetter` makes no tuple."""
+        return tuple(image[name] for name in names)
+
+    get: Taker = some
+    if len(names) > 1:
+        get = itemgetter(*names)
+    steps = [(at, convert) for at, convert in enumerate(converters) if convert is not None]
+    if not steps:
+        return get
+
+    def taken(image: Image) -> tuple[Any, ...]:
+        """The values of a row."""
+        values = list(get(image))
+        for at, convert in steps:
+            if values[at] is not None:
+                values[at] = convert(values[at])
+        return tuple(values)
+
+    return taken
 
 
 class Target:
@@ -141,7 +169,7 @@ class Target:
         if self._unfit_is_null:
             converters = {column: convert and or_null(convert) for column, convert in converters.items()}
         self._met[name] = columns
-        self._tables[name] = Table(name, columns, converters, shape)
+        self._tables[name] = Table(name, columns, converters, shape, {})
         return self._tables[name]
 
     def misfit(self, batch: Batch, reason: str) -> MisfitError:

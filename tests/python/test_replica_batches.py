@@ -26,7 +26,7 @@ class Batches:
         """A table with the key `id`."""
         columns = change.form.columns
         converters = {column.name: for_sqlite(column.type, "TEXT") for column in columns}
-        return Table(change.form.table, columns, converters, Shape(dict(columns), ["id"]))
+        return Table(change.form.table, columns, converters, Shape(dict(columns), ["id"]), {})
 
     def put(self, batch):
         """Notes a batch."""

@@ -179,6 +179,17 @@ class Postgres(LinesTest):
             self.assertEqual(ended(target, "made", **told, python=python), (0, ""))
             self.assertEqual(self.count(target), ["8"])
 
+    def test_an_update_that_changes_nothing(self):
+        """Of a table that has only a key, by one and by many."""
+        types = {"id": "int"}
+        lines = [full_line((n, 1), "t", None, {"id": n}, types) for n in range(1, 5)]
+        lines += [full_line((5, 1), "t", {"id": 1}, {"id": 1}, types)]
+        lines += [full_line((6, n), "t", {"id": n}, {"id": n}, types) for n in range(1, 5)]
+        told = self.told(lines)
+        for target, python in self.in_clients("CREATE TABLE t (id integer PRIMARY KEY)"):
+            self.assertEqual(ended(target, "made", **told, **python), (0, ""))
+            self.assertEqual(self.count(target), ["4"])
+
     def test_states(self):
         """Which of PostgreSQL's errors may be gone when the replica is begun again."""
         away = [None, "", "08006", "25006", "28P01", "3D000", "40001", "40P01", "53300", "55P03", "57P01", "58030", "XX000"]
