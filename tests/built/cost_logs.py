@@ -1,4 +1,4 @@
-"""Logs whose reading is counted: many small changes, many tables, and transactions of many rows."""
+"""Logs whose reading is counted: many small changes, one table or many, and transactions of many rows."""
 import struct
 from collections.abc import Iterator
 from itertools import cycle, islice
@@ -81,6 +81,15 @@ def everyday(count: int) -> Log:
             table = tables[(number + at) % len(tables)]
             inside += [(TABLE_MAP, table.map()), (WRITE_ROWS, table.rows(number * ROWS, ROWS, values))]
         log.add(*inside)
+    return log
+
+
+def one_table(count: int) -> Log:
+    """Transactions over one table, a hundred rows in each, behind a small one over another table. Their ids need five bytes."""
+    other, table = (Table((1 << 32) + number, name, ()) for number, name in ((100, b"product"), (101, b"counter")))
+    log, values = Log(), cycle(VALUES)
+    for at, (mapped, rows) in enumerate([(other, ROWS), *[(table, 100)] * count]):
+        log.add((TABLE_MAP, mapped.map()), (WRITE_ROWS, mapped.rows(100 * at, rows, values)))
     return log
 
 

@@ -17,7 +17,7 @@ from pathlib import Path
 from typing import NamedTuple
 
 from built.check import SECONDS, Check
-from built.cost_logs import everyday, many_tables, one_transaction
+from built.cost_logs import everyday, many_tables, one_table, one_transaction
 from built.logs import put, wide_tables
 from built.preloaded import Memory, run_preloaded
 
@@ -30,9 +30,9 @@ ENVIRONMENT = {"GLIBC_TUNABLES": "glibc.cpu.hwcaps=-AVX2,-AVX2_Usable,-AVX512F,-
 VALGRIND = ("--tool=callgrind", "--trace-syscalls=yes", "--callgrind-out-file=/dev/null")
 CALL = re.compile(rb"^SYSCALL\[\d+,\d+\]\( *\d+\) \w+ \(", re.M)
 
-# The transactions of the log of everyday changes, the looks at it, the tables of the log of many, and those of the log of wide
-# ones: these are fewer than the reader keeps maps of, but more than it keeps bytes of.
-TRANSACTIONS, LOOKS, TABLES, WIDE_TABLES = 1_000, 200, 300, 60
+# The transactions of the log of everyday changes, the looks at it, the transactions of the log of one table, the tables of the log
+# of many, and those of the log of wide ones: these are fewer than the reader keeps maps of, but more than it keeps bytes of.
+TRANSACTIONS, LOOKS, MAPPED, TABLES, WIDE_TABLES = 1_000, 200, 100, 300, 60
 # A transaction of so many rows, and one of twice as many, make as many requests for memory, but for so many.
 ROWS, MORE_REQUESTS = 5_000, 4
 # The most memory, in KiB, that may be resident in a run over the log of everyday changes. It takes 2.5 MiB.
@@ -63,6 +63,12 @@ def everyday_log() -> bytes:
 
 
 @cache
+def one_table_log() -> bytes:
+    """Inserts into one table, which is mapped again and again."""
+    return one_table(MAPPED).content()
+
+
+@cache
 def many_tables_log() -> bytes:
     """Changes of many tables with long names."""
     return many_tables(TABLES).content()
@@ -87,6 +93,7 @@ READINGS = {
     "read --from": Reading(("read", f"--from={middle()}", "log"), everyday_log),
     "read --follow": Reading(("read", "--follow", "--only-tables=none", "log"), everyday_log, b"\n" * LOOKS),
     "history": Reading(("history", "--schema=shop", "--table=orders", "--key=[0]", "log"), everyday_log),
+    "read one table": Reading(("read", "--only-events=delete", "log"), one_table_log),
     "read many tables": Reading(("read", "log"), many_tables_log),
     "read --full many tables": Reading(("read", "--full", "log"), many_tables_log),
     "read wide tables": Reading(("read", "log"), wide_tables_log),
