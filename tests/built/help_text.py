@@ -17,9 +17,16 @@ STATUSES = {
 
 # What each help has to name, each at the beginning of a line and with some words about it.
 NAMED = {
-    "": ("  transactions", "  read", "  history"),
-    "transactions": ("Usage: binlogfeed transactions <file>...", "  <file>...", "Example:", "  binlogfeed transactions /"),
+    "": ("Reads binary log files of MySQL 8.0", "  transactions", "  read", "  history"),
+    "transactions": (
+        "Writes a line for each transaction",
+        "Usage: binlogfeed transactions <file>...",
+        "  <file>...",
+        "Example:",
+        "  binlogfeed transactions /",
+    ),
     "read": (
+        "Writes a line of JSON for each row change",
         "Usage: binlogfeed read [OPTIONS] [file]...",
         "  [file]...",
         "      --only-events <LIST>",
@@ -41,6 +48,7 @@ NAMED = {
         "  binlogfeed read --",
     ),
     "history": (
+        "Writes the line of each row change that has a key",
         "Usage: binlogfeed history [OPTIONS] --schema <NAME> --table <NAME> --key <JSON> <file>...",
         "  <file>...",
         "      --schema <NAME>",
