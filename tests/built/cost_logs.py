@@ -85,7 +85,7 @@ def everyday(count: int) -> Log:
 
 
 def one_table(count: int) -> Log:
-    """Transactions over one table, a hundred rows in each, behind a small one over another table. Their ids need five bytes."""
+    """Transactions over one table, a hundred rows in each, behind one over another table. Ids need five bytes."""
     other, table = (Table((1 << 32) + number, name, ()) for number, name in ((100, b"product"), (101, b"counter")))
     log, values = Log(), cycle(VALUES)
     for at, (mapped, rows) in enumerate([(other, ROWS), *[(table, 100)] * count]):

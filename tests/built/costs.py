@@ -30,8 +30,9 @@ ENVIRONMENT = {"GLIBC_TUNABLES": "glibc.cpu.hwcaps=-AVX2,-AVX2_Usable,-AVX512F,-
 VALGRIND = ("--tool=callgrind", "--trace-syscalls=yes", "--callgrind-out-file=/dev/null")
 CALL = re.compile(rb"^SYSCALL\[\d+,\d+\]\( *\d+\) \w+ \(", re.M)
 
-# The transactions of the log of everyday changes, the looks at it, the transactions of the log of one table, the tables of the log
-# of many, and those of the log of wide ones: these are fewer than the reader keeps maps of, but more than it keeps bytes of.
+# The transactions of the log of everyday changes, the looks at it, the transactions of the log of one table, the
+# tables of the log of many, and those of the log of wide ones: these are fewer than the reader keeps maps of, but more
+# than it keeps bytes of.
 TRANSACTIONS, LOOKS, MAPPED, TABLES, WIDE_TABLES = 1_000, 200, 100, 300, 60
 # A transaction of so many rows, and one of twice as many, make as many requests for memory, but for so many.
 ROWS, MORE_REQUESTS = 5_000, 4
