@@ -11,6 +11,8 @@ from binlogfeed.tokens import are_of_one_transaction, token_parts
 from binlogfeed.values import Column
 
 Values = dict[str, Any]
+# An event has so many rows at most. A server's rows event ends behind 8 KiB (`binlog_row_event_max_size`).
+MOST_ROWS = 1000
 
 
 class Packet(NamedTuple):
@@ -147,10 +149,6 @@ class RowsEvent(Event):
     def __repr__(self) -> str:
         """The event's class, table and token."""
         return f"<{type(self).__name__} {self.schema}.{self.table} {self.token}>"
-
-
-# An event has so many rows at most. A server's rows event ends behind 8 KiB (`binlog_row_event_max_size`).
-MOST_ROWS = 1000
 
 
 class WriteRowsEvent(RowsEvent):
