@@ -1,4 +1,4 @@
-"""The cases over the shop's logs, which the program `reader_cases` judges by itself."""
+"""The cases over the shop's logs, which the program `cases` judges by itself."""
 import re
 import subprocess
 from pathlib import Path
@@ -8,7 +8,7 @@ from built.check import SECONDS, Check
 TOP = Path(__file__).resolve().parents[2]
 SHOP = TOP / "examples/shop"
 CASES = TOP / "tests/shop.cases"
-PROGRAMS = [TOP / "crates/reader_cases/out/reader_cases", TOP / "crates/reader_cases/out/reader_cases.by-rattle"]
+PROGRAMS = [TOP / "crates/cases/out/cases", TOP / "crates/cases/out/cases.by-rattle"]
 # The last line: how many cases there were, with other counts, of which those of what is wrong are 0.
 LAST = re.compile(r"cases=[1-9]\d*( verbs=[1-9]\d*)? differing=0( bad_lines=0)?")
 
@@ -24,14 +24,6 @@ def judge(program: Path, _folder: Path) -> list[str]:
     return reasons + ([] if ended.returncode == 0 else [f"status {ended.returncode}, wanted 0"])
 
 
-def same_pieces(_program: Path, _folder: Path) -> list[str]:
-    """Compares the pieces that the programs of cases have alike."""
-    texts = {path: path.read_bytes() for path in sorted(TOP.glob("crates/*/data/pieces.cases"))}
-    wanted = (TOP / "crates/reader_cases/data/pieces.cases").read_bytes()
-    others = [f"{path.relative_to(TOP)} isn't that of reader_cases" for path, text in texts.items() if text != wanted]
-    return others + ([] if len(texts) == 3 else [f"there are {len(texts)} files of pieces, wanted 3"])
-
-
 def checks() -> list[Check]:
-    """The checks of these programs, where the cases are there."""
-    return [Check("the cases over the shop's logs", judge), Check("the pieces of all cases", same_pieces)] if CASES.exists() else []
+    """The check of this program, where the cases are there."""
+    return [Check("the cases over the shop's logs", judge)] if CASES.exists() else []

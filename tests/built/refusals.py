@@ -8,9 +8,9 @@ from built.logs import put, worked_log
 from built.preloaded import run_preloaded
 
 TOP = Path(__file__).resolve().parents[2]
-CASES = TOP / "crates/row_cases/data"
-# Programs that carry out the cases of an index.
-PROGRAMS = [TOP / "crates/row_cases/out/row_cases", TOP / "crates/row_cases/out/row_cases.by-rattle"]
+CASES = TOP / "crates/cases/data"
+# The program that carries out the cases of an index.
+PROGRAMS = [TOP / "crates/cases/out/cases", TOP / "crates/cases/out/cases.by-rattle"]
 OUT_OF_MEMORY = said("out of memory")
 # How a case tells of a refusal.
 NO_MEMORY = re.compile(rb"out of memory|OutOfMemory")
@@ -82,5 +82,5 @@ def checks() -> list[Check]:
 
 
 def index_checks() -> list[Check]:
-    """The checks of the programs of cases."""
+    """The check of the program of cases."""
     return [Check("an index, each request for memory refused in turn", judge_index)]

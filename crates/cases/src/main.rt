@@ -1,0 +1,16 @@
+//! Carries out cases: text that describes files, what is done with them, and what has to come of it.
+#![tactic(auto)]
+
+mod language;
+mod program;
+mod readers;
+mod tables;
+mod verbs;
+
+use language::judge_input;
+use std::io;
+use verbs::AllVerbs;
+
+fn main(rt: HostRuntime) -> io::Result<()> {
+    judge_input(&rt, &AllVerbs)
+}

@@ -1,0 +1,159 @@
+//! Words of the command line: what they ask for, and the run that they order.
+use crate::language::{Case, Named, Page, Refused, Verdict};
+use crate::program::outcome::{How, Job, Key, run_files};
+use crate::program::shown_orders::order_text;
+use binlogfeed::words::{Order, read_words};
+use binlogfeed::words_fault::{WordsFault, words_line, words_status};
+use std::alloc::Global;
+
+/// The words as the system gives them: the program's name stands in front.
+fn borrowed<'a>(alloc: Global, words: &'a [String]) -> Result<Vec<&'a str>, Refused> {
+    let mut borrowed = Vec::new(alloc);
+    borrowed.push("binlogfeed")?;
+    for word in words {
+        borrowed.push(word.as_str())?;
+    }
+    Ok(borrowed)
+}
+
+/// A copy of the file of a case with a name.
+fn file_named(alloc: Global, case: &Case, name: &str) -> Result<Named, Refused> {
+    let Some(bytes) = case.file(name) else {
+        return Err(Refused::UnknownName);
+    };
+    let name = String::from_str(alloc, name)?;
+    Ok((name, Vec::from_slice(alloc, bytes)?))
+}
+
+/// The files of a case with these names.
+fn files_named(alloc: Global, case: &Case, names: &[&str]) -> Result<Vec<Named>, Refused> {
+    let mut files = Vec::new(alloc);
+    for name in names {
+        files.push(file_named(alloc, case, name)?)?;
+    }
+    Ok(files)
+}
+
+/// Does a job over the files of a case with these names, and says what came of it.
+fn perform_job(
+    alloc: Global,
+    case: &Case,
+    names: &[&str],
+    job: Job<'_>,
+    how: How,
+) -> Result<String, Refused> {
+    let files = files_named(alloc, case, names)?;
+    run_files(alloc, files, job, how)?.text(alloc)
+}
+
+/// Does what an order asks for, over the case's files, and says what came of it.
+fn perform(alloc: Global, case: &Case, order: Order<'_>, how: How) -> Result<String, Refused> {
+    match order {
+        Order::Transactions { files } => perform_job(alloc, case, &files, Job::Transactions, how),
+        Order::Read {
+            filter,
+            start,
+            files,
+            ..
+        } => perform_job(alloc, case, &files, Job::Changes { filter, start }, how),
+        // A run that follows reads an input, which cases have none of.
+        Order::Follow { .. } => Err(Refused::UnknownWord),
+        Order::History {
+            schema,
+            table,
+            key,
+            files,
+            ..
+        } => {
+            let text = key.as_str();
+            let key = Key {
+                schema,
+                table,
+                text,
+            };
+            perform_job(alloc, case, &files, Job::History(key), how)
+        }
+    }
+}
+
+/// What comes of words that are carried out over a case's files.
+fn answer(alloc: Global, case: &Case, words: &[&str], how: How) -> Result<String, Refused> {
+    match read_words(alloc, words) {
+        Ok(order) => perform(alloc, case, order, how),
+        Err(fault) => fault_text(alloc, &fault),
+    }
+}
+
+/// What words ask for.
+fn asked(alloc: Global, words: &[&str]) -> Result<String, Refused> {
+    match read_words(alloc, words) {
+        Ok(order) => order_text(alloc, order),
+        Err(fault) => fault_text(alloc, &fault),
+    }
+}
+
+/// What comes of words, with each of the case's windows.
+fn answer_each(alloc: Global, case: &Case, words: &[&str]) -> Result<Verdict, Refused> {
+    let mut runs = 0u64;
+    for window in &case.windows {
+        let how = How {
+            window: *window,
+            ..How::of(case)
+        };
+        let came = answer(alloc, case, words, how)?;
+        if !case.wants(came.as_str()) {
+            return Ok(Verdict::Differs { came });
+        }
+        runs = runs.saturating_add(1);
+    }
+    Ok(Verdict::Well { runs })
+}
+
+/// `binlogfeed WORD..`: does what the words ask for, with each of the case's windows.
+pub fn answer_words(alloc: Global, case: &Case, words: &[String]) -> Result<Verdict, Refused> {
+    let words = borrowed(alloc, words)?;
+    answer_each(alloc, case, &words)
+}
+
+/// `words WORD..`: what the words ask for.
+pub fn show_words(alloc: Global, case: &Case, words: &[String]) -> Result<Verdict, Refused> {
+    let words = borrowed(alloc, words)?;
+    let came = asked(alloc, &words)?;
+    Ok(Verdict::of(case, came))
+}
+
+/// The first line of help, behind its status.
+fn push_help(text: &mut Page, status: u8, help: &str) {
+    text.push_named("help ", status as u64);
+    text.push_str(", ");
+    text.push_str(help.lines().next().unwrap_or(""));
+    text.push('\n');
+}
+
+/// The line of a refusal, behind its status.
+fn push_refusal(text: &mut Page, status: u8, fault: &WordsFault) {
+    text.push_named("refused ", status as u64);
+    text.push_str(", ");
+    let written = words_line(fault, text.string());
+    text.take(written);
+    text.push('\n');
+}
+
+/// A refusal by its status and its line. Help has the first line of its text.
+fn push_fault(alloc: Global, text: &mut Page, fault: &WordsFault) {
+    let status = words_status(fault);
+    match fault {
+        WordsFault::Help(error) => match error.to_string(alloc) {
+            Ok(help) => push_help(text, status, help.as_str()),
+            Err(_) => text.refuse(Refused::OutOfMemory),
+        },
+        _ => push_refusal(text, status, fault),
+    }
+}
+
+/// What is said of a refusal.
+fn fault_text(alloc: Global, fault: &WordsFault) -> Result<String, Refused> {
+    let mut text = Page::new(alloc);
+    push_fault(alloc, &mut text, fault);
+    text.into_text()
+}

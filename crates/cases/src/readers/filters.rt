@@ -1,0 +1,168 @@
+//! Filters: which changes pass.
+use crate::language::{Page, Refused};
+use crate::readers::sets::{answer_of, gtid_of, set_of};
+use binlog_select::{ChangeKind, Filter, Kinds, Names};
+use std::alloc::Global;
+use uuid::Uuid;
+
+fn kind_of(word: &str) -> Result<ChangeKind, Refused> {
+    match word {
+        "insert" => Ok(ChangeKind::Insert),
+        "update" => Ok(ChangeKind::Update),
+        "delete" => Ok(ChangeKind::Delete),
+        _ => Err(Refused::BadPart),
+    }
+}
+
+/// Appends a name.
+fn push_name(alloc: Global, names: &mut Vec<String>, name: &str) -> Result<(), Refused> {
+    let Ok(name) = String::from_str(alloc, name) else {
+        return Err(Refused::OutOfMemory);
+    };
+    match names.push(name) {
+        Ok(()) => Ok(()),
+        Err(_) => Err(Refused::OutOfMemory),
+    }
+}
+
+/// Appends the names between commas.
+fn push_names(alloc: Global, names: &mut Vec<String>, list: &str) -> Result<(), Refused> {
+    for name in list.split(',') {
+        push_name(alloc, names, name)?;
+    }
+    Ok(())
+}
+
+/// The names between commas; where nothing follows a list's name, no names.
+fn names_of(alloc: Global, list: Option<&str>) -> Result<Names, Refused> {
+    let mut names = Vec::new(alloc);
+    if let Some(list) = list {
+        push_names(alloc, &mut names, list)?;
+    }
+    Ok(Names::from(names))
+}
+
+/// Appends the kinds between commas.
+fn push_kinds(kinds: &mut Vec<ChangeKind>, list: &str) -> Result<(), Refused> {
+    for name in list.split(',') {
+        if kinds.push(kind_of(name)?).is_err() {
+            return Err(Refused::OutOfMemory);
+        }
+    }
+    Ok(())
+}
+
+/// The kinds between commas; where nothing follows a list's name, no kinds.
+fn kinds_of(alloc: Global, list: Option<&str>) -> Result<Kinds, Refused> {
+    let mut kinds = Vec::new(alloc);
+    if let Some(list) = list {
+        push_kinds(&mut kinds, list)?;
+    }
+    Ok(Kinds::from(kinds))
+}
+
+/// Gives a filter a list of names.
+fn set_names(filter: &mut Filter, option: &str, names: Names) -> Result<(), Refused> {
+    let list = match option {
+        "only-tables" => &mut filter.only_tables,
+        "ignored-tables" => &mut filter.ignored_tables,
+        "only-schemas" => &mut filter.only_schemas,
+        "ignored-schemas" => &mut filter.ignored_schemas,
+        _ => return Err(Refused::UnknownWord),
+    };
+    *list = Some(names);
+    Ok(())
+}
+
+/// Gives a filter a list.
+pub fn set_list(
+    alloc: Global,
+    filter: &mut Filter,
+    option: &str,
+    list: Option<&str>,
+) -> Result<(), Refused> {
+    match option {
+        "only-events" => filter.only_events = Some(kinds_of(alloc, list)?),
+        "auto-position" => filter.auto_position = set_of(alloc, list.unwrap_or("")).ok(),
+        _ => return set_names(filter, option, names_of(alloc, list)?),
+    }
+    Ok(())
+}
+
+/// Gives a filter the list of a word.
+fn set_word(alloc: Global, filter: &mut Filter, word: &str) -> Result<(), Refused> {
+    match word.split_once('=') {
+        Some((name, names)) => set_list(alloc, filter, name, Some(names)),
+        None => set_list(alloc, filter, word, None),
+    }
+}
+
+/// Gives a filter the lists of words.
+fn set_words(alloc: Global, filter: &mut Filter, words: &[String]) -> Result<(), Refused> {
+    for word in words {
+        set_word(alloc, filter, word.as_str())?;
+    }
+    Ok(())
+}
+
+/// Whether a change of a kind, a table of a schema and a GTID passes a filter.
+fn is_passed(
+    filter: &Filter,
+    kind: &str,
+    table: (&str, &str),
+    gtid: Option<(Uuid, u64)>,
+) -> Result<bool, Refused> {
+    let (schema, table) = table;
+    Ok(filter.passes(kind_of(kind)?, schema, table, gtid))
+}
+
+/// The filter that words give its lists.
+fn filter_of(alloc: Global, words: &[String]) -> Result<Filter, Refused> {
+    let mut filter = Filter::new();
+    match set_words(alloc, &mut filter, words) {
+        Ok(()) => Ok(filter),
+        Err(why) => Err(why),
+    }
+}
+
+/// Whether a change of a kind, a schema, a table and a GTID passes a filter with the lists behind them.
+fn passes(alloc: Global, words: &[String]) -> Result<bool, Refused> {
+    let [kind, schema, table, gtid, lists @ ..] = words else {
+        return Err(Refused::BadPart);
+    };
+    let gtid = gtid_of(alloc, gtid.as_str())?;
+    let table = (schema.as_str(), table.as_str());
+    match filter_of(alloc, lists) {
+        Ok(filter) => is_passed(&filter, kind.as_str(), table, gtid),
+        Err(why) => Err(why),
+    }
+}
+
+/// `passes KIND SCHEMA TABLE GTID LIST..`: whether such a change passes such a filter.
+pub fn passes_text(alloc: Global, words: &[String]) -> Result<String, Refused> {
+    answer_of(alloc, passes(alloc, words)?)
+}
+
+/// The set of these names.
+fn set_of_names(alloc: Global, words: &[String]) -> Result<Names, Refused> {
+    let mut names = Vec::new(alloc);
+    for word in words {
+        push_name(alloc, &mut names, word.as_str())?;
+    }
+    Ok(Names::from(names))
+}
+
+/// Names, a line each.
+fn show_names(alloc: Global, names: &[String]) -> Result<String, Refused> {
+    let mut text = Page::new(alloc);
+    for name in names {
+        text.push_str(name.as_str());
+        text.push('\n');
+    }
+    text.into_text()
+}
+
+/// `name-set NAME..`: the names as a set of names gives them back, a line each.
+pub fn names_text(alloc: Global, words: &[String]) -> Result<String, Refused> {
+    show_names(alloc, &set_of_names(alloc, words)?.into_vec())
+}
