@@ -1,6 +1,5 @@
 pub mod Parsing
 pub mod Building
-pub mod Sending
 pub mod Coming
 pub mod Keeping
 pub mod Ends

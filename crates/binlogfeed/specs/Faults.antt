@@ -4,6 +4,8 @@ use Rattle.binlog_feed.specs.declared.what.What.{What}
 use Rattle.binlog_feed.specs.declared.what.What.TheVariants.{BadMagic, NoFormat, BadFormat, ChecksumUnknown, BadLength, EventAfterEnd, KindOutOfProfile, BadBody, Xa, RollbackTo, OutOfPlace, RotationMismatch, BadMap, TypeOutOfProfile, NoColumnNames, BadRows, UnmappedTable, SourceChanged}
 use Rattle.binlog_feed.specs.declared.fault.OpenFeedFault.{OpenFeedFault}
 use Rattle.binlog_feed.specs.declared.fault.OpenFeedFault.TheVariants as open_faults
+use Rattle.line_output.specs.declared.fault.AddFault.{AddFault}
+use Rattle.line_output.specs.declared.fault.AddFault.TheVariants as add_faults
 use Rattle.binlogfeed.specs.declared.fault.RunFault.{RunFault}
 use Rattle.binlogfeed.specs.declared.fault.RunFault.TheVariants.{DuplicateFile, Token, Log, Read, Write, OutOfMemory}
 use Rattle.binlogfeed.specs.declared.fault.TokenRefusal.{TokenRefusal}
@@ -81,3 +83,8 @@ IsNamed names (Log fault) = fault.file < length names
 IsNamed names (Read file) = file < length names
 IsNamed names Write = Unit {0}
 IsNamed names OutOfMemory = Unit {0}
+
+-- why a run ends where a line wasn't added
+abbrev pub fault_of_adding : AddFault → RunFault
+fault_of_adding add_faults.Write = Write
+fault_of_adding add_faults.OutOfMemory = OutOfMemory

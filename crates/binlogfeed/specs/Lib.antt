@@ -8,7 +8,7 @@ pub mod Lists
 pub mod Looks
 pub mod Commands
 pub mod Lines
-pub mod Sending
+pub mod Window
 pub mod Runs
 pub mod GoingOn
 pub mod Coming

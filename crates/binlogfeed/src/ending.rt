@@ -4,7 +4,7 @@ ghost use Rattle.binlogfeed.specs.Runs.{Output, AnswersOutput};
 ghost use Rattle.binlogfeed.specs.Coming.{Leaves};
 
 use crate::fault::RunFault;
-use crate::writing::write_text;
+use line_output::write_text;
 use std::io::Write;
 
 /// Whether a run ended because a write failed.

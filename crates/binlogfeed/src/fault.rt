@@ -1,9 +1,10 @@
 //! Why a run ended early: its line on standard error, and the program's status.
 ghost use Rattle.std.specs.Prelude.{◌≡◌, ◌++◌, OnOk, string_bytes};
-ghost use Rattle.binlogfeed.specs.Faults.{what_text, refusal_text, fault_text, status_of, IsNamed};
+ghost use Rattle.binlogfeed.specs.Faults.{what_text, refusal_text, fault_text, fault_of_adding, status_of, IsNamed};
 
 use binlog_feed::{LogFault, OpenFeedFault, What};
 use binlog_frame::Logs;
+use line_output::AddFault;
 use std::alloc::AllocError;
 use std::fmt;
 
@@ -163,5 +164,15 @@ pub fn status(fault: &RunFault) -> u8
         RunFault::Token(_) => 3,
         RunFault::Read(_) | RunFault::Write => 4,
         RunFault::OutOfMemory => 5,
+    }
+}
+
+/// Why a run ends where a line was not added.
+pub(crate) fn fault_of_adding(fault: AddFault) -> RunFault
+    ensures { result ≡ fault_of_adding fault }
+{
+    match fault {
+        AddFault::Write => RunFault::Write,
+        AddFault::OutOfMemory => RunFault::OutOfMemory,
     }
 }

@@ -25,4 +25,3 @@ mod unit_line;
 mod window;
 pub mod words;
 pub mod words_fault;
-mod writing;

@@ -1,6 +1,6 @@
 //! The window of a run.
 ghost use Rattle.std.specs.Prelude.{◌≡◌, IfOk, length};
-ghost use Rattle.binlogfeed.specs.Sending.{first_window_length};
+ghost use Rattle.binlogfeed.specs.Window.{first_window_length};
 
 use std::alloc::{AllocError, Global};
 

@@ -1,5 +1,5 @@
 use Rattle.binlogfeed.proofs.Ends.{ends, ends_by_write, whole_is_beginning}
-use Rattle.binlogfeed.proofs.Sending.{appends_kept}
+use Rattle.line_output.proofs.Sending.{appends_kept}
 use Rattle.binlogfeed.proofs.ending.finish.Goals as goal
 
 pub returns-in-Err-clause-answers : goal.returns-in-Err-clause-answers

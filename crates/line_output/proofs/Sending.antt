@@ -4,9 +4,9 @@ use Rattle.std.specs.Prelude.{IsErrAnd}
 use Rattle.std.proofs.lemmas.List.{take_rest}
 use Rattle.std.specs.Io.KnownBytes.{Appends, Keeps}
 use Rattle.std.proofs.KnownBytes.{Appends-trans}
-use Rattle.binlogfeed.specs.Sending.{AppendsBeginning, IsSending, IsSendingBeginning, Adds}
-use Rattle.binlogfeed.specs.declared.writing.AddFault.{AddFault}
-use Rattle.binlogfeed.specs.declared.writing.AddFault.TheVariants.{Write}
+use Rattle.line_output.specs.Sending.{AppendsBeginning, IsSending, IsSendingBeginning, Adds}
+use Rattle.line_output.specs.declared.fault.AddFault.{AddFault}
+use Rattle.line_output.specs.declared.fault.AddFault.TheVariants.{Write}
 
 pub appends_none : (old : Option (List ℕ)) → Appends old old []
 appends_none None = tt

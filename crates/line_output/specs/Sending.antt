@@ -1,14 +1,8 @@
 -- What a writer has received of a text.
 use Rattle.std.specs.Prelude.{◌≡◌, ℕ, List, ◌++◌, Option, Result, Ok, Err}
 use Rattle.std.specs.Io.KnownBytes.{Appends}
-use Rattle.binlogfeed.specs.declared.writing.AddFault.{AddFault}
-use Rattle.binlogfeed.specs.declared.writing.AddFault.TheVariants.{Write, OutOfMemory}
-use Rattle.binlogfeed.specs.declared.fault.RunFault.{RunFault}
-use Rattle.binlogfeed.specs.declared.fault.RunFault.TheVariants as run_faults
-
--- a run begins with a window of 64 KiB
-abbrev pub first_window_length : ℕ
-first_window_length = 65536
+use Rattle.line_output.specs.declared.fault.AddFault.{AddFault}
+use Rattle.line_output.specs.declared.fault.AddFault.TheVariants.{Write, OutOfMemory}
 
 -- So many bytes, 64 KiB, are enough to be sent: what waits behind a line is fewer.
 abbrev pub enough_waits : ℕ
@@ -39,8 +33,3 @@ abbrev pub Adds : {T : Type 0} → Option (List ℕ) → Option (List ℕ) → L
 Adds old new before later line (Ok done) = IsSending old new later (before ++ line)
 Adds old new before later line (Err Write) = AppendsBeginning old new (before ++ line)
 Adds old new before later line (Err OutOfMemory) = (new ≡ old) × (later ≡ before)
-
--- and why the run ends then
-abbrev pub fault_of_adding : AddFault → RunFault
-fault_of_adding Write = run_faults.Write
-fault_of_adding OutOfMemory = run_faults.OutOfMemory

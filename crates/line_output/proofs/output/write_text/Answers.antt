@@ -1,9 +1,9 @@
 use Rattle.std.proofs.Common.{◌-◌, ◌++◌, length, take, drop, sym, ap, subst, ◌∙◌, arith, length-take}
-use Rattle.binlogfeed.proofs.Sending.{beginning_taken, beginning_more, appends_kept}
+use Rattle.line_output.proofs.Sending.{beginning_taken, beginning_more, appends_kept}
 use lib.Seq.{take-add, take-take}
 use Rattle.std.specs.Io.KnownBytes.{Appends}
 use Rattle.std.proofs.KnownBytes.{Appends-trans}
-use Rattle.binlogfeed.proofs.writing.write_text.Goals as goal
+use Rattle.line_output.proofs.output.write_text.Goals as goal
 
 pub loop-written-preserved : goal.loop-written-preserved
 loop-written-preserved g c =

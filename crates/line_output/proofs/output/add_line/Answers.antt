@@ -1,7 +1,7 @@
 use Rattle.std.proofs.Common.{List, ℕ, ◌++◌, ap, subst, ◌∙◌}
-use Rattle.binlogfeed.specs.Sending.{AppendsBeginning, IsSending}
-use Rattle.binlogfeed.proofs.Sending.{add_failed}
-use Rattle.binlogfeed.proofs.writing.add_line.Goals as goal
+use Rattle.line_output.specs.Sending.{AppendsBeginning, IsSending}
+use Rattle.line_output.proofs.Sending.{add_failed}
+use Rattle.line_output.proofs.output.add_line.Goals as goal
 
 pub returns-clause-adds : goal.returns-clause-adds
 returns-clause-adds g c =
