@@ -1,0 +1,200 @@
+#!/usr/bin/env python3
+"""Measures the repository's texts, and holds each figure to the most that house.txt allows.
+
+usage: tests/house.py [--list NAME]
+
+The figures are of what a reader meets: definitions that share a name, long clauses, calls with many of them, long functions and files,
+lines of proofs and documents. --list prints what a figure counts. The last line is `N passed, M failed`.
+"""
+import argparse
+import re
+import sys
+from collections import Counter, defaultdict
+from collections.abc import Iterable, Iterator
+from pathlib import Path
+from typing import NamedTuple
+
+TOP = Path(__file__).resolve().parent.parent
+MOST = Path(__file__).resolve().parent / "house.txt"
+CRATES = sorted(path for path in (TOP / "crates").iterdir() if (path / "src").is_dir())
+
+LONG_CLAUSE, LONGEST_CLAUSE = 100, 140
+MANY_CLAUSES = 16
+LONG_FUNCTION = 40
+LONG_FILE = 800
+
+# A definition of specs/, by the line that says its type.
+DEFINED = re.compile(r"^(?:(?:abbrev|record|data|unfoldable|opaque|pub) )+(?!mod |use )([^\s:(){}]+)")
+FUNCTION = re.compile(r"^( *)(pub )?(?:pub\([^)]*\) )?(?:const )?fn (\w+)")
+CLAUSE = re.compile(r"^ *(?:requires|ensures|ghost)\b(?! use)")
+
+
+class Item(NamedTuple):
+    """What a figure counts once, and how much of it."""
+
+    what: str
+    count: int = 1
+
+
+class Function(NamedTuple):
+    """A function of a file: its name, whether it is public, its clauses as single lines, and the lines of its body."""
+
+    name: str
+    is_public: bool
+    clauses: list[str]
+    body: int
+
+
+def short(path: Path) -> str:
+    """A path as a reader of the repository writes it."""
+    return str(path.relative_to(TOP))
+
+
+def lines_of(path: Path) -> list[str]:
+    """The lines of a file."""
+    return path.read_text(encoding="utf-8").splitlines()
+
+
+def sources() -> Iterator[Path]:
+    """The files of code."""
+    return (path for crate in CRATES for path in sorted(crate.glob("src/**/*.rt")))
+
+
+def clauses_of(head: list[str]) -> list[str]:
+    """The clauses between a function's name and its body, each as one line."""
+    clauses: list[str] = []
+    for line in head:
+        text = line.strip()
+        if CLAUSE.match(line):
+            clauses.append(text)
+        elif clauses and text and not text.startswith("//"):
+            clauses[-1] += f" {text}"
+    return clauses
+
+
+def functions_of(path: Path) -> Iterator[Function]:
+    """The functions of a formatted file that have a body."""
+    lines = lines_of(path)
+    for number, line in enumerate(lines):
+        head = FUNCTION.match(line)
+        if not head:
+            continue
+        indent = head[1]
+        opens = (f"{indent}{{", f"{indent}}}", f"{indent});")
+        opening = next((at for at in range(number, len(lines)) if lines[at] in opens or lines[at].endswith((" {", ";"))), number)
+        last = next((at for at in range(opening, len(lines)) if lines[at] == f"{indent}}}"), opening)
+        has_body = lines[opening].endswith("{")
+        yield Function(f"{short(path)}: {head[3]}", bool(head[2]), clauses_of(lines[number + 1 : opening]), last - opening - 1 if has_body else 0)
+
+
+def functions() -> Iterator[Function]:
+    """All functions."""
+    return (function for path in sources() for function in functions_of(path))
+
+
+def names_of(crate: Path) -> dict[str, list[str]]:
+    """The names that a crate's specs define, with the files that do."""
+    found: dict[str, list[str]] = defaultdict(list)
+    for path in sorted(crate.glob("specs/**/*.antt")):
+        for line in lines_of(path):
+            if defined := DEFINED.match(line):
+                found[defined[1]].append(path.stem)
+    return found
+
+
+def shared_names() -> Iterator[Item]:
+    """Names that stand for several definitions of one crate."""
+    for crate in CRATES:
+        for name, files in names_of(crate).items():
+            if len(files) > 1:
+                yield Item(f"{crate.name}: {name} in {', '.join(files)}")
+
+
+def clauses_over(length: int) -> Iterator[Item]:
+    """Clauses of more columns than this."""
+    for function in functions():
+        yield from (Item(f"{function.name}: {clause}") for clause in function.clauses if len(clause) > length)
+
+
+def calls_with_many_clauses() -> Iterator[Item]:
+    """Public calls with more clauses than somebody reads at once."""
+    for function in functions():
+        if function.is_public and len(function.clauses) > MANY_CLAUSES:
+            yield Item(f"{function.name}: {len(function.clauses)}")
+
+
+def long_functions() -> Iterator[Item]:
+    """Functions whose body is too long."""
+    return (Item(f"{function.name}: {function.body}") for function in functions() if function.body >= LONG_FUNCTION)
+
+
+def long_files() -> Iterator[Item]:
+    """Files of code, definitions, proofs or Python that are too long."""
+    kinds = ("crates/*/src/**/*.rt", "crates/*/specs/**/*.antt", "crates/*/proofs/**/*.antt", "python/**/*.py", "tests/**/*.py", "examples/**/*.py")
+    found = sorted(path for kind in kinds for path in TOP.glob(kind))
+    return (Item(f"{short(path)}: {len(lines_of(path))}") for path in found if len(lines_of(path)) > LONG_FILE)
+
+
+def flat_wrong_bodies() -> Iterator[Item]:
+    """Wrong bodies that lie beside no others of their file."""
+    return (Item(short(path)) for path in sorted(TOP.glob("crates/*/wrong-bodies/*.edit")))
+
+
+def lines_in(paths: Iterable[Path]) -> Iterator[Item]:
+    """The lines of these files."""
+    return (Item(short(path), len(lines_of(path))) for path in sorted(paths))
+
+
+def proof_lines() -> Iterator[Item]:
+    """The lines of proofs, by crate."""
+    for crate in CRATES:
+        yield Item(crate.name, sum(len(lines_of(path)) for path in crate.glob("proofs/**/*.antt")))
+
+
+FIGURES = {
+    "shared_names": shared_names,
+    "clauses_over_100_columns": lambda: clauses_over(LONG_CLAUSE),
+    "clauses_over_140_columns": lambda: clauses_over(LONGEST_CLAUSE),
+    "public_calls_with_over_16_clauses": calls_with_many_clauses,
+    "functions_over_40_lines": long_functions,
+    "files_over_800_lines": long_files,
+    "flat_wrong_bodies": flat_wrong_bodies,
+    "lines_of_proofs": proof_lines,
+    "lines_of_rows": lambda: lines_in([TOP / "tests/rows.jsonl"]),
+    "lines_of_documents": lambda: lines_in([*TOP.glob("docs/*.md"), TOP / "README.md", TOP / "tests/README.md", TOP / "bench/README.md"]),
+}
+
+
+def most_allowed() -> dict[str, int]:
+    """The most that house.txt allows of each figure."""
+    words = (line.split() for line in lines_of(MOST) if line and not line.startswith("#"))
+    return {name: int(most) for name, most in words}
+
+
+def judge() -> int:
+    """Prints each figure beside the most that is allowed, and answers the exit status."""
+    allowed = most_allowed()
+    came = Counter()
+    for name in sorted({*FIGURES, *allowed}):
+        figure = sum(item.count for item in FIGURES[name]()) if name in FIGURES else None
+        is_well = figure is not None and name in allowed and figure <= allowed[name]
+        came[is_well] += 1
+        print(f"{name}: {figure}, at most {allowed.get(name)}{'' if is_well else ' FAILED'}")
+    print(f"{came[True]} passed, {came[False]} failed")
+    return 1 if came[False] else 0
+
+
+def main() -> int:
+    """Judges all figures, or lists what one counts."""
+    parser = argparse.ArgumentParser(description=__doc__.split("\n", maxsplit=1)[0])
+    parser.add_argument("--list", choices=FIGURES, metavar="NAME", help="print what this figure counts")
+    given = parser.parse_args()
+    if given.list:
+        for item in FIGURES[given.list]():
+            print(item.what if item.count == 1 else f"{item.what}: {item.count}")
+        return 0
+    return judge()
+
+
+if __name__ == "__main__":
+    sys.exit(main())
