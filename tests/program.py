@@ -1,5 +1,5 @@
 #!/usr/bin/env python3
-"""Runs the built program over every row of rows.jsonl and over the checks of this folder, and says what differs.
+"""Runs the built program over every row and over the checks of this folder, and says what differs.
 
 The programs are those that `rt ci` leaves: one built by LLVM, one by Rattle's own compiler. Those that are there are taken.
 The last line is `N passed, M failed`; the exit status is 1 where something failed.

@@ -1,47 +1,36 @@
-"""The rows of rows.jsonl: files and words, and what the program has to write for them, byte for byte."""
+"""The rows: those of rows.jsonl, and the long ones. Runs the program over the files of each."""
 import json
 from collections import Counter
 from functools import cache, partial
 from pathlib import Path
-from typing import NamedTuple
 
 from built.check import Check, Wanted, differs, run, said
+from built.long_rows import long_rows
+from built.row import Row
 from least_counts import lacking
 
 ROWS = Path(__file__).resolve().parent.parent / "rows.jsonl"
 
-# What isn't built yet. The rows that need one of these are set aside; whoever builds it takes its word off.
-NOT_BUILT: tuple[str, ...] = ()
+
+def lengths_of(first: int, last: int, step: int = 1) -> range:
+    """The lengths that a line says by the first, the last and the step between them."""
+    return range(first, last + 1, step)
 
 
-class Row(NamedTuple):
-    """A line of the file: `files` from name to bytes in hex. A text of None isn't fixed."""
-
-    name: str
-    files: dict[str, str]
-    words: list[str]
-    stdout: str | None
-    stderr: str | None
-    status: int
-
-    def needs(self) -> str | None:
-        """The word that isn't built, where it has one: the subcommand stands first, an option anywhere."""
-        asked = self.words[:1] + [word for word in self.words if word.startswith("--")]
-        return next((word for word in NOT_BUILT if word in asked), None)
-
-    def wanted(self) -> Wanted:
-        """How a run over it has to come out: at status 0 nothing stands on standard error."""
-        stdout = None if self.stdout is None else self.stdout.encode()
-        if self.stderr is not None:
-            return Wanted(self.status, stdout, f"{self.stderr}\n".encode())
-        return Wanted(self.status, stdout, b"" if self.status == 0 else None)
+def rows_of(line: str) -> list[Row]:
+    """The row of a line; where it says lengths, a row for each length that its file is cut to."""
+    fields = json.loads(line)
+    if "lengths" not in fields:
+        return [Row(**fields)]
+    lengths, ends = fields.pop("lengths"), fields.pop("ends")
+    return [Row(**fields).cut_to(length, ends) for length in lengths_of(*lengths)]
 
 
 @cache
 def all_rows() -> list[Row]:
-    """Every row of the file. A name stands for one row."""
+    """Every row of the file, and the long ones. A name stands for one row."""
     lines = ROWS.read_text(encoding="utf-8").splitlines()
-    rows = [Row(**json.loads(line)) for line in lines]
+    rows = [row for line in lines for row in rows_of(line)] + long_rows()
     twice = [name for name, count in Counter(row.name for row in rows).items() if count > 1]
     if twice:
         raise ValueError(f"rows with one name: {', '.join(twice)}")
