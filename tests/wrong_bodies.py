@@ -1,5 +1,5 @@
 #!/usr/bin/env python3
-"""Tries the wrong bodies of crates/NAME/wrong-bodies/*.edit, many of them in one check.
+"""Tries the wrong bodies of crates/NAME/wrong-bodies/MODULE/*.edit, many of them in one check.
 
 usage: tests/wrong_bodies.py [--only TEXT] [--while FILE] [CRATE ..]
 
@@ -10,7 +10,8 @@ planted beside one that doesn't compile, is tried again with fewer others, and a
 fails the run, and so does one that can't be applied, whose function can't be found, or that doesn't compile.
 
 An edit is a file with a line 'file: src/NAME.rt' and pairs of lines 'old: TEXT' and 'new: TEXT'. Each old text stands in
-that file exactly once, inside one function; or with a line 'in: NAME' once in the function of that name.
+that file exactly once, inside one function; or with a line 'in: NAME' once in the function of that name. Its folder has the
+path of that file: edits of src/NAME.rt lie in wrong-bodies/NAME/, and those of src/A/B.rt in wrong-bodies/A/B/.
 
 Each public function with a contract has to have an edit, here or in must-fail/, but for laws, which give and change nothing.
 Those that no body can get wrong are named in wrong-bodies/without.md, each by a line "- `MODULE::TYPE::NAME`: why".
@@ -21,8 +22,8 @@ is proved as it is, this script doesn't look at: `rt ci` does. A check begins wi
 where that is there, and a further one with what the one before it proved.
 
 The copies lie in .git/wrong-bodies. Checks run side by side, one a processor or as many as RT_JOBS says. --only tries the
-edits whose name has TEXT. As long as the file of --while is there, `rt ci` runs beside this script: a crate waits until that
-has built the libraries below it. The last line is 'N passed, M failed'.
+edits whose name, with its folder, has TEXT. As long as the file of --while is there, `rt ci` runs beside this script: a crate waits
+until that has built the libraries below it. The last line is 'N passed, M failed'.
 """
 import argparse
 import fcntl
@@ -43,7 +44,8 @@ from pathlib import Path
 
 ROOT = Path(__file__).resolve().parent.parent
 FOLDER = "wrong-bodies"
-FOLDERS = (FOLDER, "must-fail")
+# The public functions that need no edit.
+WITHOUT = "without.md"
 PARTS = ("src", "specs", "proofs")
 # So many edits in one check. Most of what a check costs beside its functions it costs once.
 MOST_IN_A_ROUND = 128
@@ -82,6 +84,7 @@ class Function:
 @dataclass(frozen=True)
 class Edit:
     crate: str
+    # Its folder and its file's name, below wrong-bodies/.
     name: str
     path: str
     # The place of each old text in the file, that text, and the new one.
@@ -254,8 +257,8 @@ def part_of(functions, text, names):
     return slice(start, start + sum(len(it) + 1 for it in lines[found[0].first : found[0].last + 1]))
 
 
-def read_edit(crate, file):
-    """Reads an edit of one function, and sees to it that it can be applied."""
+def read_edit(crate, file, name):
+    """Reads an edit of one function, and sees to it that it can be applied and lies in its file's folder."""
     if not re.fullmatch(r"[a-z0-9_]+\.edit", file.name) or not file.is_file():
         raise BadEdit("an edit's name is of small letters, digits and _, and ends in .edit")
     lines = file.read_text().splitlines()
@@ -263,6 +266,9 @@ def read_edit(crate, file):
     paths, names, olds, news = map(said, ("file", "in", "old", "new"))
     if len(paths) != 1 or not re.fullmatch(r"src/[\w/]+\.rt", paths[0]) or not all(olds) or not olds or len(olds) != len(news):
         raise BadEdit("an edit is one line 'file: src/NAME.rt' and then pairs of lines 'old: TEXT' and 'new: TEXT'")
+    home = paths[0].removeprefix("src/").removesuffix(".rt")
+    if name != f"{home}/{file.name}":
+        raise BadEdit(f"it changes {paths[0]}, so its folder is {FOLDER}/{home}/")
     try:
         text = (ROOT / "crates" / crate.name / paths[0]).read_text()
     except OSError:
@@ -273,7 +279,7 @@ def read_edit(crate, file):
     found = {function_at(functions, text, at, old) for at, old in zip(places, olds)}
     if len(found) != 1:
         raise BadEdit("it changes more than one function")
-    return Edit(crate.name, file.name, paths[0], tuple(zip(places, olds, news)), found.pop())
+    return Edit(crate.name, name, paths[0], tuple(zip(places, olds, news)), found.pop())
 
 
 def shared_names(crate):
@@ -289,15 +295,16 @@ def read_edits(crate, only):
     """Fills in the crate's edits; those that can't be applied have failed."""
     crate.shared = shared_names(crate)
     folder = ROOT / "crates" / crate.name / FOLDER
-    files = sorted(it for it in folder.iterdir() if it.suffix != ".md") if folder.is_dir() else []
+    files = sorted(it for it in folder.rglob("*") if it != folder / WITHOUT and (it.is_symlink() or not it.is_dir()))
     if not files:
         crate.failed[f"{FOLDER}/"] = "there is no edit in it"
     for file in files:
+        name = file.relative_to(folder).as_posix()
         try:
-            if only in file.name:
-                crate.edits.append(read_edit(crate, file))
+            if only in name:
+                crate.edits.append(read_edit(crate, file, name))
         except (BadEdit, UnicodeDecodeError) as why:
-            crate.failed[file.name] = f"BAD EDIT: {why}"
+            crate.failed[name] = f"BAD EDIT: {why}"
     for path in [] if only else without_edits(crate):
         crate.failed[path] = "NO EDIT: a public function with a contract, and nothing shows that it refuses a wrong body"
 
@@ -318,7 +325,7 @@ def without_edits(crate):
         for edit in folder.glob("must-fail/*.edit"):
             olds = re.findall(r"^old: (.*)$", edit.read_text(), re.M) if f"file: {path}\n" in edit.read_text() else []
             changed.update(function_at(functions, text, text.index(it), it).path() for it in olds if it in text)
-    named = folder / FOLDER / "without.md"
+    named = folder / FOLDER / WITHOUT
     return promising - changed - set(re.findall(r"^- `([\w:]+)`: ", named.read_text() if named.is_file() else "", re.M))
 
 
