@@ -78,21 +78,69 @@ class Pieces(FolderTest):
         self.assertEqual([file.exists() for file in files], [False, False, True])
 
 
-@unittest.skipUnless(PYTHON, "there is no dask.distributed (apt-get install python3-distributed)")
-class Cluster(FolderTest):
-    """Two workers on this machine."""
+# Stands in for dask.distributed: one process, which does all as soon as it is asked, so that what the example does itself is tested
+# where there is no cluster.
+STAND_IN = """
+class LocalCluster:
+    def __init__(self, n_workers, threads_per_worker, dashboard_address):
+        assert (n_workers, threads_per_worker, dashboard_address) == (2, 1, None)
+
+    def __enter__(self):
+        return self
+
+    def __exit__(self, *error):
+        pass
+
+
+class Client(LocalCluster):
+    def __init__(self, place):
+        self.readings = []
+
+    def map(self, function, *lists, pure, **same):
+        assert not pure
+        self.readings = [Done(function(*words, **same)) for words in zip(*lists)]
+        return self.readings
+
+    def cancel(self, readings):
+        assert readings is self.readings
+
+
+class Done:
+    def __init__(self, answer):
+        self.answer = answer
+
+    def result(self):
+        return self.answer
+"""
+
+
+class InOneProcess(FolderTest):
+    """The example's own work."""
+
+    python = sys.executable
+
+    def setUp(self):
+        """Puts the stand-in where the example finds it."""
+        super().setUp()
+        (self.folder / "path/dask").mkdir(parents=True)
+        for name, text in (("__init__", ""), ("distributed", STAND_IN)):
+            self.put(f"path/dask/{name}.py", text.encode())
+
+    def environment(self):
+        """That of the commands."""
+        return {**os.environ, "PYTHONDONTWRITEBYTECODE": "1", "PYTHONPATH": str(self.folder / "path")}
 
     def ended(self, *words):
         """How a command ended: its status, its output, its line on standard error."""
-        environment = {**os.environ, "PYTHONDONTWRITEBYTECODE": "1"}
-        ended = subprocess.run(list(map(str, words)), cwd=self.folder, env=environment, capture_output=True, check=False)
+        words = list(map(str, words))
+        ended = subprocess.run(words, cwd=self.folder, env=self.environment(), input=b"mine", capture_output=True, check=False)
         return ended.returncode, ended.stdout, ended.stderr
 
     def same(self, logs, *options):
         """Reads logs in both ways. Answers how both ended."""
         wanted = self.ended(PROGRAM, "read", *options, *logs)
         index = self.put("logs.index", "".join(f"{log}\n" for log in logs).encode())
-        came = self.ended(PYTHON, READ, "--workers", 2, "--program", PROGRAM, index, "--", *options)
+        came = self.ended(self.python, READ, "--workers", 2, "--program", PROGRAM, index, "--", *options)
         self.assertEqual(came, wanted)
         return wanted
 
@@ -126,6 +174,30 @@ class Cluster(FolderTest):
         self.assertEqual((status, lines, said), (2, b"", b"binlogfeed: duplicate file binlog.000001\n"))
 
     def test_no_program(self):
-        came = self.ended(PYTHON, READ, "--program", "./nothing", SHOP[0].parent / "binlog.0*")
+        came = self.ended(self.python, READ, "--program", "./nothing", SHOP[0].parent / "binlog.0*")
         self.assertEqual(came, (70, b"", b"binlogfeed: the program can't be started: there is no ./nothing\n"))
 
+    def test_the_input_is_not_taken(self):
+        """What stands at the command's standard input isn't the program's."""
+        program = self.stub(f'cat >> {self.folder}/taken\nexec {PROGRAM} "$@"')
+        came = self.ended(self.python, READ, "--program", program, SHOP[0].parent / "binlog.0*")
+        self.assertEqual(came, self.ended(PROGRAM, "read", *SHOP))
+        self.assertEqual((self.folder / "taken").read_bytes(), b"")
+
+    def test_the_folder_for_pieces_is_left_empty(self):
+        parts = self.folder / "parts"
+        parts.mkdir()
+        came = self.ended(self.python, READ, "--program", PROGRAM, "--parts", parts, SHOP[0].parent / "binlog.0*")
+        self.assertEqual(came, self.ended(PROGRAM, "read", *SHOP))
+        self.assertEqual(list(parts.iterdir()), [])
+
+
+@unittest.skipUnless(PYTHON, "there is no dask.distributed (apt-get install python3-distributed)")
+class Cluster(InOneProcess):
+    """The same with two workers on this machine."""
+
+    python = PYTHON
+
+    def environment(self):
+        """That of the commands, with the libraries of this machine."""
+        return {**os.environ, "PYTHONDONTWRITEBYTECODE": "1"}

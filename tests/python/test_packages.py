@@ -295,6 +295,9 @@ class Debian(Package):
         self.assertIn("licence", (documents / "copyright").read_text(encoding="utf-8"))
         for name in ("README.md", "docs/USAGE.md", "docs/FORMAT.md", "examples/service/README.md"):
             self.assertEqual((documents / name).read_bytes(), (TOP / name).read_bytes())
+        # From there the README has the examples copied.
+        self.assertIn("`cp -r /usr/share/doc/binlogfeed/examples .`", README)
+        self.assertEqual(tree(documents / "examples"), tree(self.checkout / "examples"))
 
     def test_unit(self):
         """The unit names what the package brings, and apart from these paths it is that of examples/service."""
