@@ -1,6 +1,7 @@
 //! What the program does: reads binary logs of MySQL, and writes a line for each of their row changes or of their units.
 #![tactic(auto)]
 
+pub mod audience;
 mod change_line;
 mod commands;
 mod ending;
@@ -8,6 +9,7 @@ pub mod fault;
 mod feed_lines;
 mod follow;
 pub mod follow_fault;
+mod hints;
 pub mod history;
 mod key_words;
 mod lists;
