@@ -307,7 +307,7 @@ RUNS = (
         ["read", "logs/rotated", "logs/next"],
         1,
         "log fault at rotated:371: RotationMismatch",
-        "hint: the file before names another one as the next: give all files, in the order of the server's index\n"
+        "hint: the file names another one as the next than the list does: give all files, in the order of the server's index\n"
         "hint: the file is logs/rotated\n",
     ),
     Case(["read", "--follow"], 4, "cannot open missing", NO_FILE, b"log\n\nmissing\n\n"),

@@ -90,7 +90,7 @@ fn cause_in_log(what: What) -> &'static str {
             "the transaction took a part of itself back, and had changed a table without transactions (MyISAM): keep such tables out of it"
         }
         What::RotationMismatch => {
-            "the file before names another one as the next: give all files, in the order of the server's index"
+            "the file names another one as the next than the list does: give all files, in the order of the server's index"
         }
         What::TypeOutOfProfile(column_type) => cause_of_type(column_type),
         What::NoColumnNames => {
