@@ -1,5 +1,5 @@
 -- The program's lines on standard error, and its statuses.
-use Rattle.std.specs.Prelude.{◌≡◌, ℕ, List, [], ◌∷◌, ◌++◌, Ok, Err, String, string_bytes, codes}
+use Rattle.std.specs.Prelude.{◌≡◌, ℕ, List, [], ◌∷◌, ◌++◌, None, Ok, Err, String, string_bytes, codes}
 use Rattle.std.specs.declared.alloc.Global.{Global}
 use Rattle.binlog_frame.specs.declared.open_fault.OpenFault.TheVariants as opening
 use Rattle.binlog_feed.specs.declared.fault.OpenFeedFault.TheVariants as open_feed
@@ -57,7 +57,7 @@ OpenFaults =
 -- of words that aren't those of a command line, of a word that names no kind of change, and of a set whose element has no reading
 abbrev pub WordsTexts : Type 0
 WordsTexts =
-    (words_text words.CommandLine ≡ codes "binlogfeed: command line refused") × (words_text (words.Set 1) ≡ codes "binlogfeed: bad --auto-position: element 1")
+    (words_text (words.CommandLine None) ≡ codes "binlogfeed: command line refused") × (words_text (words.Set 1) ≡ codes "binlogfeed: bad --auto-position: element 1")
     × (words_text words.Token ≡ codes "binlogfeed: token refused: BadToken") × (words_text words.OutOfMemory ≡ codes "binlogfeed: out of memory")
     × (words_text words.Key ≡ codes "binlogfeed: bad --key")
     × ((word : String Global) → words_text (words.EventName word) ≡ codes "binlogfeed: bad --only-events: " ++ string_bytes word)
@@ -77,7 +77,7 @@ RunStatuses =
 
 abbrev pub WordsStatuses : Type 0
 WordsStatuses =
-    (words_status_of words.CommandLine ≡ 2) × (words_status_of (words.Set 0) ≡ 2) × ((word : String Global) → words_status_of (words.EventName word) ≡ 2)
+    (words_status_of (words.CommandLine None) ≡ 2) × (words_status_of (words.Set 0) ≡ 2) × ((word : String Global) → words_status_of (words.EventName word) ≡ 2)
     × (words_status_of words.Key ≡ 2) × (words_status_of words.Token ≡ 3) × (words_status_of words.OutOfMemory ≡ 5)
 
 abbrev pub OpenStatuses : Type 0

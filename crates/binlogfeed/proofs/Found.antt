@@ -61,7 +61,7 @@ options_refused rows (Set at) h = (rows, refl, h)
 options_refused rows OutOfMemory h = tt
 options_refused rows Token h = absurd h
 options_refused rows Key h = absurd h
-options_refused rows CommandLine h = absurd h
+options_refused rows (CommandLine said) h = absurd h
 options_refused rows (Help error) h = absurd h
 
 pub token_refused : (rows : List Row) (filter : Filter) (fault : WordsFault) → AnswersOptions rows (Ok filter) → IsTokenFault (token_text rows) fault
@@ -71,7 +71,7 @@ token_refused rows filter (Set at) k h = absurd h
 token_refused rows filter OutOfMemory k h = tt
 token_refused rows filter Token k h = (rows, refl, (filter, k), h)
 token_refused rows filter Key k h = absurd h
-token_refused rows filter CommandLine k h = absurd h
+token_refused rows filter (CommandLine said) k h = absurd h
 token_refused rows filter (Help error) k h = absurd h
 
 pub key_refused : (rows : List Row) (fault : WordsFault) → IsKeyFault (style_given rows) (value_given (codes "key") rows) fault → AnswersFound (Some (codes "history", rows)) (Err fault)
@@ -80,7 +80,7 @@ key_refused rows (Set at) h = absurd h
 key_refused rows OutOfMemory h = tt
 key_refused rows Token h = absurd h
 key_refused rows Key h = (rows, refl, h)
-key_refused rows CommandLine h = absurd h
+key_refused rows (CommandLine said) h = absurd h
 key_refused rows (Help error) h = absurd h
 
 -- ---- what is answered where a fault is found

@@ -53,7 +53,7 @@ unopened_is_status open_faults.OutOfMemory = inr (inr (inr (inr (inr refl))))
 -- whatever the words come to
 pub words_are_status : (fault : WordsFault) → IsStatus (words_status_of fault)
 words_are_status (Help error) = inl refl
-words_are_status CommandLine = inr (inr (inl refl))
+words_are_status (CommandLine said) = inr (inr (inl refl))
 words_are_status (EventName word) = inr (inr (inl refl))
 words_are_status (Set at) = inr (inr (inl refl))
 words_are_status words_faults.Token = inr (inr (inr (inl refl)))

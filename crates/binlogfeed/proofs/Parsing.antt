@@ -26,8 +26,8 @@ pub parse_refused : (faults : Kinds) (found : Option (Text × List Row)) (error 
     → HasKind faults error → IsFaultOf error fault → AnswersParse faults found (Err fault)
 parse_refused faults found error (Help shown) (inl memory) h = absurd (help_is_no_memory (kind_of error) h.1 memory)
 parse_refused faults found error (Help shown) (inr among) h = (subst (λ (k : ErrorKind). IsAmong k faults) h.1 among, ap kind_of h.0 ∙ h.1)
-parse_refused faults found error CommandLine (inl memory) h = absurd (h.1 memory)
-parse_refused faults found error CommandLine (inr among) h = inl (kind_of error, among, h.0)
+parse_refused faults found error (CommandLine said) (inl memory) h = absurd (h.2 memory)
+parse_refused faults found error (CommandLine said) (inr among) h = inl (kind_of error, among, h.1)
 parse_refused faults found error (EventName word) k h = absurd h
 parse_refused faults found error (Set at) k h = absurd h
 parse_refused faults found error Token k h = absurd h
@@ -38,7 +38,7 @@ pub parse_taken : (faults : Kinds) (found : Option (Text × List Row)) (result :
     → faults ≡ [] → AnswersFound found result → AnswersParse faults found result
 parse_taken faults found (Ok order) none h = (none, h)
 parse_taken faults found (Err (Help error)) none h = absurd h
-parse_taken faults found (Err CommandLine) none h = inr (none, h)
+parse_taken faults found (Err (CommandLine said)) none h = inr (none, h)
 parse_taken faults found (Err (EventName word)) none h = (none, h)
 parse_taken faults found (Err (Set at)) none h = (none, h)
 parse_taken faults found (Err Token) none h = (none, h)
@@ -49,7 +49,7 @@ parse_taken faults found (Err OutOfMemory) none h = tt
 pub parse_without_memory : (found : Option (Text × List Row)) (error : Error) (fault : WordsFault)
     → kind_of error ≡ kind.OutOfMemory → IsFaultOf error fault → AnswersFound found (Err fault)
 parse_without_memory found error (Help shown) memory h = absurd (help_is_no_memory (kind_of error) h.1 memory)
-parse_without_memory found error CommandLine memory h = absurd (h.1 memory)
+parse_without_memory found error (CommandLine said) memory h = absurd (h.2 memory)
 parse_without_memory found error (EventName word) memory h = absurd h
 parse_without_memory found error (Set at) memory h = absurd h
 parse_without_memory found error Token memory h = absurd h

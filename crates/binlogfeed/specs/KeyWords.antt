@@ -69,5 +69,5 @@ IsKeyFault style text OutOfMemory = Unit {0}
 IsKeyFault style text (EventName word) = ⊥
 IsKeyFault style text (Set at) = ⊥
 IsKeyFault style text Token = ⊥
-IsKeyFault style text CommandLine = ⊥
+IsKeyFault style text (CommandLine said) = ⊥
 IsKeyFault style text (Help error) = ⊥

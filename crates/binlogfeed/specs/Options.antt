@@ -65,7 +65,7 @@ IsEventFault given OutOfMemory = Unit {0}
 IsEventFault given (Set at) = ⊥
 IsEventFault given Token = ⊥
 IsEventFault given Key = ⊥
-IsEventFault given CommandLine = ⊥
+IsEventFault given (CommandLine said) = ⊥
 IsEventFault given (Help error) = ⊥
 
 -- why a set comes to nothing
@@ -75,7 +75,7 @@ IsSetFault given OutOfMemory = Unit {0}
 IsSetFault given (EventName word) = ⊥
 IsSetFault given Token = ⊥
 IsSetFault given Key = ⊥
-IsSetFault given CommandLine = ⊥
+IsSetFault given (CommandLine said) = ⊥
 IsSetFault given (Help error) = ⊥
 
 -- the event names have no fault
@@ -90,5 +90,5 @@ AnswersOptions rows (Err (Set at)) = HasKinds rows × IsSetFault (set_text rows)
 AnswersOptions rows (Err OutOfMemory) = Unit {0}
 AnswersOptions rows (Err Token) = ⊥
 AnswersOptions rows (Err Key) = ⊥
-AnswersOptions rows (Err CommandLine) = ⊥
+AnswersOptions rows (Err (CommandLine said)) = ⊥
 AnswersOptions rows (Err (Help error)) = ⊥

@@ -28,5 +28,5 @@ IsTokenFault given OutOfMemory = Unit {0}
 IsTokenFault given (EventName word) = ⊥
 IsTokenFault given (Set at) = ⊥
 IsTokenFault given Key = ⊥
-IsTokenFault given CommandLine = ⊥
+IsTokenFault given (CommandLine said) = ⊥
 IsTokenFault given (Help error) = ⊥

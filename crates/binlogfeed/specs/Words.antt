@@ -135,7 +135,7 @@ HasKeyFault found fault = (rows : List Row) × (found ≡ Some (codes "history",
 abbrev pub AnswersFound : Option (Text × List Row) → Result Order WordsFault → Type 0
 AnswersFound found (Ok order) = IsOrder order found
 AnswersFound found (Err (Help error)) = ⊥
-AnswersFound found (Err CommandLine) = NamesNone found ⊎ LacksFiles found
+AnswersFound found (Err (CommandLine said)) = NamesNone found ⊎ LacksFiles found
 AnswersFound found (Err (EventName word)) = HasOptionFault found (EventName word)
 AnswersFound found (Err (Set at)) = HasOptionFault found (Set at)
 AnswersFound found (Err Token) = HasTokenFault found Token
@@ -145,7 +145,7 @@ AnswersFound found (Err OutOfMemory) = Unit {0}
 -- what an error of the parser comes to
 abbrev pub IsFaultOf : Error → WordsFault → Type 0
 IsFaultOf given (Help error) = (error ≡ given) × (kind_of given ≡ kind.DisplayHelp)
-IsFaultOf given CommandLine = (kind_of given ≢ kind.DisplayHelp) × (kind_of given ≢ kind.OutOfMemory)
+IsFaultOf given (CommandLine said) = (said ≡ Some given) × (kind_of given ≢ kind.DisplayHelp) × (kind_of given ≢ kind.OutOfMemory)
 IsFaultOf given (EventName word) = ⊥
 IsFaultOf given (Set at) = ⊥
 IsFaultOf given Token = ⊥
@@ -160,7 +160,7 @@ HasMistake kinds = (mistake : ErrorKind) × IsAmong mistake kinds × (mistake �
 abbrev pub AnswersParse : Kinds → Option (Text × List Row) → Result Order WordsFault → Type 0
 AnswersParse faults found (Ok order) = (faults ≡ []) × IsOrder order found
 AnswersParse faults found (Err (Help error)) = IsAmong kind.DisplayHelp faults × (kind_of error ≡ kind.DisplayHelp)
-AnswersParse faults found (Err CommandLine) = HasMistake faults ⊎ ((faults ≡ []) × (NamesNone found ⊎ LacksFiles found))
+AnswersParse faults found (Err (CommandLine said)) = HasMistake faults ⊎ ((faults ≡ []) × (NamesNone found ⊎ LacksFiles found))
 AnswersParse faults found (Err (EventName word)) = (faults ≡ []) × HasOptionFault found (EventName word)
 AnswersParse faults found (Err (Set at)) = (faults ≡ []) × HasOptionFault found (Set at)
 AnswersParse faults found (Err Token) = (faults ≡ []) × HasTokenFault found Token
@@ -172,7 +172,7 @@ AnswersWords words = AnswersParse (fault_of program_app words) (subcommand_of pr
 
 abbrev pub words_status_of : WordsFault → ℕ
 words_status_of (Help error) = 0
-words_status_of CommandLine = 2
+words_status_of (CommandLine said) = 2
 words_status_of (EventName word) = 2
 words_status_of (Set at) = 2
 words_status_of Key = 2
@@ -182,7 +182,7 @@ words_status_of OutOfMemory = 5
 -- the line of a fault, without its line feed
 abbrev pub words_text : WordsFault → List ℕ
 words_text (Help error) = []
-words_text CommandLine = codes "binlogfeed: command line refused"
+words_text (CommandLine said) = codes "binlogfeed: command line refused"
 words_text (EventName word) = codes "binlogfeed: bad --only-events: " ++ string_bytes word
 words_text (Set at) = codes "binlogfeed: bad --auto-position: element " ++ decimal at
 words_text Token = codes "binlogfeed: token refused: BadToken"

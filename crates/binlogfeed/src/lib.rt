@@ -8,6 +8,7 @@ pub mod fault;
 mod feed_lines;
 mod follow;
 pub mod follow_fault;
+mod hints;
 pub mod history;
 mod key_words;
 mod lists;

@@ -55,7 +55,7 @@ fn refused(error: Error) -> WordsFault
     match error.kind() {
         ErrorKind::DisplayHelp => WordsFault::Help(error),
         ErrorKind::OutOfMemory => WordsFault::OutOfMemory,
-        _ => WordsFault::CommandLine,
+        _ => WordsFault::CommandLine(Some(error)),
     }
 }
 
@@ -79,7 +79,7 @@ fn order_of<'a>(alloc: Global, matches: &ArgMatches<'a>) -> Result<Order<'a>, Wo
     ensures { AnswersFound (subcommand_rows_of matches.now) result }
 {
     let Some((name, inner)) = matches.subcommand() else {
-        return Err(WordsFault::CommandLine);
+        return Err(WordsFault::CommandLine(None));
     };
     if name == "transactions" {
         transactions(alloc, inner)
@@ -88,7 +88,7 @@ fn order_of<'a>(alloc: Global, matches: &ArgMatches<'a>) -> Result<Order<'a>, Wo
     } else if name == "history" {
         history(alloc, inner)
     } else {
-        Err(WordsFault::CommandLine)
+        Err(WordsFault::CommandLine(None))
     }
 }
 
@@ -104,7 +104,7 @@ fn read<'a>(alloc: Global, matches: &ArgMatches<'a>) -> Result<Order<'a>, WordsF
 {
     let files = files(alloc, matches)?;
     if lacks_files(&files, matches) {
-        return Err(WordsFault::CommandLine);
+        return Err(WordsFault::CommandLine(None));
     }
     let filter = filter_given(alloc, matches)?;
     let start = start_given(alloc, text_given(matches, "from"))?;

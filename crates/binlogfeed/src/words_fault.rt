@@ -10,8 +10,8 @@ use std::alloc::{AllocError, AllocFailed};
 pub enum WordsFault {
     /// They ask for help, which this error holds.
     Help(Error),
-    /// They are no command line of the program.
-    CommandLine,
+    /// They are no command line of the program. The error is the parser's, where it is the parser that refuses them.
+    CommandLine(Option<Error>),
     /// This is the first word of `--only-events` that names no kind of change.
     EventName(String),
     /// The element of `--auto-position` with this number, from 0, is the first that can't be read.
@@ -50,7 +50,7 @@ pub fn words_status(fault: &WordsFault) -> u8
 {
     match fault {
         WordsFault::Help(_) => 0,
-        WordsFault::CommandLine | WordsFault::EventName(_) => 2,
+        WordsFault::CommandLine(_) | WordsFault::EventName(_) => 2,
         WordsFault::Set(_) | WordsFault::Key => 2,
         WordsFault::Token => 3,
         WordsFault::OutOfMemory => 5,
@@ -64,7 +64,7 @@ pub fn words_line(fault: &WordsFault, line: &mut String) -> Result<(), AllocErro
 {
     match fault {
         WordsFault::Help(_) => Ok(()),
-        WordsFault::CommandLine => line.push_str("binlogfeed: command line refused"),
+        WordsFault::CommandLine(_) => line.push_str("binlogfeed: command line refused"),
         WordsFault::EventName(word) => write!(line, "binlogfeed: bad --only-events: {word}"),
         WordsFault::Set(at) => write!(line, "binlogfeed: bad --auto-position: element {at}"),
         WordsFault::Token => line.push_str("binlogfeed: token refused: BadToken"),

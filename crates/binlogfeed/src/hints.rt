@@ -1,0 +1,26 @@
+//! Hints for the person at a terminal: what stands below the line on standard error, and only where standard error is a terminal.
+//!
+//! Programs read the line alone, so a hint says nothing that they need. No clause speaks of it. None of this is called where a run goes
+//! well: the loops of a run are compiled as if there were no hints.
+
+mod follow;
+mod opening;
+mod run;
+mod words;
+
+pub(crate) use follow::{hint_input, hint_look, hint_refusal};
+pub(crate) use opening::hint_unopened;
+pub(crate) use run::hint_run;
+use std::io::Eprint;
+pub(crate) use words::hint_words;
+
+/// Whether a person reads standard error.
+fn is_at_terminal() -> bool {
+    libc::isatty(libc::STDERR_FILENO) == 1
+}
+
+/// Writes a hint on standard error. Where it can't be written, there is none.
+fn give<R: Eprint>(rt: &R, hint: &str) {
+    let _ = rt.eprint("hint: ");
+    let _ = rt.eprintln(hint);
+}

@@ -1,0 +1,138 @@
+//! Hints where a run ends early: what the usual cause is, what to do, and where the file lies that the line names.
+use super::{give, is_at_terminal};
+use crate::fault::{RunFault, TokenRefusal};
+use binlog_feed::What;
+use std::io::Eprint;
+
+/// Says what a fault means, and the path of its file as it was given.
+#[cold]
+#[inline(never)]
+pub(crate) fn hint_run<R: Eprint>(rt: &R, fault: &RunFault, paths: &[&str]) {
+    if is_at_terminal() {
+        let path = match file_of(fault) {
+            Some(file) => paths.get(file).copied(),
+            None => None,
+        };
+        tell(rt, fault, path);
+    }
+}
+
+/// Says what a fault means, and the path of its file.
+pub(super) fn tell<R: Eprint>(rt: &R, fault: &RunFault, path: Option<&str>) {
+    give(rt, cause(fault));
+    if let Some(path) = path
+        && path.as_bytes().iter().any(|byte| *byte == b'/')
+    {
+        let _ = rt.eprint("hint: the file is ");
+        let _ = rt.eprintln(path);
+    }
+}
+
+/// The file that a fault's line names, by its number in the list.
+pub(super) fn file_of(fault: &RunFault) -> Option<usize> {
+    match fault {
+        RunFault::DuplicateFile(file) | RunFault::Read(file) => Some(*file),
+        RunFault::Log(fault) => Some(fault.file),
+        RunFault::Token(_) | RunFault::Write | RunFault::OutOfMemory => None,
+    }
+}
+
+/// What a fault mostly comes from, and what to do.
+fn cause(fault: &RunFault) -> &'static str {
+    match fault {
+        RunFault::DuplicateFile(_) => {
+            "a token names its file without the folder, so no two files of a list may have one name"
+        }
+        RunFault::Token(TokenRefusal::NoFile) => {
+            "the token's file isn't among the files: give it, or where it was purged take a new copy of the tables"
+        }
+        RunFault::Token(TokenRefusal::NoTransaction) => {
+            "the token is of another log with that name, or the server lost the log's end in a crash (sync_binlog isn't 1)"
+        }
+        RunFault::Token(TokenRefusal::NoChange) => "the token is of another log with that name",
+        RunFault::Log(fault) => cause_in_log(fault.what),
+        RunFault::Read(_) => {
+            "the device failed, or the file is one behind the 64th and was purged since the run began: go on from the last line's token"
+        }
+        RunFault::Write => {
+            "the disk is full, or who takes the lines has ended: go on from the token of the last line that was taken"
+        }
+        RunFault::OutOfMemory => {
+            "an event takes its length in memory: free some, and go on from the last line's token"
+        }
+    }
+}
+
+const DAMAGED: &str = "the file is damaged: copy it anew";
+
+const NOT_ONE_LOG: &str =
+    "the file is a relay log, or two logs in one, or a copy that was written on: give the server's binary logs, or copy them anew";
+
+const XA: &str = "XA transactions aren't read";
+
+/// What a fault of a log mostly comes from, and what to do.
+fn cause_in_log(what: What) -> &'static str {
+    match what {
+        What::BadMagic => {
+            "the file is no binary log, or an encrypted one: give the logs, or set binlog_encryption=OFF and begin with a new file"
+        }
+        What::NoFormat | What::BadFormat | What::ChecksumUnknown => {
+            "the log is damaged, or of another product: copy it anew"
+        }
+        What::BadLength => {
+            "the file is damaged (zeros after a full disk, say), or two logs in one: copy it anew"
+        }
+        What::EventAfterEnd => NOT_ONE_LOG,
+        What::KindOutOfProfile(kind) => cause_of_kind(kind),
+        What::Xa => XA,
+        What::RollbackTo => {
+            "the transaction took a part of itself back, and had changed a table without transactions (MyISAM): keep such tables out of it"
+        }
+        What::RotationMismatch => {
+            "the file names another one as the next than the list does: give all files, in the order of the server's index"
+        }
+        What::TypeOutOfProfile(column_type) => cause_of_type(column_type),
+        What::NoColumnNames => {
+            "the names of the columns aren't in the log: set binlog_row_metadata=FULL, and begin with a new file (FLUSH BINARY LOGS)"
+        }
+        What::SourceChanged => {
+            "the file was changed while it was read: go on from the last line's token"
+        }
+        What::BadBody | What::OutOfPlace(_) | What::BadMap | What::BadRows | What::UnmappedTable =>
+            DAMAGED,
+    }
+}
+
+/// What an event of a kind that isn't read comes from, and what to do.
+fn cause_of_kind(kind: u8) -> &'static str {
+    match kind {
+        15 => NOT_ONE_LOG,
+        23..=25 => {
+            "these are rows as before MySQL 5.6: set log_bin_use_v1_row_events=OFF, and begin with a new file (FLUSH BINARY LOGS)"
+        }
+        26 => {
+            "the server itself says here that changes are missing in its log: take a new copy of the tables"
+        }
+        38 => XA,
+        39 => {
+            "a part of a JSON value was changed: empty binlog_row_value_options, and begin with a new file (FLUSH BINARY LOGS)"
+        }
+        40 => {
+            "the transaction is compressed: set binlog_transaction_compression=OFF, and begin with a new file (FLUSH BINARY LOGS)"
+        }
+        42 => "GTIDs with tags, as MySQL 8.3 and later write them, aren't read",
+        160..=255 => "this is a log of MariaDB, and only those of MySQL are read",
+        _ => "events of this kind aren't read",
+    }
+}
+
+/// What a column of a type that isn't read comes from, and what to do.
+fn cause_of_type(column_type: u8) -> &'static str {
+    match column_type {
+        7 | 11 | 12 => {
+            "a date or a time of a table that was made before MySQL 5.6.4 isn't read: ALTER TABLE .. FORCE makes the column new"
+        }
+        242 => "VECTOR columns aren't read",
+        _ => "columns of this type aren't read",
+    }
+}
