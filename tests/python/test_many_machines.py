@@ -28,13 +28,22 @@ PYTHON = python_with_distributed()
 
 
 class Words(unittest.TestCase):
-    """Words that are refused before any worker is looked for. Its libraries may be missing."""
+    """Words that are judged before any worker is looked for. Its libraries may be missing."""
 
     def test_a_token_is_refused(self):
         for words in (("--from", "4.1@binlog.000001"), ("--from=4.1@binlog.000001",)):
             ended = subprocess.run([PYTHON or sys.executable, READ, "logs", "--", *words], capture_output=True, check=False)
             self.assertEqual((ended.returncode, ended.stdout), (2, b""))
             self.assertIn(b"--from isn't taken", ended.stderr)
+
+    def test_the_program_of_other_machines(self):
+        """Its path is that of the workers' machines. On this one it may be missing."""
+        read = example()
+        self.assertEqual(read.absolute("./nothing", is_local=False), str(Path("nothing").absolute()))
+        self.assertEqual(read.absolute("nothing-on-path", is_local=False), "nothing-on-path")
+        self.assertEqual(read.absolute("sh", is_local=False), read.absolute("sh", is_local=True))
+        with self.assertRaises(read.ProgramMissing):
+            read.absolute("nothing-on-path", is_local=True)
 
 
 def example():

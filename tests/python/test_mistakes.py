@@ -1,12 +1,17 @@
 """Mistakes that somebody made in the package on purpose, and that no other test saw. Each test here refuses one of them."""
 import fcntl
 import os
+import struct
 import threading
 import time
+import tracemalloc
+import unittest
 from unittest import mock
 
 from binlogfeed import BinLogStreamReader, ConversionFailed, LogFault, LogLost, LogsGone, OutOfMemory, Place, XidEvent
+from binlogfeed import json_binary
 from binlogfeed import watch as watching
+from binlogfeed.logs import beginning
 from binlogfeed.watch import Watch
 from built import logs
 from support import PROGRAM, SECONDS, SHOP, FolderTest
@@ -168,3 +173,47 @@ class Looks(ReaderTest):
             self.assertEqual(list(watch.look()), [])
         self.assertFalse(self.runs())
         self.assertLess(time.monotonic() - started, SECONDS / 2)
+
+    def test_a_first_event_that_says_it_is_long(self):
+        """As much isn't read of a log that is damaged there: no server's first event has so many bytes."""
+        front = bytearray(logs.front()[:23])
+        front[13:17] = (64 << 20).to_bytes(4, "little")
+        path = self.put("binlog.000001", bytes(front))
+        os.truncate(path, 128 << 20)
+        tracemalloc.start()
+        try:
+            self.assertIsNone(beginning(path))
+            peak = tracemalloc.get_traced_memory()[1]
+        finally:
+            tracemalloc.stop()
+        self.assertLess(peak, 1_000_000)
+
+
+def array(kind, inner, count=1):
+    """The bytes of a small JSON array whose elements are all one value of a type, which stands behind its entries."""
+    begin = 4 + 3 * count
+    return struct.pack("<HH", count, begin + len(inner)) + struct.pack("<BH", kind, begin) * count + inner
+
+
+class Json(unittest.TestCase):
+    """Documents at the bounds of what MySQL accepts."""
+
+    def test_the_deepest(self):
+        """A hundred arrays, the innermost with a text. One more is too many."""
+        raw = array(json_binary.STRING, b"\x01x")
+        for _ in range(99):
+            raw = array(json_binary.SMALL_ARRAY, raw)
+        found = json_binary.from_raw(b"\x02" + raw)
+        for _ in range(100):
+            (found,) = found
+        self.assertEqual(found, "x")
+        with self.assertRaises(ValueError):
+            json_binary.from_raw(b"\x02" + array(json_binary.SMALL_ARRAY, raw))
+
+    def test_elements_that_share_their_bytes(self):
+        """They would stand for ever more values: here 60 times 60 times 60 of them in 555 bytes."""
+        raw = array(json_binary.SMALL_ARRAY, bytes.fromhex("00000400"), 60)
+        for _ in range(2):
+            raw = array(json_binary.SMALL_ARRAY, raw, 60)
+        with self.assertRaises(ValueError):
+            json_binary.from_raw(b"\x02" + raw)
