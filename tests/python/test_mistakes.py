@@ -174,6 +174,10 @@ class Looks(ReaderTest):
         self.assertFalse(self.runs())
         self.assertLess(time.monotonic() - started, SECONDS / 2)
 
+    def test_a_place_within_a_log(self):
+        """It still says which log that is."""
+        self.assertEqual(Place("f", "digest", "4.1@f").behind("9.1@f", []), Place("f", "digest", "9.1@f"))
+
     def test_a_first_event_that_says_it_is_long(self):
         """As much isn't read of a log that is damaged there: no server's first event has so many bytes."""
         front = bytearray(logs.front()[:23])
