@@ -586,6 +586,16 @@ class CommandLine(ServerTest):
         with self.run_follow("--once", place, stdout=subprocess.PIPE) as process:
             self.assertEqual(process.communicate(), (b"", b""))
 
+    def test_a_program_that_is_killed(self):
+        """The status is that which a shell has for it. The lines before it stand."""
+        self.index("binlog.000001")
+        self.log("binlog.000001", log(1))
+        first = line(1, 153, "binlog.000001")
+        killed = self.stub(f"read line\ncat <<'END'\n{first.decode()}END\nkill -9 $$")
+        with self.run_follow("--once", "--program", killed, str(self.data), stdout=subprocess.PIPE) as process:
+            self.assertEqual(process.communicate(), (first, b"binlogfeed: the program ended with status -9\n"))
+        self.assertEqual((process.returncode, read_state(self.state).token), (128 + 9, "153.1@binlog.000001"))
+
     def test_lines_are_out_at_once(self):
         """None waits in a buffer for the end of a look."""
         self.index("binlog.000001")

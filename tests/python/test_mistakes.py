@@ -11,7 +11,8 @@ from unittest import mock
 from binlogfeed import BinLogStreamReader, ConversionFailed, LogFault, LogLost, LogsGone, OutOfMemory, Place, XidEvent
 from binlogfeed import json_binary
 from binlogfeed import watch as watching
-from binlogfeed.logs import beginning
+from binlogfeed.follow import read_state
+from binlogfeed.logs import beginning, listed
 from binlogfeed.watch import Watch
 from built import logs
 from support import PROGRAM, SECONDS, SHOP, FolderTest
@@ -177,6 +178,17 @@ class Looks(ReaderTest):
     def test_a_place_within_a_log(self):
         """It still says which log that is."""
         self.assertEqual(Place("f", "digest", "4.1@f").behind("9.1@f", []), Place("f", "digest", "9.1@f"))
+
+    def test_a_kept_place_that_cannot_be_read(self):
+        """It is none at the beginning of all logs."""
+        with self.assertRaises(IsADirectoryError):
+            read_state(self.folder)
+        self.assertEqual(read_state(self.folder / "missing"), Place())
+
+    def test_an_index_whose_names_are_not_utf_8(self):
+        """They are told as Python tells such names."""
+        index = self.put("binlog.index", b"./caf\xe9.000001\n")
+        self.assertEqual([os.fsencode(path.name) for path in listed(index)], [b"caf\xe9.000001"])
 
     def test_a_first_event_that_says_it_is_long(self):
         """As much isn't read of a log that is damaged there: no server's first event has so many bytes."""
