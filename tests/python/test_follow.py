@@ -475,6 +475,18 @@ class States(ServerTest):
         self.assertFalse(self.state.exists())
         self.assertEqual(len(self.followed().splitlines()), 2)
 
+    def test_an_output_that_takes_a_part(self):
+        """Of what is written, a pipe or a full disk may take some bytes alone. The rest is written then."""
+
+        class Taking(io.BytesIO):
+            """An output that takes seven bytes at most."""
+
+            def write(self, block):
+                """Takes some."""
+                return super().write(bytes(block[:7]))
+
+        self.assertEqual(self.followed(Taking()), line(1, 153, "binlog.000001") + line(2, 371, "binlog.000001"))
+
     def test_by_hand(self):
         self.state.write_text('{"token": "153.1@binlog.000001"}')
         self.assertEqual(self.followed(), line(2, 371, "binlog.000001"))
@@ -573,6 +585,27 @@ class CommandLine(ServerTest):
         self.assertEqual(process.returncode, 0)
         with self.run_follow("--once", place, stdout=subprocess.PIPE) as process:
             self.assertEqual(process.communicate(), (b"", b""))
+
+    def test_a_program_that_is_killed(self):
+        """The status is that which a shell has for it. The lines before it stand."""
+        self.index("binlog.000001")
+        self.log("binlog.000001", log(1))
+        first = line(1, 153, "binlog.000001")
+        killed = self.stub(f"read line\ncat <<'END'\n{first.decode()}END\nkill -9 $$")
+        with self.run_follow("--once", "--program", killed, str(self.data), stdout=subprocess.PIPE) as process:
+            self.assertEqual(process.communicate(), (first, b"binlogfeed: the program ended with status -9\n"))
+        self.assertEqual((process.returncode, read_state(self.state).token), (128 + 9, "153.1@binlog.000001"))
+
+    def test_lines_are_out_at_once(self):
+        """None waits in a buffer for the end of a look."""
+        self.index("binlog.000001")
+        self.log("binlog.000001", log(1))
+        first = line(1, 153, "binlog.000001")
+        slow = self.stub(f"read line\ncat <<'END'\n{first.decode()}END\nexec sleep {SECONDS}")
+        command = [sys.executable, "-m", "binlogfeed", "follow", "--program", slow, "--state", str(self.state), str(self.data)]
+        with running(command, env=ENVIRONMENT, stdout=subprocess.PIPE, start_new_session=True) as process:
+            self.assertEqual(process.stdout.readline(), first)
+            os.killpg(process.pid, signal.SIGKILL)
 
     def test_gone(self):
         self.index("binlog.000002")
@@ -692,7 +725,9 @@ class CommandLine(ServerTest):
     def test_sigint(self):
         self.index("binlog.000001")
         self.log("binlog.000001", log(1))
-        with self.run_follow("--interval", "60", str(self.data), stdout=subprocess.PIPE) as process:
+        # Where these tests run in the background of a shell, SIGINT is ignored, and the command would take that over.
+        heeded = {"preexec_fn": lambda: signal.signal(signal.SIGINT, signal.SIG_DFL)}
+        with self.run_follow("--interval", "60", str(self.data), stdout=subprocess.PIPE, **heeded) as process:
             process.stdout.readline()
             process.send_signal(signal.SIGINT)
             self.assertEqual(process.communicate(timeout=SECONDS), (b"", b""))

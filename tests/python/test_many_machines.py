@@ -28,13 +28,22 @@ PYTHON = python_with_distributed()
 
 
 class Words(unittest.TestCase):
-    """Words that are refused before any worker is looked for. Its libraries may be missing."""
+    """Words that are judged before any worker is looked for. Its libraries may be missing."""
 
     def test_a_token_is_refused(self):
         for words in (("--from", "4.1@binlog.000001"), ("--from=4.1@binlog.000001",)):
             ended = subprocess.run([PYTHON or sys.executable, READ, "logs", "--", *words], capture_output=True, check=False)
             self.assertEqual((ended.returncode, ended.stdout), (2, b""))
             self.assertIn(b"--from isn't taken", ended.stderr)
+
+    def test_the_program_of_other_machines(self):
+        """Its path is that of the workers' machines. On this one it may be missing."""
+        read = example()
+        self.assertEqual(read.absolute("./nothing", is_local=False), str(Path("nothing").absolute()))
+        self.assertEqual(read.absolute("nothing-on-path", is_local=False), "nothing-on-path")
+        self.assertEqual(read.absolute("sh", is_local=False), read.absolute("sh", is_local=True))
+        with self.assertRaises(read.ProgramMissing):
+            read.absolute("nothing-on-path", is_local=True)
 
 
 def example():
@@ -81,6 +90,9 @@ class Pieces(FolderTest):
 # Stands in for dask.distributed: one process, which does all as soon as it is asked, so that what the example does itself is tested
 # where there is no cluster.
 STAND_IN = """
+import os
+
+
 class LocalCluster:
     def __init__(self, n_workers, threads_per_worker, dashboard_address):
         assert (n_workers, threads_per_worker, dashboard_address) == (2, 1, None)
@@ -95,6 +107,9 @@ class LocalCluster:
 class Client(LocalCluster):
     def __init__(self, place):
         self.readings = []
+        if isinstance(place, str):
+            # The machines of a cluster have a program that this one has not.
+            os.environ["PATH"] = f"{place}:{os.environ['PATH']}"
 
     def map(self, function, *lists, pure, **same):
         assert not pure
@@ -169,6 +184,22 @@ class InOneProcess(FolderTest):
         status, _, said = self.same([*logs[:1], *logs[3:]])
         self.assertIn(b"RotationMismatch", said)
 
+    def test_a_cluster(self):
+        """Its machines have the program, and this one needn't. A folder is named that all share."""
+        there, parts = self.folder / "there", self.folder / "parts"
+        for folder in (there, parts):
+            folder.mkdir()
+        os.link(self.stub(f'exec {PROGRAM} "$@"'), there / "theirs")
+        words = ["--scheduler", there, "--program", "theirs", SHOP[0].parent / "binlog.0*"]
+        self.assertEqual(self.ended(self.python, READ, *words, "--parts", parts), self.ended(PROGRAM, "read", *SHOP))
+        status, lines, said = self.ended(self.python, READ, *words)
+        self.assertEqual((status, lines), (2, b""))
+        self.assertIn(b"--scheduler wants --parts", said)
+
+    def test_no_logs(self):
+        for logs in (self.put("binlog.index", b""), f"{self.folder}/binlog.0*"):
+            self.assertEqual(self.ended(self.python, READ, "--program", PROGRAM, logs), (0, b"", b""))
+
     def test_equal_names(self):
         status, lines, said = self.same([SHOP[0], BANK[1], BANK[0]])
         self.assertEqual((status, lines, said), (2, b"", b"binlogfeed: duplicate file binlog.000001\n"))
@@ -197,6 +228,8 @@ class Cluster(InOneProcess):
     """The same with two workers on this machine."""
 
     python = PYTHON
+    # It would need other machines.
+    test_a_cluster = None
 
     def environment(self):
         """That of the commands, with the libraries of this machine."""

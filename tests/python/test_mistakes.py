@@ -1,10 +1,21 @@
 """Mistakes that somebody made in the package on purpose, and that no other test saw. Each test here refuses one of them."""
+import fcntl
 import os
+import struct
 import threading
 import time
+import tracemalloc
+import unittest
+from unittest import mock
 
-from binlogfeed import BinLogStreamReader, ConversionFailed, LogFault, LogLost, XidEvent
-from support import SECONDS, FolderTest
+from binlogfeed import BinLogStreamReader, ConversionFailed, LogFault, LogLost, LogsGone, OutOfMemory, Place, XidEvent
+from binlogfeed import json_binary
+from binlogfeed import watch as watching
+from binlogfeed.follow import read_state
+from binlogfeed.logs import beginning, listed
+from binlogfeed.watch import Watch
+from built import logs
+from support import PROGRAM, SECONDS, SHOP, FolderTest
 
 # A line of `read --full`, but for its token.
 LINE = (
@@ -85,3 +96,140 @@ class Errors(ReaderTest):
         with self.assertRaises(LogLost) as caught:
             list(self.reader(script))
         self.assertEqual((caught.exception.line, caught.exception.file), ("binlogfeed: file shorter: f", "f"))
+
+    def test_what_is_not_utf_8_on_standard_error(self):
+        """A wrapper may say something in another character set. The error stays one."""
+        with self.assertRaises(OutOfMemory) as caught:
+            list(self.reader("printf 'caf\\351\\n' >&2\necho 'binlogfeed: out of memory' >&2\nexit 5"))
+        self.assertEqual(caught.exception.line, "binlogfeed: out of memory")
+
+
+class Rows(ReaderTest):
+    """Rows that stand together."""
+
+    def test_rows_of_two_times_stand_apart(self):
+        """Statements of one transaction may have run at different times, and an event has one."""
+        times = (1, 1, 2)
+        lines = (LINE.replace('"timestamp":1', f'"timestamp":{at}') % f"9.{nr}@f" for nr, at in enumerate(times, 1))
+        events = self.reader("".join(f"echo '{line}'\n" for line in lines))
+        self.assertEqual([(event.timestamp, len(event.rows), event.token) for event in events], [(1, 2, "9.2@f"), (2, 1, "9.3@f")])
+
+    def test_an_event_has_a_thousand_rows_at_most(self):
+        """A transaction of any size is read in little memory."""
+        lines = self.put("lines", "".join(f"{LINE % f'9.{nr}@f'}\n" for nr in range(1, 2501)).encode())
+        events = self.reader(f"cat {lines}")
+        self.assertEqual([(len(event.rows), event.token) for event in events], [(1000, "9.1000@f"), (1000, "9.2000@f"), (500, "9.2500@f")])
+
+    def test_a_pipe_that_stays_small(self):
+        """The system may refuse a larger one, or know none."""
+        wanted = [event.token for event in BinLogStreamReader(SHOP, program=PROGRAM)]
+        self.assertEqual(len(wanted), 13)
+        with mock.patch.object(fcntl, "fcntl", side_effect=PermissionError):
+            self.assertEqual([event.token for event in BinLogStreamReader(SHOP, program=PROGRAM)], wanted)
+        if hasattr(fcntl, "F_SETPIPE_SZ"):
+            self.addCleanup(setattr, fcntl, "F_SETPIPE_SZ", fcntl.F_SETPIPE_SZ)
+            del fcntl.F_SETPIPE_SZ
+        self.assertEqual([event.token for event in BinLogStreamReader(SHOP, program=PROGRAM)], wanted)
+
+
+class Looks(ReaderTest):
+    """Logs that are watched."""
+
+    def watch(self, program):
+        """A watch of the folder's logs."""
+        watch = Watch(f"{self.folder}/binlog.0*", [program, "read", "--follow"], Place())
+        self.addCleanup(watch.end)
+        self.in_time(watch.end)
+        return watch
+
+    def test_a_log_that_is_put_in_the_place_of_another(self):
+        """It is as long as the one before it, and as old, as a copy may be."""
+        path = self.put("binlog.000001", logs.worked_log())
+        watch, found = self.watch(PROGRAM), path.stat()
+        self.assertEqual(b"".join(watch.look()), logs.change_lines(1, path.name))
+        new = bytearray(logs.worked_log())
+        new[4:8] = (logs.TIME + 1).to_bytes(4, "little")
+        other = self.put("new", bytes(new))
+        os.utime(other, ns=(found.st_atime_ns, found.st_mtime_ns))
+        os.replace(other, path)
+        self.assertEqual((path.stat().st_size, path.stat().st_mtime_ns), (found.st_size, found.st_mtime_ns))
+        with self.assertRaises(LogsGone):
+            list(watch.look())
+
+    def test_ended_while_the_program_starts(self):
+        """Another thread ends the watch, and sees no run yet."""
+        self.put("binlog.000001", logs.worked_log())
+        watch = self.watch(self.stub(f"echo $$ > {self.folder}/process\nexec sleep {SECONDS}"))
+        begin = watching.LookingRun
+
+        def late(command):
+            run = begin(command)
+            while not ((self.folder / "process").exists() and (self.folder / "process").read_text().endswith("\n")):
+                time.sleep(0.01)
+            watch.end()
+            return run
+
+        started = time.monotonic()
+        with mock.patch.object(watching, "LookingRun", late):
+            self.assertEqual(list(watch.look()), [])
+        self.assertFalse(self.runs())
+        self.assertLess(time.monotonic() - started, SECONDS / 2)
+
+    def test_a_place_within_a_log(self):
+        """It still says which log that is."""
+        self.assertEqual(Place("f", "digest", "4.1@f").behind("9.1@f", []), Place("f", "digest", "9.1@f"))
+
+    def test_a_kept_place_that_cannot_be_read(self):
+        """It is none at the beginning of all logs."""
+        with self.assertRaises(IsADirectoryError):
+            read_state(self.folder)
+        self.assertEqual(read_state(self.folder / "missing"), Place())
+
+    def test_an_index_whose_names_are_not_utf_8(self):
+        """They are told as Python tells such names."""
+        index = self.put("binlog.index", b"./caf\xe9.000001\n")
+        self.assertEqual([os.fsencode(path.name) for path in listed(index)], [b"caf\xe9.000001"])
+
+    def test_a_first_event_that_says_it_is_long(self):
+        """As much isn't read of a log that is damaged there: no server's first event has so many bytes."""
+        front = bytearray(logs.front()[:23])
+        front[13:17] = (64 << 20).to_bytes(4, "little")
+        path = self.put("binlog.000001", bytes(front))
+        os.truncate(path, 128 << 20)
+        tracemalloc.start()
+        try:
+            self.assertIsNone(beginning(path))
+            peak = tracemalloc.get_traced_memory()[1]
+        finally:
+            tracemalloc.stop()
+        self.assertLess(peak, 1_000_000)
+
+
+def array(kind, inner, count=1):
+    """The bytes of a small JSON array whose elements are all one value of a type, which stands behind its entries."""
+    begin = 4 + 3 * count
+    return struct.pack("<HH", count, begin + len(inner)) + struct.pack("<BH", kind, begin) * count + inner
+
+
+class Json(unittest.TestCase):
+    """Documents at the bounds of what MySQL accepts."""
+
+    def test_the_deepest(self):
+        """A hundred arrays, the innermost with a text. One more is too many."""
+        raw = array(json_binary.STRING, b"\x01x")
+        for _ in range(99):
+            raw = array(json_binary.SMALL_ARRAY, raw)
+        found = json_binary.from_raw(b"\x02" + raw)
+        for _ in range(100):
+            (found,) = found
+        self.assertEqual(found, "x")
+        with self.assertRaises(ValueError):
+            json_binary.from_raw(b"\x02" + array(json_binary.SMALL_ARRAY, raw))
+
+    def test_elements_that_share_their_bytes(self):
+        """They would stand for ever more values: here 60 times 60 times 60 of them in 555 bytes."""
+        raw = array(json_binary.SMALL_ARRAY, bytes.fromhex("00000400"), 60)
+        for _ in range(2):
+            raw = array(json_binary.SMALL_ARRAY, raw, 60)
+        with self.assertRaises(ValueError):
+            json_binary.from_raw(b"\x02" + raw)
