@@ -10,9 +10,9 @@ from types import TracebackType
 from typing import Any, Optional, Union
 
 from binlogfeed.arguments import asked_events, refuse_others, words
-from binlogfeed.events import ROWS_EVENTS, Event, GtidEvent, RotateEvent, RowsEvent, Transaction, XidEvent
+from binlogfeed.events import ROWS_EVENTS, Event, GtidEvent, RotateEvent, RowsEvent, Transaction, XidEvent, event_of
 from binlogfeed.faults import BinlogfeedError, LogFault, TokenRefused, WordsRefused
-from binlogfeed.lines import Change, reader_of_lines
+from binlogfeed.lines import Parts, reader_of_lines
 from binlogfeed.logs import is_place_of_logs
 from binlogfeed.place import Place
 from binlogfeed.program import Run
@@ -91,8 +91,8 @@ class BinLogStreamReader:
         self._interval = interval
         self._taken_apart = reader_of_lines(Style(raw_values, naive_timestamps, on_bad_value), dict(convert or {}))
         self._run: Union[Run, Watch, None] = None
-        # None stands for the end of the logs as they are by now.
-        self._events: Optional[Iterator[Optional[Event]]] = None
+        self._steps = self._read()
+        self._events = (event for event in self._steps if event is not None)
         self._closed = False
         self._closing = threading.Event()
         self._at_end = False
@@ -113,36 +113,11 @@ class BinLogStreamReader:
 
     def __iter__(self) -> Iterator[Event]:
         """The events, from the first that wasn't given yet."""
-        return self
+        return self._events
 
     def __next__(self) -> Event:
         """The next event."""
-        while True:
-            event = self._step()
-            if event is not None:
-                return event
-
-    def _step(self) -> Event | None:
-        """The next event, or None at the end of the logs as they are by now, where the reader waits for more."""
-        if self._closed:
-            raise StopIteration
-        if self._events is None:
-            self._events = self._begun()
-            if self._closed and self._run:  # by another thread, which saw no run yet
-                self._run.end()
-        try:
-            event = next(self._events)
-        except StopIteration:
-            self._at_end = not self._closed
-            self.close()
-            raise
-        except BaseException:
-            # Who goes on after an error would miss an event.
-            self.close()
-            raise
-        if event is not None:
-            self._token = event.token
-        return event
+        return next(self._events)
 
     def fetchone(self) -> Event | None:
         """The next event, or None behind the last."""
@@ -155,7 +130,7 @@ class BinLogStreamReader:
         """
         events: list[RowsEvent] = []
         try:
-            for event in self._steps():
+            for event in self._steps:
                 if events and (event is None or not are_of_one_transaction(events[0].token, event.token)):
                     yield Transaction(events)
                     events = []
@@ -183,13 +158,24 @@ class BinLogStreamReader:
         """Closes the reader."""
         self.close()
 
-    def _steps(self) -> Iterator[Optional[Event]]:
-        """Each event, and None at each end of the logs."""
-        while True:
-            try:
-                yield self._step()
-            except StopIteration:
+    def _read(self) -> Iterator[Optional[Event]]:
+        """Reads the logs: each event, and None at each end of the logs as they are by then, where the reader waits for more."""
+        try:
+            if self._closed:
                 return
+            events = self._begun()
+            if self._closed and self._run is not None:  # by another thread, which saw no run yet
+                self._run.end()
+            for event in events:
+                if event is not None:
+                    self._token = event.token
+                yield event
+                if self._closed:
+                    return
+            self._at_end = not self._closed
+        finally:
+            # Who went on after an error would miss an event.
+            self.close()
 
     def _begun(self) -> Iterator[Optional[Event]]:
         """Begins to read. The events, and None at each end of the logs."""
@@ -223,7 +209,7 @@ class BinLogStreamReader:
                 warnings.warn(f"binlogfeed: no log matches {self._files} yet", stacklevel=6)
             self._closing.wait(self._interval)
 
-    def _changes(self, blocks: Iterator[Optional[bytes]]) -> Iterator[Optional[Change]]:
+    def _changes(self, blocks: Iterator[Optional[bytes]]) -> Iterator[Optional[Parts]]:
         """The changes of lines, but for those outside of the places and times that are asked for."""
         taken_apart, skip_to, end = self._taken_apart, self._skip_to, self._end
         for block in blocks:
@@ -232,18 +218,21 @@ class BinLogStreamReader:
                 continue
             for line in block.split(b"\n")[:-1]:
                 change = taken_apart(line)
-                if end is not None and token_parts(change.token).position >= end:
-                    self.is_past_end_log_pos = True
-                    return
-                if skip_to is None or change.timestamp >= skip_to:
-                    yield change
+                if end is not None or skip_to is not None:
+                    *_, timestamp, _, token = change
+                    if end is not None and token_parts(token).position >= end:
+                        self.is_past_end_log_pos = True
+                        return
+                    if skip_to is not None and timestamp < skip_to:
+                        continue
+                yield change
 
-    def _one_by_one(self, changes: Iterator[Optional[Change]]) -> Iterator[Optional[RowsEvent]]:
+    def _one_by_one(self, changes: Iterator[Optional[Parts]]) -> Iterator[Optional[RowsEvent]]:
         """An event for each change."""
         for change in changes:
-            yield None if change is None else ROWS_EVENTS[change.form.kind](change)
+            yield None if change is None else event_of(change)
 
-    def _joined(self, changes: Iterator[Optional[Change]]) -> Iterator[Optional[RowsEvent]]:
+    def _joined(self, changes: Iterator[Optional[Parts]]) -> Iterator[Optional[RowsEvent]]:
         """An event for changes that stand together."""
         event: Optional[RowsEvent] = None
         try:
@@ -252,7 +241,7 @@ class BinLogStreamReader:
                     if change is not None and event.takes(change):
                         continue
                     yield event
-                event = None if change is None else ROWS_EVENTS[change.form.kind](change)
+                event = None if change is None else event_of(change)
                 if event is None:
                     yield None
         except BinlogfeedError:
