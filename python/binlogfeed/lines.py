@@ -8,14 +8,24 @@ from typing import Any, NamedTuple, Optional
 from binlogfeed.faults import ConversionFailed, ProgramFailed
 from binlogfeed.values import Column, Convert, Reading, Style, plain, reading_of
 
-Image = Optional[dict[str, Any]]
+# It takes a line apart somewhat faster.
+loads: Optional[Callable[[bytes], Any]]
+try:
+    from orjson import loads
+except ImportError:
+    loads = None
 # The C function by which `json` itself reads a text: it answers the value that begins at a place, and the place behind it.
 value_at = json.JSONDecoder().scan_once
-# How long that is which stands before a line's values. What stands from `key` to `table` is said alike by many lines.
-TO_AFTER, TO_BEFORE, TO_GTID = len('{"after":'), len(',"before":'), len(',"gtid":')
-TIMESTAMP, TO_TOKEN = ',"timestamp":', len(',"token":')
+
+Image = Optional[dict[str, Any]]
+# How long that is which stands before a line's first values.
+TO_AFTER, TO_BEFORE, TO_GTID, TO_TOKEN = map(len, ('{"after":', ',"before":', ',"gtid":', ',"token":'))
+# What stands before a line's key, and behind its table. In a text of JSON a bare quote ends the text, and nothing but the key is an
+# array. So these stand there for the last time.
+KEY, TIMESTAMP = ',"key":[', ',"timestamp":'
+KEY_BYTES, TIMESTAMP_BYTES = KEY.encode(), TIMESTAMP.encode()
 # Bytes stand so, and texts that the program doesn't read.
-BYTES = '{"base64":'
+BYTES = b'{"base64":'
 # So many forms are known at once. Tables that are altered again and again have ever new ones.
 MOST_FORMS = 10_000
 
@@ -35,8 +45,8 @@ class Form:
 
     def __init__(self, said: str, style: Style, convert: Mapping[str, Convert]) -> None:
         """The form of a part of a line. `convert` has the caller's own conversions."""
-        if not said.startswith(',"key":['):
-            raise ProgramFailed("binlogfeed: the program gives no full lines")
+        if not said.startswith(KEY):
+            raise not_full()
         members = json.loads(f"{{{said[1:]}}}")
         self.kind: str = members["kind"]
         self.schema: str = members["schema"]
@@ -96,35 +106,46 @@ def reader_of_lines(style: Style, convert: Mapping[str, Convert]) -> Callable[[b
 
     def taken_apart(line: bytes) -> Parts:
         """The parts of a line's change."""
-        text = line.decode()
         try:
-            after, at = value_at(text, TO_AFTER)
-            before, at = value_at(text, at + TO_BEFORE)
-            gtid, at = value_at(text, at + TO_GTID)
-            # In a text of JSON a bare quote ends the text, so what stands last so is the member.
-            behind = text.rindex(TIMESTAMP)
-            timestamp, end = value_at(text, behind + len(TIMESTAMP))
-            token, _ = value_at(text, end + TO_TOKEN)
-        except (StopIteration, ValueError) as error:
-            raise ProgramFailed("binlogfeed: a line of the program isn't one of a change") from error
-        said = text[at:behind]
+            if loads is None:
+                text = line.decode()
+                after, at = value_at(text, TO_AFTER)
+                before, at = value_at(text, at + TO_BEFORE)
+                gtid, at = value_at(text, at + TO_GTID)
+                behind = text.rindex(TIMESTAMP)
+                timestamp, end = value_at(text, behind + len(TIMESTAMP))
+                token, _ = value_at(text, end + TO_TOKEN)
+                said = text[at:behind]
+            else:
+                behind = line.rindex(TIMESTAMP_BYTES)
+                key = line.rindex(KEY_BYTES, 0, behind)
+                members = loads(line[:key] + line[behind:])
+                after, before, gtid = members["after"], members["before"], members["gtid"]
+                timestamp, token, said = members["timestamp"], members["token"], line[key:behind].decode()
+        except (StopIteration, ValueError, KeyError) as error:
+            raise not_full() from error
         form = forms.get(said)
         if form is None:
             if len(forms) >= MOST_FORMS:
                 forms.clear()
             form = forms[said] = Form(said, style, convert)
-        steps = form.with_bytes if BYTES in text else form.always
+        steps = form.always if line.find(BYTES) < 0 else form.with_bytes
         if steps:
             try:
                 for values in (before, after):
                     if values is not None:
                         _take_in(values, steps)
             except _RefusedError as refused:
-                error = refused.__cause__
-                raise ConversionFailed(f"binlogfeed: {refused} at {token} can't be converted: {error}") from error
+                cause = refused.__cause__
+                raise ConversionFailed(f"binlogfeed: {refused} at {token} can't be converted: {cause}") from cause
         return form, before, after, timestamp, gtid, token
 
     return taken_apart
+
+
+def not_full() -> ProgramFailed:
+    """The error of a line that is no full line."""
+    return ProgramFailed("binlogfeed: the program gives no full lines")
 
 
 class _RefusedError(Exception):
