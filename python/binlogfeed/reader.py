@@ -84,6 +84,9 @@ class BinLogStreamReader:
         self._command = [os.fspath(program), "read", "--full", *filters]
         self._resume = resume
         self._start = _start(resume, resume_stream, log_file, log_pos)
+        self._at_logs_end = resume_stream and log_file is None
+        if self._at_logs_end and not blocking:
+            raise ValueError("resume_stream without log_file begins at the logs' end, where only a reader with blocking=True has events")
         self._skip_to = skip_to_timestamp
         self._end = end_log_pos
         self._together = together
@@ -199,6 +202,8 @@ class BinLogStreamReader:
     def _watched(self, watch: Watch) -> Iterator[Optional[bytes]]:
         """The lines of one look after the other, and None behind each. Without waiting there is one look."""
         is_empty = False
+        if self._at_logs_end:
+            watch.skip()
         while not self._closed:
             yield from watch.look()
             yield None
@@ -304,8 +309,8 @@ def _start(resume: str | None, resume_stream: bool, log_file: str | None, log_po
         except ValueError as error:
             raise TokenRefused("binlogfeed: token refused: BadToken", "BadToken") from error
     if log_file is None:
-        if resume_stream or log_pos is not None:
-            raise ValueError("log_pos and resume_stream need log_file")
+        if log_pos is not None:
+            raise ValueError("log_pos needs log_file")
         return Place()
     is_within = resume_stream and log_pos is not None and log_pos > FIRST_EVENT
     return Place(log_file, None, f"{log_pos}.0@{log_file}" if is_within else None)

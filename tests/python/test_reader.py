@@ -12,6 +12,7 @@ from decimal import Decimal
 
 from binlogfeed import (
     BinLogStreamReader,
+    BinlogfeedError,
     ConversionFailed,
     DeleteRowsEvent,
     FileFault,
@@ -394,6 +395,100 @@ class Blocking(FolderTest):
             for start in (0, 10, 17):
                 events = self.reader(place, resume=wanted[start])
                 self.assertEqual([next(events).token for _ in wanted[start + 1 :]], wanted[start + 1 :])
+
+    def append(self, name, content):
+        """Writes more of a log, as a server does."""
+        with open(self.folder / name, "ab") as file:
+            file.write(content)
+
+    def begun_at_the_end(self, files, **options):
+        """A reader that began at the logs' end, and a list that gets what it gives, or its error."""
+        begun, taken = self.folder / "begun", []
+        begun.unlink(missing_ok=True)
+        program = self.stub(f'[ "$1" = read ] && : > {begun}\nexec {PROGRAM} "$@"')
+        events = BinLogStreamReader(files, program=program, blocking=True, interval=0.001, resume_stream=True, **options)
+        self.in_time(events.close)
+        self.addCleanup(events.close)
+
+        def take():
+            """Takes events until the reader is closed."""
+            try:
+                taken.extend(iter(events.fetchone, None))
+            except BinlogfeedError as error:
+                taken.append(error)
+
+        thread = threading.Thread(target=take, daemon=True)
+        thread.start()
+        while thread.is_alive() and not begun.exists():
+            time.sleep(0.001)
+        return events, taken, thread
+
+    def taken_behind(self, files, grow, count):
+        """The tokens of so many events that come behind the logs' end, once they have grown."""
+        events, taken, thread = self.begun_at_the_end(files)
+        grow()
+        while thread.is_alive() and len(taken) < count:
+            time.sleep(0.001)
+        events.close()
+        thread.join()
+        return [event.token for event in taken]
+
+    def test_from_the_end(self):
+        """`resume_stream` without `log_file`: only what comes later is given, and all of that."""
+        whole, name = logs.worked_log(4), "binlog.000001"
+        wanted = [f"{153 + 218 * number}.1@{name}" for number in range(4)]
+        # Behind two transactions; within the third, which is whole later; behind none.
+        for length, first in ((153 + 436, 2), (153 + 436 + 100, 2), (153, 0)):
+            path = self.put(name, whole[:length])
+            for place in ([path], f"{self.folder}/binlog.0*"):
+                with self.subTest(length=length, place=place):
+                    self.put(name, whole[:length])
+                    found = self.taken_behind(place, lambda rest=whole[length:]: self.append(name, rest), 4 - first)
+                    self.assertEqual(found, wanted[first:])
+
+    def test_from_the_end_of_the_last_log(self):
+        """What the logs before it have isn't given, whether one of them is missing or not; the log that follows is."""
+        first, following = SHOP[0].read_bytes(), SHOP[1].read_bytes()
+        wanted = [token for token in tokens(SHOP) if token.endswith("2")]
+        for others in ((), ("binlog.000000",)):
+            with self.subTest(others=others):
+                for other in others:
+                    self.put(other, logs.worked_log())
+                self.put("binlog.000001", first)
+                (self.folder / "binlog.000002").unlink(missing_ok=True)
+                found = self.taken_behind(f"{self.folder}/binlog.0*", lambda: self.put("binlog.000002", following), len(wanted))
+                self.assertEqual(found, wanted)
+        self.put("binlog.000009", logs.worked_log())
+        _, taken, thread = self.begun_at_the_end(f"{self.folder}/binlog.0*")
+        self.append("binlog.000009", logs.worked_log(2)[371:])
+        while thread.is_alive() and not taken:
+            time.sleep(0.001)
+        self.assertEqual([event.token for event in taken], ["371.1@binlog.000009"])
+
+    def test_from_the_end_where_no_log_is_yet(self):
+        """All that comes comes later."""
+        events = self.reader(f"{self.folder}/binlog.0*", resume_stream=True)
+        late = threading.Timer(0.1, self.put, ("binlog.000001", logs.worked_log()))
+        late.start()
+        with self.assertWarns(UserWarning):
+            self.assertEqual(next(events).token, "153.1@binlog.000001")
+
+    def test_from_the_end_behind_a_fault(self):
+        """What can't be read can't be passed over."""
+        path = self.put("binlog.000001", logs.appended(logs.worked_log(), 40, b""))
+        with self.assertRaises(LogFault):
+            next(self.reader(path, resume_stream=True))
+
+    def test_close_while_it_looks_for_the_end(self):
+        path = self.put("binlog.000001", logs.worked_log())
+        for seconds in (0, 0.01, 0.1):
+            events = BinLogStreamReader(path, program=self.stub("exec sleep 60"), blocking=True, resume_stream=True)
+            closer = threading.Timer(seconds, events.close)
+            closer.start()
+            started = time.monotonic()
+            self.assertEqual(list(events), [])
+            closer.join()
+            self.assertLess(time.monotonic() - started, 30)
 
     def test_refused_tokens(self):
         path = self.put("binlog.000001", logs.worked_log())
