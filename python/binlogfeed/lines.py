@@ -11,9 +11,11 @@ from binlogfeed.values import Column, Convert, Reading, Style, plain, reading_of
 # It takes a line apart somewhat faster.
 loads: Optional[Callable[[bytes], Any]]
 try:
-    from orjson import loads
+    import orjson
 except ImportError:
     loads = None
+else:
+    loads = orjson.loads
 # The C function by which `json` itself reads a text: it answers the value that begins at a place, and the place behind it.
 value_at = json.JSONDecoder().scan_once
 

@@ -7,7 +7,7 @@ import threading
 import warnings
 from collections.abc import Callable, Iterable, Iterator, Mapping
 from types import TracebackType
-from typing import Any, Optional, Union
+from typing import Any, Generic, Optional, TypeVar, Union, cast, overload
 
 from binlogfeed.arguments import asked_events, refuse_others, words
 from binlogfeed.events import ROWS_EVENTS, Event, GtidEvent, RotateEvent, RowsEvent, Transaction, XidEvent, event_of
@@ -22,11 +22,13 @@ from binlogfeed.watch import Watch
 
 Path = Union[str, "os.PathLike[str]"]
 Converter = Callable[[Any], Any]
+# What a reader gives.
+Given = TypeVar("Given", bound=Event)
 # A log's first event stands there, so a place there or before it is the log's beginning.
 FIRST_EVENT = 4
 
 
-class BinLogStreamReader:
+class BinLogStreamReader(Generic[Given]):
     """Gives the row changes of committed transactions in log files, in log order, each once.
 
     The arguments but these are those of python-mysql-replication, with their meaning; docs/FROM_PYTHON_MYSQL_REPLICATION.md
@@ -48,6 +50,65 @@ class BinLogStreamReader:
 
     An event that the log can't give, and whatever else ends a reading early, is an exception behind the last event.
     """
+
+    # Without `only_events` all events are of rows; else they are of the classes that are named.
+    @overload
+    def __init__(
+        self: BinLogStreamReader[RowsEvent],
+        files: Path | Iterable[Path] | None = ...,
+        *,
+        only_events: None = None,
+        ignored_events: Iterable[type[Event]] | None = ...,
+        only_tables: Iterable[str] | None = ...,
+        ignored_tables: Iterable[str] | None = ...,
+        only_schemas: Iterable[str] | None = ...,
+        ignored_schemas: Iterable[str] | None = ...,
+        auto_position: str | None = ...,
+        resume: str | None = ...,
+        resume_stream: bool = ...,
+        log_file: str | None = ...,
+        log_pos: int | None = ...,
+        skip_to_timestamp: float | None = ...,
+        end_log_pos: int | None = ...,
+        together: bool = ...,
+        convert: Mapping[str, Converter] | None = ...,
+        on_bad_value: OnBadValue | None = ...,
+        naive_timestamps: bool = ...,
+        raw_values: bool = ...,
+        program: Path = ...,
+        blocking: bool = ...,
+        interval: float = ...,
+        **others: Any,
+    ) -> None: ...
+
+    @overload
+    def __init__(
+        self,
+        files: Path | Iterable[Path] | None = ...,
+        *,
+        only_events: Iterable[type[Given]],
+        ignored_events: Iterable[type[Event]] | None = ...,
+        only_tables: Iterable[str] | None = ...,
+        ignored_tables: Iterable[str] | None = ...,
+        only_schemas: Iterable[str] | None = ...,
+        ignored_schemas: Iterable[str] | None = ...,
+        auto_position: str | None = ...,
+        resume: str | None = ...,
+        resume_stream: bool = ...,
+        log_file: str | None = ...,
+        log_pos: int | None = ...,
+        skip_to_timestamp: float | None = ...,
+        end_log_pos: int | None = ...,
+        together: bool = ...,
+        convert: Mapping[str, Converter] | None = ...,
+        on_bad_value: OnBadValue | None = ...,
+        naive_timestamps: bool = ...,
+        raw_values: bool = ...,
+        program: Path = ...,
+        blocking: bool = ...,
+        interval: float = ...,
+        **others: Any,
+    ) -> None: ...
 
     def __init__(
         self,
@@ -95,7 +156,8 @@ class BinLogStreamReader:
         self._taken_apart = reader_of_lines(Style(raw_values, naive_timestamps, on_bad_value), dict(convert or {}))
         self._run: Union[Run, Watch, None] = None
         self._steps = self._read()
-        self._events = (event for event in self._steps if event is not None)
+        # None but the classes that were asked for come.
+        self._events: Iterator[Given] = (cast(Given, event) for event in self._steps if event is not None)
         self._closed = False
         self._closing = threading.Event()
         self._at_end = False
@@ -114,15 +176,15 @@ class BinLogStreamReader:
         token = self._token or self._start.token
         return None if token is None else token_parts(token).position
 
-    def __iter__(self) -> Iterator[Event]:
+    def __iter__(self) -> Iterator[Given]:
         """The events, from the first that wasn't given yet."""
         return self._events
 
-    def __next__(self) -> Event:
+    def __next__(self) -> Given:
         """The next event."""
         return next(self._events)
 
-    def fetchone(self) -> Event | None:
+    def fetchone(self) -> Given | None:
         """The next event, or None behind the last."""
         return next(self, None)
 
@@ -153,7 +215,7 @@ class BinLogStreamReader:
         if self._run is not None:
             self._run.end()
 
-    def __enter__(self) -> BinLogStreamReader:
+    def __enter__(self) -> BinLogStreamReader[Given]:
         """The reader itself."""
         return self
 
