@@ -19,6 +19,7 @@ from binlogfeed import (
     LogFault,
     LogsGone,
     OutOfMemory,
+    Place,
     ProgramFailed,
     ProgramMissing,
     TokenRefused,
@@ -27,6 +28,7 @@ from binlogfeed import (
     WriteRowsEvent,
     floats,
 )
+from binlogfeed.watch import Watch
 from built import logs
 from built.growing import Server
 from support import BANK, PROGRAM, SECONDS, SHOP, TOP, FolderTest, bank_rows
@@ -117,6 +119,32 @@ class Events(FolderTest):
         finally:
             tracemalloc.stop()
         self.assertLess(peak, 1_000_000)
+
+
+class Together(FolderTest):
+    """Rows that come in one event."""
+
+    def tokens_of(self, *changes):
+        """The token of each event, and how many rows it has, for lines with these timestamps and tokens."""
+        lines = "".join((LINE % token).replace('"timestamp":1', f'"timestamp":{timestamp}') + "\n" for timestamp, token in changes)
+        program = self.stub(f"cat {self.put('lines', lines.encode())}")
+        return [(event.token, event.timestamp, len(event.rows)) for event in BinLogStreamReader("f", program=program)]
+
+    def test_one_event(self):
+        self.assertEqual(self.tokens_of((1, "4.1@f"), (1, "4.2@f"), (1, "4.13@f")), [("4.13@f", 1, 3)])
+
+    def test_times(self):
+        self.assertEqual(self.tokens_of((1, "4.1@f"), (2, "4.2@f")), [("4.1@f", 1, 1), ("4.2@f", 2, 1)])
+
+    def test_transactions(self):
+        """They differ in their positions or their files, whose names may hold what stands in a token."""
+        for other in ("5.1@f", "40.1@f", "4.1@g", "4.1@x@f", "4.1@.f", "4.1@f@f", "4.2@f.1"):
+            self.assertEqual(self.tokens_of((1, "4.1@f"), (1, other)), [("4.1@f", 1, 1), (other, 1, 1)])
+        self.assertEqual(self.tokens_of((1, "4.1@a.b@c"), (1, "4.2@a.b@c")), [("4.2@a.b@c", 1, 2)])
+
+    def test_most_rows(self):
+        found = self.tokens_of(*((1, f"4.{number}@f") for number in range(1, 2002)))
+        self.assertEqual(found, [("4.1000@f", 1, 1000), ("4.2000@f", 1, 1000), ("4.2001@f", 1, 1)])
 
 
 class Choice(FolderTest):
@@ -316,6 +344,22 @@ class Ends(FolderTest):
         self.assertEqual(list(events.transactions()), [])
         closer.join()
 
+    def test_closed_while_it_waits_inside_a_transaction(self):
+        """The rest of the transaction may never have come."""
+        events = BinLogStreamReader("f", program=self.stub(f"echo '{LINE % '4.1@f'}'\nexec sleep 60"), together=False)
+        closer = threading.Thread(target=lambda: (time.sleep(0.3), events.close()))
+        closer.start()
+        self.assertEqual(list(events.transactions()), [])
+        closer.join()
+
+    def test_a_program_that_takes_no_sigterm(self):
+        """It is ended all the same."""
+        events = BinLogStreamReader("f", program=self.stub(f"trap '' TERM\necho '{LINE % '4.1@f'}'\nexec sleep 60"), together=False)
+        next(events)
+        started = time.monotonic()
+        events.close()
+        self.assertLess(time.monotonic() - started, 30)
+
     def test_fetchone(self):
         events = reader(SHOP[1])
         self.assertEqual(sum(1 for _ in iter(events.fetchone, None)), 7)
@@ -478,6 +522,28 @@ class Blocking(FolderTest):
         path = self.put("binlog.000001", logs.appended(logs.worked_log(), 40, b""))
         with self.assertRaises(LogFault):
             next(self.reader(path, resume_stream=True))
+
+    def test_the_end_of_a_log_that_is_replaced(self):
+        """Another log under the name of that behind whose end a watch begins."""
+        self.put("binlog.000001", logs.worked_log(2))
+        watch = Watch(f"{self.folder}/binlog.0*", [PROGRAM, "read", "--follow", "--full"], Place())
+        self.addCleanup(watch.end)
+        watch.skip()
+        self.assertEqual(watch.place.token, "589.0@binlog.000001")
+        self.assertEqual(list(watch.look()), [])
+        log = bytearray(logs.worked_log(3))
+        log[4] ^= 1  # the time at which it was begun
+        self.put("binlog.000001", log)
+        with self.assertRaises(LogsGone):
+            list(watch.look())
+
+    def test_the_end_for_a_closed_watch(self):
+        path = self.put("binlog.000001", logs.worked_log())
+        watch = Watch([path], [self.stub("exec sleep 60"), "read", "--follow"], Place())
+        watch.end()
+        started = time.monotonic()
+        watch.skip()
+        self.assertLess(time.monotonic() - started, 30)
 
     def test_close_while_it_looks_for_the_end(self):
         path = self.put("binlog.000001", logs.worked_log())
