@@ -28,7 +28,7 @@ class Changes:
         taken_apart = self._taken_apart
         for block in self._watch.look():
             for line in block.split(b"\n")[:-1]:
-                yield taken_apart(line), len(line)
+                yield Change(taken_apart(line)), len(line)
 
     @property
     def place(self) -> Place:

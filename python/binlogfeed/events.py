@@ -6,7 +6,7 @@ import sys
 from collections.abc import Iterator
 from typing import Any, NamedTuple, Optional, TextIO, Union
 
-from binlogfeed.lines import Change
+from binlogfeed.lines import Form, Image, Parts
 from binlogfeed.tokens import are_of_one_transaction, token_parts
 from binlogfeed.values import Column
 
@@ -68,29 +68,28 @@ class RowsEvent(Event):
     kind = ""
     _rows_are = ""
 
-    def __init__(self, change: Change) -> None:
+    def __init__(self, change: Parts) -> None:
         """The event of a change."""
-        self.timestamp = change.timestamp
-        self.gtid = change.gtid
-        self.token = change.token
-        self._form = change.form
-        self.rows: list[dict[str, Any]] = [self._row(change)]
+        self._form, before, after, self.timestamp, self.gtid, self.token = change
+        self.rows: list[dict[str, Any]] = [self._row(before, after)]
 
-    def _row(self, change: Change) -> dict[str, Any]:
+    @staticmethod
+    def _row(before: Image, after: Image) -> dict[str, Any]:
         """The row of a change."""
         raise NotImplementedError
 
-    def takes(self, change: Change) -> bool:
+    def takes(self, change: Parts) -> bool:
         """Takes a change that stands behind those of the event, where it is one more row of the same. Answers whether it is."""
+        form, before, after, timestamp, _, token = change
         if (
-            change.form is not self._form
-            or change.timestamp != self.timestamp
+            form is not self._form
+            or timestamp != self.timestamp
             or len(self.rows) >= MOST_ROWS
-            or not are_of_one_transaction(change.token, self.token)
+            or not are_of_one_transaction(token, self.token)
         ):
             return False
-        self.rows.append(self._row(change))
-        self.token = change.token
+        self.rows.append(self._row(before, after))
+        self.token = token
         return True
 
     @property
@@ -159,9 +158,10 @@ class WriteRowsEvent(RowsEvent):
     event_type = 30
     _rows_are = "Values"
 
-    def _row(self, change: Change) -> dict[str, Any]:
+    @staticmethod
+    def _row(before: Image, after: Image) -> dict[str, Any]:
         """The new row."""
-        return {"values": change.after}
+        return {"values": after}
 
     @property
     def before(self) -> None:
@@ -183,9 +183,10 @@ class UpdateRowsEvent(RowsEvent):
     event_type = 31
     _rows_are = "Changed values"
 
-    def _row(self, change: Change) -> dict[str, Any]:
+    @staticmethod
+    def _row(before: Image, after: Image) -> dict[str, Any]:
         """The row as it was and as it is then."""
-        return {"before_values": change.before, "after_values": change.after}
+        return {"before_values": before, "after_values": after}
 
     def _told_row(self, row: dict[str, Any]) -> list[str]:
         """A row's values as they were and as they are then."""
@@ -201,9 +202,10 @@ class DeleteRowsEvent(RowsEvent):
     event_type = 32
     _rows_are = "Values"
 
-    def _row(self, change: Change) -> dict[str, Any]:
+    @staticmethod
+    def _row(before: Image, after: Image) -> dict[str, Any]:
         """The row that is gone."""
-        return {"values": change.before}
+        return {"values": before}
 
     @property
     def before(self) -> Values:
@@ -253,6 +255,11 @@ class RotateEvent(Event):
 
 
 ROWS_EVENTS: dict[str, type[RowsEvent]] = {kind.kind: kind for kind in (WriteRowsEvent, UpdateRowsEvent, DeleteRowsEvent)}
+
+
+def event_of(change: Parts) -> RowsEvent:
+    """The event of a change."""
+    return ROWS_EVENTS[change[0].kind](change)
 
 
 class Transaction:

@@ -7,12 +7,12 @@ import threading
 import warnings
 from collections.abc import Callable, Iterable, Iterator, Mapping
 from types import TracebackType
-from typing import Any, Optional, Union
+from typing import Any, Generic, Optional, TypeVar, Union, cast, overload
 
 from binlogfeed.arguments import asked_events, refuse_others, words
-from binlogfeed.events import ROWS_EVENTS, Event, GtidEvent, RotateEvent, RowsEvent, Transaction, XidEvent
+from binlogfeed.events import ROWS_EVENTS, Event, GtidEvent, RotateEvent, RowsEvent, Transaction, XidEvent, event_of
 from binlogfeed.faults import BinlogfeedError, LogFault, TokenRefused, WordsRefused
-from binlogfeed.lines import Change, reader_of_lines
+from binlogfeed.lines import Parts, reader_of_lines
 from binlogfeed.logs import is_place_of_logs
 from binlogfeed.place import Place
 from binlogfeed.program import Run
@@ -22,11 +22,13 @@ from binlogfeed.watch import Watch
 
 Path = Union[str, "os.PathLike[str]"]
 Converter = Callable[[Any], Any]
+# What a reader gives.
+Given = TypeVar("Given", bound=Event)
 # A log's first event stands there, so a place there or before it is the log's beginning.
 FIRST_EVENT = 4
 
 
-class BinLogStreamReader:
+class BinLogStreamReader(Generic[Given]):
     """Gives the row changes of committed transactions in log files, in log order, each once.
 
     The arguments but these are those of python-mysql-replication, with their meaning; docs/FROM_PYTHON_MYSQL_REPLICATION.md
@@ -48,6 +50,65 @@ class BinLogStreamReader:
 
     An event that the log can't give, and whatever else ends a reading early, is an exception behind the last event.
     """
+
+    # Without `only_events` all events are of rows; else they are of the classes that are named.
+    @overload
+    def __init__(
+        self: BinLogStreamReader[RowsEvent],
+        files: Path | Iterable[Path] | None = ...,
+        *,
+        only_events: None = None,
+        ignored_events: Iterable[type[Event]] | None = ...,
+        only_tables: Iterable[str] | None = ...,
+        ignored_tables: Iterable[str] | None = ...,
+        only_schemas: Iterable[str] | None = ...,
+        ignored_schemas: Iterable[str] | None = ...,
+        auto_position: str | None = ...,
+        resume: str | None = ...,
+        resume_stream: bool = ...,
+        log_file: str | None = ...,
+        log_pos: int | None = ...,
+        skip_to_timestamp: float | None = ...,
+        end_log_pos: int | None = ...,
+        together: bool = ...,
+        convert: Mapping[str, Converter] | None = ...,
+        on_bad_value: OnBadValue | None = ...,
+        naive_timestamps: bool = ...,
+        raw_values: bool = ...,
+        program: Path = ...,
+        blocking: bool = ...,
+        interval: float = ...,
+        **others: Any,
+    ) -> None: ...
+
+    @overload
+    def __init__(
+        self,
+        files: Path | Iterable[Path] | None = ...,
+        *,
+        only_events: Iterable[type[Given]],
+        ignored_events: Iterable[type[Event]] | None = ...,
+        only_tables: Iterable[str] | None = ...,
+        ignored_tables: Iterable[str] | None = ...,
+        only_schemas: Iterable[str] | None = ...,
+        ignored_schemas: Iterable[str] | None = ...,
+        auto_position: str | None = ...,
+        resume: str | None = ...,
+        resume_stream: bool = ...,
+        log_file: str | None = ...,
+        log_pos: int | None = ...,
+        skip_to_timestamp: float | None = ...,
+        end_log_pos: int | None = ...,
+        together: bool = ...,
+        convert: Mapping[str, Converter] | None = ...,
+        on_bad_value: OnBadValue | None = ...,
+        naive_timestamps: bool = ...,
+        raw_values: bool = ...,
+        program: Path = ...,
+        blocking: bool = ...,
+        interval: float = ...,
+        **others: Any,
+    ) -> None: ...
 
     def __init__(
         self,
@@ -84,6 +145,9 @@ class BinLogStreamReader:
         self._command = [os.fspath(program), "read", "--full", *filters]
         self._resume = resume
         self._start = _start(resume, resume_stream, log_file, log_pos)
+        self._at_logs_end = resume_stream and log_file is None
+        if self._at_logs_end and not blocking:
+            raise ValueError("resume_stream without log_file begins at the logs' end, where only a reader with blocking=True has events")
         self._skip_to = skip_to_timestamp
         self._end = end_log_pos
         self._together = together
@@ -91,8 +155,9 @@ class BinLogStreamReader:
         self._interval = interval
         self._taken_apart = reader_of_lines(Style(raw_values, naive_timestamps, on_bad_value), dict(convert or {}))
         self._run: Union[Run, Watch, None] = None
-        # None stands for the end of the logs as they are by now.
-        self._events: Optional[Iterator[Optional[Event]]] = None
+        self._steps = self._read()
+        # None but the classes that were asked for come.
+        self._events: Iterator[Given] = (cast(Given, event) for event in self._steps if event is not None)
         self._closed = False
         self._closing = threading.Event()
         self._at_end = False
@@ -111,40 +176,15 @@ class BinLogStreamReader:
         token = self._token or self._start.token
         return None if token is None else token_parts(token).position
 
-    def __iter__(self) -> Iterator[Event]:
+    def __iter__(self) -> Iterator[Given]:
         """The events, from the first that wasn't given yet."""
-        return self
+        return self._events
 
-    def __next__(self) -> Event:
+    def __next__(self) -> Given:
         """The next event."""
-        while True:
-            event = self._step()
-            if event is not None:
-                return event
+        return next(self._events)
 
-    def _step(self) -> Event | None:
-        """The next event, or None at the end of the logs as they are by now, where the reader waits for more."""
-        if self._closed:
-            raise StopIteration
-        if self._events is None:
-            self._events = self._begun()
-            if self._closed and self._run:  # by another thread, which saw no run yet
-                self._run.end()
-        try:
-            event = next(self._events)
-        except StopIteration:
-            self._at_end = not self._closed
-            self.close()
-            raise
-        except BaseException:
-            # Who goes on after an error would miss an event.
-            self.close()
-            raise
-        if event is not None:
-            self._token = event.token
-        return event
-
-    def fetchone(self) -> Event | None:
+    def fetchone(self) -> Given | None:
         """The next event, or None behind the last."""
         return next(self, None)
 
@@ -155,7 +195,7 @@ class BinLogStreamReader:
         """
         events: list[RowsEvent] = []
         try:
-            for event in self._steps():
+            for event in self._steps:
                 if events and (event is None or not are_of_one_transaction(events[0].token, event.token)):
                     yield Transaction(events)
                     events = []
@@ -175,7 +215,7 @@ class BinLogStreamReader:
         if self._run is not None:
             self._run.end()
 
-    def __enter__(self) -> BinLogStreamReader:
+    def __enter__(self) -> BinLogStreamReader[Given]:
         """The reader itself."""
         return self
 
@@ -183,13 +223,24 @@ class BinLogStreamReader:
         """Closes the reader."""
         self.close()
 
-    def _steps(self) -> Iterator[Optional[Event]]:
-        """Each event, and None at each end of the logs."""
-        while True:
-            try:
-                yield self._step()
-            except StopIteration:
+    def _read(self) -> Iterator[Optional[Event]]:
+        """Reads the logs: each event, and None at each end of the logs as they are by then, where the reader waits for more."""
+        try:
+            if self._closed:
                 return
+            events = self._begun()
+            if self._closed and self._run is not None:  # by another thread, which saw no run yet
+                self._run.end()
+            for event in events:
+                if event is not None:
+                    self._token = event.token
+                yield event
+                if self._closed:
+                    return
+            self._at_end = not self._closed
+        finally:
+            # Who went on after an error would miss an event.
+            self.close()
 
     def _begun(self) -> Iterator[Optional[Event]]:
         """Begins to read. The events, and None at each end of the logs."""
@@ -213,6 +264,8 @@ class BinLogStreamReader:
     def _watched(self, watch: Watch) -> Iterator[Optional[bytes]]:
         """The lines of one look after the other, and None behind each. Without waiting there is one look."""
         is_empty = False
+        if self._at_logs_end:
+            watch.skip()
         while not self._closed:
             yield from watch.look()
             yield None
@@ -223,7 +276,7 @@ class BinLogStreamReader:
                 warnings.warn(f"binlogfeed: no log matches {self._files} yet", stacklevel=6)
             self._closing.wait(self._interval)
 
-    def _changes(self, blocks: Iterator[Optional[bytes]]) -> Iterator[Optional[Change]]:
+    def _changes(self, blocks: Iterator[Optional[bytes]]) -> Iterator[Optional[Parts]]:
         """The changes of lines, but for those outside of the places and times that are asked for."""
         taken_apart, skip_to, end = self._taken_apart, self._skip_to, self._end
         for block in blocks:
@@ -232,18 +285,21 @@ class BinLogStreamReader:
                 continue
             for line in block.split(b"\n")[:-1]:
                 change = taken_apart(line)
-                if end is not None and token_parts(change.token).position >= end:
-                    self.is_past_end_log_pos = True
-                    return
-                if skip_to is None or change.timestamp >= skip_to:
-                    yield change
+                if end is not None or skip_to is not None:
+                    *_, timestamp, _, token = change
+                    if end is not None and token_parts(token).position >= end:
+                        self.is_past_end_log_pos = True
+                        return
+                    if skip_to is not None and timestamp < skip_to:
+                        continue
+                yield change
 
-    def _one_by_one(self, changes: Iterator[Optional[Change]]) -> Iterator[Optional[RowsEvent]]:
+    def _one_by_one(self, changes: Iterator[Optional[Parts]]) -> Iterator[Optional[RowsEvent]]:
         """An event for each change."""
         for change in changes:
-            yield None if change is None else ROWS_EVENTS[change.form.kind](change)
+            yield None if change is None else event_of(change)
 
-    def _joined(self, changes: Iterator[Optional[Change]]) -> Iterator[Optional[RowsEvent]]:
+    def _joined(self, changes: Iterator[Optional[Parts]]) -> Iterator[Optional[RowsEvent]]:
         """An event for changes that stand together."""
         event: Optional[RowsEvent] = None
         try:
@@ -252,7 +308,7 @@ class BinLogStreamReader:
                     if change is not None and event.takes(change):
                         continue
                     yield event
-                event = None if change is None else ROWS_EVENTS[change.form.kind](change)
+                event = None if change is None else event_of(change)
                 if event is None:
                     yield None
         except BinlogfeedError:
@@ -315,8 +371,8 @@ def _start(resume: str | None, resume_stream: bool, log_file: str | None, log_po
         except ValueError as error:
             raise TokenRefused("binlogfeed: token refused: BadToken", "BadToken") from error
     if log_file is None:
-        if resume_stream or log_pos is not None:
-            raise ValueError("log_pos and resume_stream need log_file")
+        if log_pos is not None:
+            raise ValueError("log_pos needs log_file")
         return Place()
     is_within = resume_stream and log_pos is not None and log_pos > FIRST_EVENT
     return Place(log_file, None, f"{log_pos}.0@{log_file}" if is_within else None)

@@ -27,6 +27,6 @@ def beginning(token: str) -> str:
 
 def are_of_one_transaction(token: str, other: str) -> bool:
     """Whether two tokens are of one transaction: they differ in their counts alone."""
-    place, _, rest = token.partition(".")
-    other_place, _, other_rest = other.partition(".")
-    return place == other_place and rest.partition("@")[2] == other_rest.partition("@")[2]
+    position, _, rest = token.partition(".")
+    other_position, _, other_rest = other.partition(".")
+    return position == other_position and rest.partition("@")[2] == other_rest.partition("@")[2]

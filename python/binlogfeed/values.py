@@ -113,9 +113,11 @@ def _to_text(value: Any) -> Any:
 def _set_of(charset: str | None) -> Convert:
     """What makes a set of the names of a SET."""
 
+    to_names = plain if charset == "binary" else _to_text
+
     def to_set(value: Any) -> Any:
         """The set. It stays a number where the log doesn't have the names."""
-        text = plain(value) if charset == "binary" else _to_text(value)
+        text = to_names(value)
         if type(text) is int:
             return text
         return set(text.split(b"," if type(text) is bytes else ",")) if text else set()
@@ -129,8 +131,9 @@ def _float_of(code: str) -> Convert:
 
     def to_float(value: Any) -> float:
         """The number, exactly."""
+        number: float
         (number,) = unpack(a2b_base64(value["raw"]))
-        return float(number)
+        return number
 
     return to_float
 

@@ -11,7 +11,7 @@ from typing import Any, NamedTuple, Optional, Union
 from binlogfeed.faults import FileFault
 from binlogfeed.logs import Log, beginning, is_pattern, listed
 from binlogfeed.place import Place
-from binlogfeed.program import LookingRun
+from binlogfeed.program import LookingRun, Run
 
 # At a rotation or a purge a server takes its index away, and puts another in its place some milliseconds later. For so many
 # seconds logs that aren't there are looked for again, each time after such a pause, before anything is said of them.
@@ -51,6 +51,8 @@ class Watch:
         self._command = list(command)
         self._place = place
         self._run: Optional[LookingRun] = None
+        # The run that looks for the logs' end.
+        self._skipping: Optional[Run] = None
         self._closed = False
         # The logs that the run was told last, and how all logs were when they were looked at.
         self._told: list[Log] = []
@@ -94,9 +96,18 @@ class Watch:
     def end(self) -> None:
         """Ends the watch, and a look that goes on, at any time and from any thread. No line is given any more."""
         self._closed = True
-        run = self._run
-        if run is not None:
-            run.end()
+        for run in (self._skipping, self._run):
+            if run is not None:
+                run.end()
+
+    def skip(self) -> None:
+        """Passes over what is whole in the logs by now: the looks give what comes later alone."""
+        for last in self._found(only_last=True):
+            self._skipping = Run([self._command[0], "transactions", "--", last.path])
+            if self._closed:  # by another thread, which saw no run yet
+                self._skipping.end()
+            end = _last_end(self._skipping.blocks())
+            self._place = Place(last.name, last.begins, None if end is None else f"{end}.0@{last.name}")
 
     def _look(self, logs: list[Log]) -> Iterator[bytes]:
         """The lines that are new in these logs, where one of them has changed."""
@@ -145,15 +156,15 @@ class Watch:
             self._run.end()
             self._run = None
 
-    def _found(self) -> list[Log]:
-        """The logs that are still to be read, as they are by now."""
+    def _found(self, only_last: bool = False) -> list[Log]:
+        """The logs that are still to be read, or the last of them, as they are by now."""
         until = time.monotonic() + PATIENCE
         while True:
             is_late = self._closed or time.monotonic() >= until
             try:
                 paths = self._listed()
                 if paths or is_late or self._may_be_empty():
-                    return self._rest(paths)
+                    return self._rest(paths[-1:] if only_last else paths)
             except FileFault:
                 if is_late:
                     raise
@@ -193,6 +204,14 @@ def marked(path: Path) -> Mark:
     except OSError as error:
         raise FileFault(f"binlogfeed: cannot open {path}") from error
     return Mark(found.st_dev, found.st_ino, found.st_size, found.st_mtime_ns)
+
+
+def _last_end(blocks: Iterator[bytes]) -> int | None:
+    """Where the last transaction or statement of these lines ends, which `transactions` gave; None where there is none."""
+    last = b""
+    for last in blocks:
+        pass
+    return int(last.splitlines()[-1].split(b"\t")[1]) if last else None
 
 
 def last_members(lines: bytes) -> dict[str, Any]:

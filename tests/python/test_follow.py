@@ -252,6 +252,15 @@ class Growing(ServerTest):
                 place = max(done, int(token.partition(".")[0]) if token else 0)
                 self.assertIn(f" {len(logs.worked_log(count)) - place} bytes behind,", status)
         self.assertIn(" 0 bytes behind,", follower.status())
+        # The end of the log before says nothing of the next one.
+        self.log("binlog.000002", logs.worked_log(1_400))
+        self.index("binlog.000001", "binlog.000002")
+        said.clear()
+        follower.catch_up()
+        within = [(token, status) for token, status in said if token.endswith("2")]
+        self.assertGreater(len(within), 3)
+        for token, status in within:
+            self.assertIn(f" {len(logs.worked_log(1_400)) - int(token.partition('.')[0])} bytes behind,", status)
 
     def test_nothing_new(self):
         self.index("binlog.000001")

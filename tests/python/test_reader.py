@@ -12,12 +12,14 @@ from decimal import Decimal
 
 from binlogfeed import (
     BinLogStreamReader,
+    BinlogfeedError,
     ConversionFailed,
     DeleteRowsEvent,
     FileFault,
     LogFault,
     LogsGone,
     OutOfMemory,
+    Place,
     ProgramFailed,
     ProgramMissing,
     TokenRefused,
@@ -26,6 +28,7 @@ from binlogfeed import (
     WriteRowsEvent,
     floats,
 )
+from binlogfeed.watch import Watch
 from built import logs
 from built.growing import Server
 from support import BANK, PROGRAM, SECONDS, SHOP, TOP, FolderTest, bank_rows
@@ -116,6 +119,32 @@ class Events(FolderTest):
         finally:
             tracemalloc.stop()
         self.assertLess(peak, 1_000_000)
+
+
+class Together(FolderTest):
+    """Rows that come in one event."""
+
+    def tokens_of(self, *changes):
+        """The token of each event, and how many rows it has, for lines with these timestamps and tokens."""
+        lines = "".join((LINE % token).replace('"timestamp":1', f'"timestamp":{timestamp}') + "\n" for timestamp, token in changes)
+        program = self.stub(f"cat {self.put('lines', lines.encode())}")
+        return [(event.token, event.timestamp, len(event.rows)) for event in BinLogStreamReader("f", program=program)]
+
+    def test_one_event(self):
+        self.assertEqual(self.tokens_of((1, "4.1@f"), (1, "4.2@f"), (1, "4.13@f")), [("4.13@f", 1, 3)])
+
+    def test_times(self):
+        self.assertEqual(self.tokens_of((1, "4.1@f"), (2, "4.2@f")), [("4.1@f", 1, 1), ("4.2@f", 2, 1)])
+
+    def test_transactions(self):
+        """They differ in their positions or their files, whose names may hold what stands in a token."""
+        for other in ("5.1@f", "40.1@f", "4.1@g", "4.1@x@f", "4.1@.f", "4.1@f@f", "4.2@f.1"):
+            self.assertEqual(self.tokens_of((1, "4.1@f"), (1, other)), [("4.1@f", 1, 1), (other, 1, 1)])
+        self.assertEqual(self.tokens_of((1, "4.1@a.b@c"), (1, "4.2@a.b@c")), [("4.2@a.b@c", 1, 2)])
+
+    def test_most_rows(self):
+        found = self.tokens_of(*((1, f"4.{number}@f") for number in range(1, 2002)))
+        self.assertEqual(found, [("4.1000@f", 1, 1000), ("4.2000@f", 1, 1000), ("4.2001@f", 1, 1)])
 
 
 class Choice(FolderTest):
@@ -315,6 +344,22 @@ class Ends(FolderTest):
         self.assertEqual(list(events.transactions()), [])
         closer.join()
 
+    def test_closed_while_it_waits_inside_a_transaction(self):
+        """The rest of the transaction may never have come."""
+        events = BinLogStreamReader("f", program=self.stub(f"echo '{LINE % '4.1@f'}'\nexec sleep 60"), together=False)
+        closer = threading.Thread(target=lambda: (time.sleep(0.3), events.close()))
+        closer.start()
+        self.assertEqual(list(events.transactions()), [])
+        closer.join()
+
+    def test_a_program_that_takes_no_sigterm(self):
+        """It is ended all the same."""
+        events = BinLogStreamReader("f", program=self.stub(f"trap '' TERM\necho '{LINE % '4.1@f'}'\nexec sleep 60"), together=False)
+        next(events)
+        started = time.monotonic()
+        events.close()
+        self.assertLess(time.monotonic() - started, 30)
+
     def test_fetchone(self):
         events = reader(SHOP[1])
         self.assertEqual(sum(1 for _ in iter(events.fetchone, None)), 7)
@@ -394,6 +439,122 @@ class Blocking(FolderTest):
             for start in (0, 10, 17):
                 events = self.reader(place, resume=wanted[start])
                 self.assertEqual([next(events).token for _ in wanted[start + 1 :]], wanted[start + 1 :])
+
+    def append(self, name, content):
+        """Writes more of a log, as a server does."""
+        with open(self.folder / name, "ab") as file:
+            file.write(content)
+
+    def begun_at_the_end(self, files, **options):
+        """A reader that began at the logs' end, and a list that gets what it gives, or its error."""
+        begun, taken = self.folder / "begun", []
+        begun.unlink(missing_ok=True)
+        program = self.stub(f'[ "$1" = read ] && : > {begun}\nexec {PROGRAM} "$@"')
+        events = BinLogStreamReader(files, program=program, blocking=True, interval=0.001, resume_stream=True, **options)
+        self.in_time(events.close)
+        self.addCleanup(events.close)
+
+        def take():
+            """Takes events until the reader is closed."""
+            try:
+                taken.extend(iter(events.fetchone, None))
+            except BinlogfeedError as error:
+                taken.append(error)
+
+        thread = threading.Thread(target=take, daemon=True)
+        thread.start()
+        while thread.is_alive() and not begun.exists():
+            time.sleep(0.001)
+        return events, taken, thread
+
+    def taken_behind(self, files, grow, count):
+        """The tokens of so many events that come behind the logs' end, once they have grown."""
+        events, taken, thread = self.begun_at_the_end(files)
+        grow()
+        while thread.is_alive() and len(taken) < count:
+            time.sleep(0.001)
+        events.close()
+        thread.join()
+        return [event.token for event in taken]
+
+    def test_from_the_end(self):
+        """`resume_stream` without `log_file`: only what comes later is given, and all of that."""
+        whole, name = logs.worked_log(4), "binlog.000001"
+        wanted = [f"{153 + 218 * number}.1@{name}" for number in range(4)]
+        # Behind two transactions; within the third, which is whole later; behind none.
+        for length, first in ((153 + 436, 2), (153 + 436 + 100, 2), (153, 0)):
+            path = self.put(name, whole[:length])
+            for place in ([path], f"{self.folder}/binlog.0*"):
+                with self.subTest(length=length, place=place):
+                    self.put(name, whole[:length])
+                    found = self.taken_behind(place, lambda rest=whole[length:]: self.append(name, rest), 4 - first)
+                    self.assertEqual(found, wanted[first:])
+
+    def test_from_the_end_of_the_last_log(self):
+        """What the logs before it have isn't given, whether one of them is missing or not; the log that follows is."""
+        first, following = SHOP[0].read_bytes(), SHOP[1].read_bytes()
+        wanted = [token for token in tokens(SHOP) if token.endswith("2")]
+        for others in ((), ("binlog.000000",)):
+            with self.subTest(others=others):
+                for other in others:
+                    self.put(other, logs.worked_log())
+                self.put("binlog.000001", first)
+                (self.folder / "binlog.000002").unlink(missing_ok=True)
+                found = self.taken_behind(f"{self.folder}/binlog.0*", lambda: self.put("binlog.000002", following), len(wanted))
+                self.assertEqual(found, wanted)
+        self.put("binlog.000009", logs.worked_log())
+        _, taken, thread = self.begun_at_the_end(f"{self.folder}/binlog.0*")
+        self.append("binlog.000009", logs.worked_log(2)[371:])
+        while thread.is_alive() and not taken:
+            time.sleep(0.001)
+        self.assertEqual([event.token for event in taken], ["371.1@binlog.000009"])
+
+    def test_from_the_end_where_no_log_is_yet(self):
+        """All that comes comes later."""
+        events = self.reader(f"{self.folder}/binlog.0*", resume_stream=True)
+        late = threading.Timer(0.1, self.put, ("binlog.000001", logs.worked_log()))
+        late.start()
+        with self.assertWarns(UserWarning):
+            self.assertEqual(next(events).token, "153.1@binlog.000001")
+
+    def test_from_the_end_behind_a_fault(self):
+        """What can't be read can't be passed over."""
+        path = self.put("binlog.000001", logs.appended(logs.worked_log(), 40, b""))
+        with self.assertRaises(LogFault):
+            next(self.reader(path, resume_stream=True))
+
+    def test_the_end_of_a_log_that_is_replaced(self):
+        """Another log under the name of that behind whose end a watch begins."""
+        self.put("binlog.000001", logs.worked_log(2))
+        watch = Watch(f"{self.folder}/binlog.0*", [PROGRAM, "read", "--follow", "--full"], Place())
+        self.addCleanup(watch.end)
+        watch.skip()
+        self.assertEqual(watch.place.token, "589.0@binlog.000001")
+        self.assertEqual(list(watch.look()), [])
+        log = bytearray(logs.worked_log(3))
+        log[4] ^= 1  # the time at which it was begun
+        self.put("binlog.000001", log)
+        with self.assertRaises(LogsGone):
+            list(watch.look())
+
+    def test_the_end_for_a_closed_watch(self):
+        path = self.put("binlog.000001", logs.worked_log())
+        watch = Watch([path], [self.stub("exec sleep 60"), "read", "--follow"], Place())
+        watch.end()
+        started = time.monotonic()
+        watch.skip()
+        self.assertLess(time.monotonic() - started, 30)
+
+    def test_close_while_it_looks_for_the_end(self):
+        path = self.put("binlog.000001", logs.worked_log())
+        for seconds in (0, 0.01, 0.1):
+            events = BinLogStreamReader(path, program=self.stub("exec sleep 60"), blocking=True, resume_stream=True)
+            closer = threading.Timer(seconds, events.close)
+            closer.start()
+            started = time.monotonic()
+            self.assertEqual(list(events), [])
+            closer.join()
+            self.assertLess(time.monotonic() - started, 30)
 
     def test_refused_tokens(self):
         path = self.put("binlog.000001", logs.worked_log())

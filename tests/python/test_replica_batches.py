@@ -4,7 +4,7 @@ import random
 import unittest
 
 from batches import Batcher
-from binlogfeed.lines import reader_of_lines
+from binlogfeed.lines import Change, reader_of_lines
 from binlogfeed.values import Style
 from fitting import for_sqlite
 from replicas import HAS_POSTGRES, LinesTest, PostgresServer, SqliteFiles, ended, full_line, python_with_psycopg
@@ -38,7 +38,7 @@ def batches_of(lines, distinct=False):
     target, taken_apart = Batches(distinct), reader_of_lines(Style(raw=True), {})
     batcher = Batcher(target)
     for line in lines:
-        batcher.take(taken_apart(line.encode()), len(line))
+        batcher.take(Change(taken_apart(line.encode())), len(line))
     batcher.hand_over()
     return [(table, kind, len(rows)) for table, kind, rows in target.put_in]
 

@@ -72,6 +72,16 @@ def runs(number):
         return False
 
 
+def children(number):
+    """The processes that a process started, and that still run."""
+    found = []
+    for process in filter(str.isdigit, os.listdir("/proc")):
+        with contextlib.suppress(OSError), open(f"/proc/{process}/stat", encoding="utf-8") as told:
+            if told.read().rpartition(")")[2].split()[1] == str(number):
+                found.append(process)
+    return found
+
+
 def lines_of(files):
     """The lines of `read`, and those of `transactions`."""
     return [
@@ -434,6 +444,27 @@ class Faults(FolderTest):
             said = process.stdout.read(), process.stderr.read()
         self.assertEqual((process.returncode, said), (130, (b"", b"")))
         self.assertEqual([number for number in started.read_text().split() if runs(number)], [])
+
+    def test_killed(self):
+        """No process of a summary that is killed goes on without it: neither those that count, nor the programs."""
+        path = self.put("binlog.000001", b"")
+        os.truncate(path, 1 << 24)
+        change = '{"after":null,"before":null,"gtid":null,"kind":"insert","schema":"x","table":"y","timestamp":7,"token":"4.1@f"}'
+        unit = f"4\\t8\\t{SHOP_SOURCE}:1\\txid\\tbinlog.000001"
+        # Where nobody takes its lines any more, a write fails.
+        program = self.stub(f"echo $$ >> {self.folder}/started\n[ $1 = read ] && exec yes '{change}'\nwhile printf '{unit}\\n'; do sleep 0.01; done")
+        with running(command(path, program=program), stdout=subprocess.DEVNULL, stderr=subprocess.DEVNULL, env=ENVIRONMENT) as process:
+            started = self.folder / "started"
+            while not started.exists() or started.read_text().count("\n") < 2:
+                time.sleep(0.01)
+            others = {*children(process.pid), *started.read_text().split()}
+            process.kill()
+        late = time.monotonic() + SECONDS
+        while any(map(runs, others)) and time.monotonic() < late:
+            time.sleep(0.01)
+        self.assertEqual([number for number in others if runs(number)], [])
+        # The program `read`, that for transactions and their process at least.
+        self.assertGreater(len(others), 2)
 
     def test_work_that_ends_early(self):
         for work in (lambda: os._exit(3), lambda: os.kill(os.getpid(), 9)):

@@ -7,6 +7,8 @@ import os
 import pickle
 import signal
 import struct
+import threading
+import time
 from collections.abc import Callable, Sequence
 from typing import Any, BinaryIO, Generic, NoReturn, TypeVar
 
@@ -17,6 +19,8 @@ Result = TypeVar("Result")
 BEFORE = struct.Struct("=QQ")
 # A pipe has room for a block, so that who gives it needn't wait until it is taken.
 PIPE = 1 << 20
+# How often a process looks whether the one that started it is still there.
+SECONDS = 0.1
 
 
 class Beside(Generic[Result]):
@@ -103,20 +107,29 @@ class Worker(Generic[Result]):
 
 def _forked(work: Callable[[], None]) -> int:
     """A new process that does some work. It ends without writing what this one still has in its buffers."""
+    parent = os.getpid()
     process = os.fork()
     if process:
         return process
-    _do(work)
+    _do(work, parent)
 
 
-def _do(work: Callable[[], None]) -> NoReturn:
+def _do(work: Callable[[], None], parent: int) -> NoReturn:
     """Does the work, and ends the process."""
+    threading.Thread(target=_end_with, args=(parent,), daemon=True).start()
     status = 1
     try:
         work()
         status = 0
     finally:
         os._exit(status)
+
+
+def _end_with(parent: int) -> None:
+    """Ends this process once the one that started it is gone. Nobody takes an answer then."""
+    while os.getppid() == parent:
+        time.sleep(SECONDS)
+    os._exit(1)
 
 
 def _end(process: int) -> None:

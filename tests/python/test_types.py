@@ -1,0 +1,60 @@
+"""The types of the package, as mypy takes them."""
+import importlib.util
+import os
+import subprocess
+import sys
+import unittest
+
+from support import TOP, FolderTest
+
+GOOD = """
+from binlogfeed import BinLogStreamReader, DeleteRowsEvent, Event, GtidEvent, RowsEvent, UpdateRowsEvent, WriteRowsEvent
+
+
+def loops(path: str) -> None:
+    with BinLogStreamReader([path], only_tables=["purchase"]) as reader:
+        for event in reader:
+            for row in event.rows:
+                print(event.table, event.token, row["values"])
+    stream = BinLogStreamReader([path], only_events=[WriteRowsEvent, UpdateRowsEvent, DeleteRowsEvent], blocking=True)
+    for event in stream:
+        print(event.schema, event.table, event.rows, event.primary_key)
+    for insert in BinLogStreamReader(path, only_events=[WriteRowsEvent]):
+        print(insert.after.keys())
+    both: BinLogStreamReader[Event] = BinLogStreamReader(path, only_events=[RowsEvent, GtidEvent])
+    for one in both:
+        print(one.rows if isinstance(one, RowsEvent) else one.gtid)
+    last = BinLogStreamReader(path).fetchone()
+    if last is not None:
+        print(last.rows)
+
+
+def made(path: str) -> BinLogStreamReader[RowsEvent]:
+    return BinLogStreamReader(path, together=False)
+"""
+# Each of them has one error.
+WRONG = {
+    "for event in BinLogStreamReader('f', only_events=[GtidEvent]): print(event.rows)": '"GtidEvent" has no attribute "rows"',
+    "BinLogStreamReader('f', together='yes')": "No overload variant",
+    "print(BinLogStreamReader('f').fetchone().rows)": 'has no attribute "rows"',
+}
+
+
+@unittest.skipUnless(importlib.util.find_spec("mypy"), "this Python has no mypy (pip install mypy)")
+class Types(FolderTest):
+    """mypy --strict, over programs that use the package."""
+
+    def said(self, text):
+        """What mypy says of a program's file, without what it says of the package's own."""
+        environment = {**os.environ, "MYPYPATH": str(TOP / "python")}
+        words = [sys.executable, "-m", "mypy", "--strict", "--cache-dir", str(self.folder / "cache"), "--follow-imports=silent"]
+        ended = subprocess.run([*words, self.put("program.py", text.encode())], env=environment, capture_output=True, text=True, check=False)
+        return [line for line in (ended.stdout + ended.stderr).splitlines() if not line.startswith(("Success", "Found"))]
+
+    def test_loops(self):
+        self.assertEqual(self.said(GOOD), [])
+
+    def test_mistakes_are_seen(self):
+        for line, wanted in WRONG.items():
+            with self.subTest(line=line):
+                self.assertIn(wanted, self.said(f"from binlogfeed import BinLogStreamReader, GtidEvent\n\n{line}\n")[0])
