@@ -167,6 +167,19 @@ class Ends(Files):
             self.assertEqual(len(self.files.rows_of(target)["purchase"]), 1)
             self.assertTrue(json.loads(self.place(target))["token"].startswith("2592."))
 
+    def test_a_log_that_changed_while_it_was_read(self):
+        """The transaction that this fault is in may not be whole: nothing of it is taken, and all before it is."""
+        lines = [full_line(number, "t", None, {"id": 10 * number[0] + number[1], "v": ""}, TYPES) for number in ((1, 1), (2, 1), (2, 2))]
+        told = self.told(lines)
+        fault = "binlogfeed: log fault at binlog.000001:200: SourceChanged"
+        given = f'case "$*" in *--from=100.1@*) tail -n +2 {self.folder}/lines ;; *) cat {self.folder}/lines ;; esac'
+        told["program"] = self.stub(f"read line\n{given}\necho '{fault}' >&2\nexit 1")
+        for options in ((), ("--commit-every", "100")):
+            target = self.files.made("CREATE TABLE t (id INTEGER PRIMARY KEY, v TEXT)")
+            self.assertEqual(ended(target, "made", *options, **told), (1, f"{fault}\n"))
+            self.assertEqual(self.files.asked(target, "SELECT id FROM t"), [{"id": 11}])
+            self.assertEqual(json.loads(self.place(target))["token"], "100.1@binlog.000001")
+
     def test_words(self):
         target = self.files.new_target("shop")
         for options in (("--convert", "a.b=float"), ("--commit-every", "0"), ("--unfit", "zero")):
