@@ -13,7 +13,6 @@ import subprocess
 import sys
 import tarfile
 import tempfile
-import textwrap
 import unittest
 import zipfile
 from pathlib import Path
@@ -67,8 +66,8 @@ def shell_lines():
 
 def example():
     """The README's example for Python. It finds the program by itself."""
-    code = re.search(r"(?m)^ {4}from binlogfeed import .*\n(?: {4}.*\n|\n(?= {4}))+", README)[0]
-    return re.sub(r', program="[^"]*"', "", textwrap.dedent(code)).rstrip("'\n") + "\n"
+    code = re.search(r"(?m)^from binlogfeed import .*\n(?:.+\n)+?(?=```$)", README)[0]
+    return re.sub(r', program="[^"]*"', "", code).rstrip("'\n") + "\n"
 
 
 class Package(unittest.TestCase):
