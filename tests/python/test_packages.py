@@ -86,6 +86,8 @@ class Package(unittest.TestCase):
         cls.wheel, cls.archive, cls.deb = cls.packages
         ran(["dpkg-deb", "-x", cls.deb, cls.room / "deb"])
         with tarfile.open(cls.archive) as archive:
+            # Python 3.12 and 3.13 warn where none is chosen, and older ones may have none.
+            archive.extraction_filter = getattr(tarfile, "data_filter", None)
             archive.extractall(cls.room / "archive")
         cls.program = cls.room / "deb/usr/bin/binlogfeed"
         cls.unpacked = cls.room / "archive" / f"binlogfeed-{cls.version()}"
