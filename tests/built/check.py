@@ -1,4 +1,6 @@
 """A check of the built program, one run of it, and how what came differs from what was wanted."""
+from __future__ import annotations
+
 import subprocess
 from collections.abc import Callable
 from pathlib import Path

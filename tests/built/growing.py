@@ -1,4 +1,6 @@
 """Logs that grow as a server writes them, and a driver of `read --follow` that knows nothing of the package."""
+from __future__ import annotations
+
 import os
 import select
 import subprocess

@@ -1,4 +1,6 @@
 """Logs that a real server wrote: the shop's, with its lines, and the bank's, with the rows that its tables had at the end."""
+from __future__ import annotations
+
 import json
 import shlex
 from functools import partial

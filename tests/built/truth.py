@@ -1,5 +1,7 @@
 """A server's tables of all types, with what it says that they hold (tests/truth): each value of a full line is the server's, and is
 read with nothing but its line."""
+from __future__ import annotations
+
 import base64
 import json
 import re

@@ -21,9 +21,12 @@ README_SHOWS = f"""\
 
 
 def blocks(document, heading):
-    """The indented blocks of a part of a document."""
+    """The blocks of a part of a document: those between fences, or else those that are indented."""
     text = (TOP / document).read_text(encoding="utf-8")
     part = re.search(rf"^## {heading}\n(.*?)(?=^## |\Z)", text, re.DOTALL | re.MULTILINE)[1]
+    fenced = re.findall(r"^```\w+\n(.*?)^```$", part, re.DOTALL | re.MULTILINE)
+    if fenced:
+        return fenced
     found = re.findall(r"(?:^    .*\n|^\n(?=    ))+", part, re.MULTILINE)
     return ["\n".join(line[4:] for line in block.strip("\n").split("\n")) + "\n" for block in found]
 

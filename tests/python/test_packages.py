@@ -13,7 +13,6 @@ import subprocess
 import sys
 import tarfile
 import tempfile
-import textwrap
 import unittest
 import zipfile
 from pathlib import Path
@@ -67,8 +66,8 @@ def shell_lines():
 
 def example():
     """The README's example for Python. It finds the program by itself."""
-    code = re.search(r"(?m)^ {4}from binlogfeed import .*\n(?: {4}.*\n|\n(?= {4}))+", README)[0]
-    return re.sub(r', program="[^"]*"', "", textwrap.dedent(code)).rstrip("'\n") + "\n"
+    code = re.search(r"(?m)^from binlogfeed import .*\n(?:.+\n)+?(?=```$)", README)[0]
+    return re.sub(r', program="[^"]*"', "", code).rstrip("'\n") + "\n"
 
 
 class Package(unittest.TestCase):
@@ -87,6 +86,8 @@ class Package(unittest.TestCase):
         cls.wheel, cls.archive, cls.deb = cls.packages
         ran(["dpkg-deb", "-x", cls.deb, cls.room / "deb"])
         with tarfile.open(cls.archive) as archive:
+            # Python 3.12 and 3.13 warn where none is chosen, and older ones may have none.
+            archive.extraction_filter = getattr(tarfile, "data_filter", None)
             archive.extractall(cls.room / "archive")
         cls.program = cls.room / "deb/usr/bin/binlogfeed"
         cls.unpacked = cls.room / "archive" / f"binlogfeed-{cls.version()}"

@@ -10,7 +10,7 @@ import targets
 from binlogfeed import Place
 from replicas import SHOP_ROWS, Kills, LinesTest, SqliteFiles, ended, full_line, started
 from sqlite import Sqlite
-from support import SECONDS, SHOP
+from support import PROGRAM, SECONDS, SHOP
 
 # How often the replica is killed while it works: over the shop's logs and over the bank's, with one transaction in a
 # commit and with several.
@@ -54,6 +54,30 @@ class Killed(Files):
                 kills = Kills(schema, count, new_target, self.files.rows_of, options)
                 kills.run()
                 kills.judge(self)
+
+
+class Commits(Files):
+    """When the target's transactions end."""
+
+    def test_so_many_transactions_in_each(self):
+        """The place behind the last of them is kept with each. Where nothing is new, nothing is written."""
+        ends = ["1697.3", "2149.3", "2592.3", "3114.1", "3506.2"], ["198.3", "935.1", "1268.1", "1656.1", "2072.1"]
+        tokens = [f"{end}@{log.name}" for log, each in zip(SHOP, ends) for end in each]
+        for many in (1, 3, 10, 1000):
+            target, kept = Sqlite(self.files.new_target("shop").partition(":")[2], "shop", False), []
+            commit = target.commit
+
+            def noted(place, kept=kept, commit=commit):
+                kept.append(json.loads(place)["token"])
+                commit(place)
+
+            target.commit = noted
+            copied = replica.Replica(target, "shop", f"{SHOP[0].parent}/binlog.0*", PROGRAM, many)
+            for _ in range(3):
+                copied.catch_up()
+            copied.close()
+            target.close()
+            self.assertEqual(kept, [*tokens[many - 1 : -1 : many], tokens[-1]])
 
 
 class Misfits(Files):
@@ -166,6 +190,19 @@ class Ends(Files):
             self.assertEqual((status, said), (1, "binlogfeed: log fault at binlog.000001:3114: BadLength\n"))
             self.assertEqual(len(self.files.rows_of(target)["purchase"]), 1)
             self.assertTrue(json.loads(self.place(target))["token"].startswith("2592."))
+
+    def test_a_log_that_changed_while_it_was_read(self):
+        """The transaction that this fault is in may not be whole: nothing of it is taken, and all before it is."""
+        lines = [full_line(number, "t", None, {"id": 10 * number[0] + number[1], "v": ""}, TYPES) for number in ((1, 1), (2, 1), (2, 2))]
+        told = self.told(lines)
+        fault = "binlogfeed: log fault at binlog.000001:200: SourceChanged"
+        given = f'case "$*" in *--from=100.1@*) tail -n +2 {self.folder}/lines ;; *) cat {self.folder}/lines ;; esac'
+        told["program"] = self.stub(f"read line\n{given}\necho '{fault}' >&2\nexit 1")
+        for options in ((), ("--commit-every", "100")):
+            target = self.files.made("CREATE TABLE t (id INTEGER PRIMARY KEY, v TEXT)")
+            self.assertEqual(ended(target, "made", *options, **told), (1, f"{fault}\n"))
+            self.assertEqual(self.files.asked(target, "SELECT id FROM t"), [{"id": 11}])
+            self.assertEqual(json.loads(self.place(target))["token"], "100.1@binlog.000001")
 
     def test_words(self):
         target = self.files.new_target("shop")
