@@ -5,9 +5,9 @@ use Rattle.std.proofs.lemmas.Slice.Eq.{bytes_eq-Decides}
 use Rattle.std.specs.List.{list_any}
 use Rattle.std.specs.Option.{option_or}
 use Rattle.std.specs.Str.{bytes_eq}
-use Rattle.serde_json.specs.Data.{Data, array}
-use Rattle.serde_json.specs.View.{items_of}
-use Rattle.serde_json.specs.Written.{compact_text, items_text}
+use Rattle.binlog_json.specs.Json.{Data, array}
+use Rattle.binlog_json.specs.Json.{items_of}
+use Rattle.binlog_json.specs.Json.{compact_text, items_text}
 use Rattle.binlog_table.specs.declared.cell.Cell.{Cell}
 use Rattle.binlog_table.specs.declared.cell.Cell.TheVariants as cells
 use Rattle.binlog_table.specs.MapWords.{value_names_in}

@@ -2,7 +2,7 @@
 ghost use Rattle.std.specs.Prelude.{◌≡◌, ◌<◌, ◌++◌, Some, length, slice_get, is_some, IfOk, IfSome, OnOk, option_map, string_bytes};
 ghost use Rattle.std.specs.List.{list_any};
 ghost use Rattle.std.specs.Str.{bytes_eq};
-ghost use Rattle.serde_json.specs.Written.{compact_text};
+ghost use Rattle.binlog_json.specs.Json.{compact_text};
 ghost use Rattle.binlog_table.specs.Value.{view as cell_view};
 ghost use Rattle.binlog_feed.specs.Changes.{view};
 ghost use Rattle.binlog_json.specs.Keys.{HasTypes, has_key as is_of_key, has_key_as as is_of_key_as, image_key as key_of_image, is_text, key_text_as as text_of_key, key_text_of, keys_as, value_as, value_in, value_in_either};

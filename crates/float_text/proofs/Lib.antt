@@ -6,3 +6,4 @@ pub mod Tests
 pub mod Generated
 pub mod Sign
 pub mod Join
+pub mod Ascii

@@ -1,5 +1,5 @@
 //! The text of a finite float, by its bits.
-ghost use Rattle.std.specs.Prelude.{◌≡◌, ℕ, ◌+◌, ◌*◌, ◌%◌, ◌<◌, ◌≤◌, ◌++◌, true, IfOk};
+ghost use Rattle.std.specs.Prelude.{◌≡◌, ℕ, ◌+◌, ◌*◌, ◌%◌, ◌<◌, ◌≤◌, ◌++◌, true, IfOk, IsAscii};
 ghost use Rattle.std.specs.Float.Ieee.{top, ones, hid};
 ghost use Rattle.float_text.specs.Shortest.{IsFinite, reads_as, scaled_num, scaled_den, shortest};
 ghost use Rattle.float_text.specs.Layout.{size_text, number_text};
@@ -32,7 +32,8 @@ fn shortest_decimal<F: Float>(bits: u64) -> (u64, u64)
 pub fn push_number<F: Float>(out: &mut Vec<u8, Global>, bits: u64) -> Result<(), AllocError>
     requires width { bits < 2 * top F.format }
     requires finite { bits % top F.format < ones F.format * hid F.format }
-    ensures { IfOk result (λ _. out.new.items ≡ out.old.items ++ number_text F.format bits) }
+    ensures text { IfOk result (λ _. out.new.items ≡ out.old.items ++ number_text F.format bits) }
+    ensures ascii { IfOk result (λ _. IsAscii out.old.items → IsAscii out.new.items) }
 {
     if bits >= F::SIGN_BIT {
         out.extend_from_slice(b"-")?;
@@ -46,12 +47,14 @@ pub fn push_number<F: Float>(out: &mut Vec<u8, Global>, bits: u64) -> Result<(),
 /// The text of a float with no sign.
 fn push_size<F: Float>(out: &mut Vec<u8, Global>, bits: u64) -> Result<(), AllocError>
     requires finite { bits < ones F.format * hid F.format }
-    ensures { IfOk result (λ _. out.new.items ≡ out.old.items ++ size_text F.format bits) }
+    ensures text { IfOk result (λ _. out.new.items ≡ out.old.items ++ size_text F.format bits) }
+    ensures ascii { IfOk result (λ _. IsAscii out.old.items → IsAscii out.new.items) }
 {
     if bits == 0 {
         return out.extend_from_slice(b"0.0");
     }
     let (digits, power) = shortest_decimal::<F>(bits);
     let mut buffer = Buffer::new();
-    push_layout(out, buffer.format(digits).as_bytes(), power as usize)
+    push_layout(out, buffer.format(digits).as_bytes(), power as usize)?;
+    Ok(())
 }

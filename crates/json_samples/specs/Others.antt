@@ -1,7 +1,7 @@
 -- Values that full lines have as plain lines do.
 use Prim.Native.String.{String}
 use Rattle.std.specs.Prelude.{◌≡◌, ℕ, ◌-◌, true, false, List, map, None, codes}
-use Rattle.serde_json.specs.Written.{compact_text}
+use Rattle.binlog_json.specs.Json.{compact_text}
 use Rattle.binlog_table.specs.Value as cell
 use Rattle.binlog_table.specs.Value.{Content}
 use Rattle.binlog_json.specs.Values.{content_data}
