@@ -10,9 +10,8 @@ from random import Random
 
 from built.check import Check, Wanted, differs, run
 from built.logs import TABLE_MAP, WRITE_ROWS, front, put, transaction
-from built.rare_paths import Column, rows, table_map
+from built.rare_paths import DOUBLE, FLOAT, Column, rows, table_map
 
-FLOAT, DOUBLE = 4, 5
 # The values of a full line's row.
 VALUES = re.compile(rb'\{"after":\{"d":(.*?),"f":(.*?)\},"before":null,')
 # So many rows of random bits, from this seed on, so many in each event.
