@@ -21,12 +21,12 @@ MOST_DIGITS = 9
 # How many reasons a check gives.
 REASONS = 4
 
-# Bits of DOUBLEs that are hard to print: the least, the least normal one and what lies below it, the greatest, powers of two and ten, where
-# the layout changes, and what is no number.
+# DOUBLEs that are hard to print: the least, the least normal one and what lies below it, the greatest, powers of two and of ten, those
+# where the layout changes, and what is no number.
 HARD_DOUBLES = [
     *(struct.pack("<d", value) for value in (
-        0.0, -0.0, 5e-324, 9.88e-324, 2.2250738585072014e-308, 2.225073858507201e-308, 1.7976931348623157e308, 0.1, 0.3, 0.1 + 0.2, 1e22, 1e23,
-        2.0**-44, 2.0**53, 2.0**53 + 2, 2.0**1023, 1e15, 1e16, 9999999999999998.0, 1e-4, 1e-5, 0.00012345, 123456789012345680.0, -2.5,
+        0.0, -0.0, 5e-324, 9.88e-324, 2.2250738585072014e-308, 2.225073858507201e-308, 1.7976931348623157e308, 0.1, 0.3, 0.1 + 0.2,
+        1e22, 1e23, 2.0**-44, 2.0**53, 2.0**53 + 2, 2.0**1023, 1e15, 1e16, 9999999999999998.0, 1e-4, 1e-5, 0.00012345, 123456789012345680.0, -2.5,
     )),
     *(struct.pack("<Q", bits) for bits in (0x7FF << 52, 0xFFF << 52, 0x7FF8 << 48, (0x7FF << 52) + 1, (1 << 64) - 1)),
     *(struct.pack("<d", 2.0**power) for power in range(-1074, 1024)),
@@ -68,7 +68,7 @@ def float_text(raw: bytes) -> str:
         closest = f"{value:.{digits}e}"
         if reads_back(closest, raw):
             return repr(float(closest))
-        # Beside a power of two, floats are twice as close below it as above: the closest number may lie below, and only the next one read back.
+        # Floats are twice as close below a power of two as above it: the closest number may be too far below, and the next one read back.
         mantissa, exponent = closest.split("e")
         for step in (1, -1):
             other = f"{int(mantissa.replace('.', '')) + step}e{int(exponent) - digits}"
@@ -108,7 +108,8 @@ def judge(images: list[bytes], program: Path, folder: Path) -> list[str]:
     reasons = differs(came, Wanted(0, None))
     if len(found) != len(wanted):
         return [*reasons, f"{len(found)} lines have the two values, and {len(wanted)} should"]
-    return reasons + [f"{image.hex()} is {one}, wanted {other}" for image, one, other in zip(images, found, wanted) if one != other][:REASONS]
+    wrong = [f"{image.hex()} is {one}, wanted {other}" for image, one, other in zip(images, found, wanted) if one != other]
+    return reasons + wrong[:REASONS]
 
 
 def checks() -> list[Check]:
