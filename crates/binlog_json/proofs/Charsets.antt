@@ -3,7 +3,7 @@ use Rattle.std.proofs.Common.{◌≡◌, ◌++◌, ℕ, List, Result, Ok, Err, i
 use Rattle.base64.specs.Engines.{standard}
 use Rattle.base64.specs.GeneralPurpose.{encode_of}
 use Rattle.json.specs.Print.{escape_byte, quoted}
-use Rattle.serde_json.specs.Written.{compact_text}
+use Rattle.binlog_json.specs.Json.{compact_text}
 use Rattle.binlog_json.specs.FullValues.{named_bytes}
 
 named_bytes_are : (name bytes : List ℕ) → codes "{\"base64\":" ++ (quoted (encode_of standard bytes) ++ (codes ",\"charset\":" ++ (quoted name ++ codes "}"))) ≡ compact_text (named_bytes name bytes)

@@ -1,8 +1,8 @@
 -- The texts of an image's columns, in the order of their names.
 use Rattle.std.proofs.Common.{◌≡◌, ℕ, zero, suc, ◌+◌, ◌<◌, ◌≤◌, List, [], ◌∷◌, ◌++◌, Bool, true, false, cond, not, ◌||◌, length, drop, get_or, slice_get, slice_index_or, Some, append_assoc, drop_of_length-le, drop-cons, add-one, refl, ap, sym, ◌∙◌, arith}
 use Rattle.json.specs.Print.{quoted}
-use Rattle.serde_json.specs.Data.{Data, Members, member}
-use Rattle.serde_json.specs.Written.{compact_text, members_text}
+use Rattle.binlog_json.specs.Json.{Data, Members, member}
+use Rattle.binlog_json.specs.Json.{compact_text, members_text}
 use Rattle.binlog_table.specs.declared.cell.Cell.{Cell}
 use Rattle.binlog_table.specs.declared.cell.Cell.TheVariants as cells
 use Rattle.binlog_table.specs.MapWords.{value_names_in}

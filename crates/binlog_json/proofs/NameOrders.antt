@@ -6,7 +6,7 @@ use Rattle.std.specs.List.{fold, range_with_len, AllByRecursion}
 use Rattle.std.specs.List.Sorted.{IsStrictlySortedBy}
 use Rattle.std.specs.Ordering.{nat_cmp}
 use Rattle.std.specs.Cmp.Lexicographic.{slice_cmp}
-use Rattle.serde_json.specs.Data.{Data, Members, member, no_members, put}
+use Rattle.binlog_json.specs.Json.{Data, Members, member, no_members, put}
 use Rattle.binlog_table.specs.RowImage.{RowImage}
 use Rattle.binlog_table.specs.NameOrder.{IsNameOrder, name_of}
 use Rattle.binlog_json.specs.Values.{is_absent}

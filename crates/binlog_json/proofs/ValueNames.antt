@@ -3,7 +3,7 @@ use Rattle.std.proofs.Common.{◌≡◌, ℕ, zero, suc, ◌+◌, ◌-◌, ◌*�
 use Rattle.std.proofs.Math.Nat.{pow-le-pow_right, one-le-pow, lt-mul-div-succ, mul-div-le}
 use Rattle.std.proofs.lemmas.Grind.{common_steps}
 use Rattle.std.specs.List.{join_with_byte}
-use Rattle.serde_json.specs.Data.{Data}
+use Rattle.binlog_json.specs.Json.{Data}
 use Rattle.binlog_json.specs.Joining.{comma_if, joined_from}
 use Rattle.binlog_json.specs.Values.{whole_number, enum_by, set_by, members_in}
 

@@ -1,8 +1,8 @@
 -- What a column's value is in a full line: by the type that the server declared, with the sign and the character set.
-use Rattle.std.specs.Prelude.{ℕ, ◌-◌, ◌/◌, ℤ, pos, negsuc, Bool, List, [], ◌∷◌, ◌++◌, length, replicate, slice_index_or, Option, Some, None, option_map, nat_le, ◌==◌, codes, if◌then◌else◌}
+use Rattle.std.specs.Prelude.{ℕ, ◌-◌, ◌/◌, ℤ, pos, negsuc, Bool, List, [], ◌∷◌, ◌++◌, length, replicate, slice_index_or, ◌||◌, Option, Some, None, option_map, nat_le, ◌==◌, codes, if◌then◌else◌}
 use Rattle.base64.specs.Engines.{standard}
 use Rattle.base64.specs.GeneralPurpose.{encode_of}
-use Rattle.serde_json.specs.Data.{Data, number, string, object, member, no_members}
+use Rattle.binlog_json.specs.Json.{Data, number, numeral, string, object, member, no_members}
 use Rattle.serde_json.specs.Find.{of_integer}
 use Rattle.binlog_table.specs.Map.{Map}
 use Rattle.binlog_table.specs.MapWords.{value_names_in}
@@ -15,6 +15,7 @@ use Rattle.binlog_types.specs.declared.column_type.ColumnType.{ColumnType}
 use Rattle.binlog_types.specs.declared.charsets.Charset.{Charset}
 use Rattle.binlog_types.specs.declared.charsets.Encoding.{Encoding}
 use Rattle.binlog_types.specs.declared.charsets.Encoding.TheVariants.{Binary}
+use Rattle.float_text.specs.Stored.{stored_text}
 use Rattle.binlog_json.specs.Images.{cell_in}
 use Rattle.binlog_json.specs.Encodings.{decoded, all_decoded, comma_in, joined_by}
 use Rattle.binlog_json.specs.Values.{encoded_data, whole_number, enum_by, set_by, content_data}
@@ -86,6 +87,20 @@ members_text (Some charset) members =
     if is_binary (encoding_of charset) then encoded_data (codes "base64") (joined_by (44 ∷ []) members)
     else text_or_bytes charset (joined_by (comma_in (encoding_of charset)) members) (option_map (joined_by (44 ∷ [])) (all_decoded (encoding_of charset) members))
 
+-- ---- FLOAT and DOUBLE
+
+abbrev pub is_float : ℕ → Bool
+is_float code = code == 4 || code == 5
+
+-- the shortest number that reads back; NaN and the infinities, which have none, are their bytes
+abbrev pub number_or_raw : List ℕ → Option (List ℕ) → Data
+number_or_raw bytes None = encoded_data (codes "raw") bytes
+number_or_raw bytes (Some text) = numeral text
+
+-- the bytes of what is no FLOAT and no DOUBLE stand as they are
+abbrev pub raw_data : ColumnType → List ℕ → Data
+raw_data t bytes = if is_float t.code then number_or_raw bytes (stored_text bytes) else encoded_data (codes "raw") bytes
+
 -- ---- values
 
 abbrev pub full_data : ColumnType → Option (List (List ℕ)) → Content → Data
@@ -94,6 +109,7 @@ full_data t names (cell.uint n) = uint_data t n
 full_data t names (cell.bytes b) = text_data t b
 full_data t names (cell.enum n) = enum_by (text_data t) names n
 full_data t names (cell.set n) = set_by (members_text t.charset) names n
+full_data t names (cell.raw b) = raw_data t b
 full_data t names other = content_data names other
 
 -- the value of a column, counted from 0

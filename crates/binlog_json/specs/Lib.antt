@@ -1,3 +1,4 @@
+pub mod Json
 pub mod Texts
 pub mod Values
 pub mod Images

@@ -1,6 +1,6 @@
 -- The members of an image as they are written.
 use Rattle.std.specs.Prelude.{ℕ, List, [], ◌∷◌, if◌then◌else◌}
-use Rattle.serde_json.specs.Data.{Data, Members, member, no_members}
+use Rattle.binlog_json.specs.Json.{Data, Members, member, no_members}
 use Rattle.binlog_table.specs.RowImage.{RowImage}
 use Rattle.binlog_table.specs.NameOrder.{name_of}
 use Rattle.binlog_json.specs.Values.{is_absent}

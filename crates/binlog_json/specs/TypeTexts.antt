@@ -1,7 +1,7 @@
 -- The texts of columns' types, as a server's own statements name them.
 use Rattle.std.specs.Prelude.{ℕ, List, [], ◌∷◌, ◌++◌, replicate, length, Bool, ◌==◌, ◌||◌, ◌&&◌, not, Option, Some, None, decimal, codes, if◌then◌else◌}
 use Rattle.std.specs.Option.{option_map_or}
-use Rattle.serde_json.specs.Data.{Data, string, object}
+use Rattle.binlog_json.specs.Json.{Data, string, object}
 use Rattle.binlog_table.specs.Map.{Map}
 use Rattle.binlog_table.specs.RowImage.{RowImage}
 use Rattle.binlog_table.specs.Value.{null}

@@ -4,7 +4,7 @@ use Rattle.std.specs.List.{join_with_byte}
 use Rattle.std.specs.Str.{is_utf8}
 use Rattle.base64.specs.Engines.{standard}
 use Rattle.base64.specs.GeneralPurpose.{encode_of}
-use Rattle.serde_json.specs.Data.{Data, null, number, string, object, member, no_members, unsigned}
+use Rattle.binlog_json.specs.Json.{Data, null, number, string, object, member, no_members, unsigned}
 use Rattle.serde_json.specs.Find.{of_integer}
 use Rattle.binlog_table.specs.Value as cell
 use Rattle.binlog_table.specs.Value.{Content}

@@ -1,7 +1,7 @@
 //! Images of full lines, written in the order of the columns' names.
 ghost use Rattle.std.specs.Prelude.{◌≡◌, ◌<◌, ◌++◌, ◌||◌, not, length, slice_index_or, OnOk, IfOk};
-ghost use Rattle.serde_json.specs.Data.{object};
-ghost use Rattle.serde_json.specs.Written.{compact_text};
+ghost use Rattle.binlog_json.specs.Json.{object};
+ghost use Rattle.binlog_json.specs.Json.{compact_text};
 ghost use Rattle.binlog_types.specs.ColumnTypes.{types_of};
 ghost use Rattle.binlog_json.specs.Images.{cell_in, members_by};
 ghost use Rattle.binlog_json.specs.FullValues.{full_value, unknown_type};

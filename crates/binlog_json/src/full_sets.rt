@@ -1,6 +1,6 @@
 //! Values of SET columns in full lines: the names of the members, read by the character set.
 ghost use Rattle.std.specs.Prelude.{◌≡◌, ◌++◌, ◌∷◌, [], map, None, OnOk, IfOk, option_map, string_bytes};
-ghost use Rattle.serde_json.specs.Written.{compact_text};
+ghost use Rattle.binlog_json.specs.Json.{compact_text};
 ghost use Rattle.binlog_types.specs.Charsets.{encoding_of};
 ghost use Rattle.binlog_json.specs.Encodings.{all_decoded, comma_in, joined_by};
 ghost use Rattle.binlog_json.specs.Reading.{IsRead};

@@ -8,7 +8,7 @@ ghost use Rattle.binlog_json.specs.TypeTexts.{types_data, type_of_column, every_
 ghost use Rattle.binlog_json.specs.Images.{cell_in};
 ghost use Rattle.binlog_json.specs.Values.{is_absent};
 ghost use Rattle.binlog_json.specs.Written.{column_text_by};
-ghost use Rattle.serde_json.specs.Written.{compact_text};
+ghost use Rattle.binlog_json.specs.Json.{compact_text};
 ghost use Rattle.binlog_json.specs.LineBytes.{line_bytes};
 
 use crate::append::{Quoter, append_comma};

@@ -1,13 +1,13 @@
 //! Values of columns as full lines have them: by the types that the server declared.
 ghost use Rattle.std.specs.Prelude.{◌≡◌, ◌<◌, ◌≤◌, ◌++◌, codes, length, replicate, ◌-◌, ◌^◌, OnOk, ℤ};
 ghost use Rattle.json.specs.Print.{quoted};
-ghost use Rattle.serde_json.specs.Written.{compact_text};
+ghost use Rattle.binlog_json.specs.Json.{compact_text};
 ghost use Rattle.binlog_table.specs.Value.{view as cell_view};
 ghost use Rattle.binlog_table.specs.MapWords.{value_names_in};
 ghost use Rattle.binlog_types.specs.Charsets.{encoding_of};
 ghost use Rattle.binlog_json.specs.Encodings.{decoded};
 ghost use Rattle.binlog_json.specs.Values.{encoded_data, enum_by, set_by};
-ghost use Rattle.binlog_json.specs.FullValues.{greatest_of, as_unsigned, int_data, uint_data, in_charset, text_or_bytes, is_binary, whole_bytes, text_data, members_text, full_data};
+ghost use Rattle.binlog_json.specs.FullValues.{greatest_of, as_unsigned, int_data, uint_data, in_charset, text_or_bytes, is_binary, whole_bytes, text_data, members_text, is_float, raw_data, full_data};
 ghost use Rattle.binlog_json.specs.LineBytes.{line_bytes};
 
 use crate::append::{Quoter, append_integer, append_number, append_plain};
@@ -16,9 +16,10 @@ use crate::lines::Line;
 use crate::names::{enum_name, is_named, members_of};
 use crate::plain::is_plain;
 use crate::room::Room;
-use crate::values::{append_base64, append_encoded, append_value};
+use crate::values::{append_base64, append_encoded, append_raw, append_value};
 use binlog_table::{Cell, RowView};
 use binlog_types::{Charset, ColumnType, Encoding, charset_name, encoding_of};
+use float_text::push_stored;
 use std::alloc::AllocError;
 
 /// The value of a column of this type with this cell.
@@ -40,10 +41,10 @@ pub(crate) fn append_full_value(
         Cell::Bytes(bytes) => append_column_text(out, room, column_type, bytes),
         Cell::Enum(number) => append_full_enum(out, room, image, column, column_type, *number),
         Cell::Set(number) => append_full_set(out, room, image, column, column_type, *number),
+        Cell::Raw(bytes) => append_full_raw(out, room, column_type, bytes),
         Cell::Absent
         | Cell::Null
         | Cell::Bits(_)
-        | Cell::Raw(_)
         | Cell::Decimal(_)
         | Cell::Year(_)
         | Cell::Date(_)
@@ -224,6 +225,33 @@ fn append_full_set(
     }
     let members = members_of(room.decoder.alloc, image, column, number)?;
     append_members(out, room, column_type.charset, &members)
+}
+
+/// Whether it is the number of FLOAT or DOUBLE.
+fn is_float(code: u8) -> bool
+    ensures { result ≡ is_float code }
+{
+    code == 4 || code == 5
+}
+
+/// The number that a FLOAT or a DOUBLE is. Where it is none, and for other types, the bytes.
+#[inline(never)]
+fn append_full_raw(
+    out: &mut Line,
+    room: &mut Room,
+    column_type: &ColumnType,
+    bytes: &[u8],
+) -> Result<(), AllocError>
+    ensures { OnOk result (line_bytes out.new ≡ line_bytes out.old ++ compact_text (raw_data column_type.now bytes.now)) }
+{
+    if !is_float(column_type.code) {
+        return append_raw(out, &mut room.quoter, &mut room.text, bytes);
+    }
+    room.names.clear();
+    if push_stored(&mut room.names, bytes)? {
+        return out.push_str(unsafe { str::from_utf8_unchecked(&room.names) });
+    }
+    append_raw(out, &mut room.quoter, &mut room.text, bytes)
 }
 
 /// Bytes that are no text, with the zeros that a BINARY has at its end.

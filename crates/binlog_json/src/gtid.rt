@@ -1,7 +1,7 @@
 //! The texts of GTIDs.
 ghost use Rattle.std.specs.Prelude.{◌≡◌, ◌++◌, true, OnOk, string_bytes};
 ghost use Rattle.json.specs.Print.{quoted};
-ghost use Rattle.serde_json.specs.Written.{compact_text};
+ghost use Rattle.binlog_json.specs.Json.{compact_text};
 ghost use Rattle.uuid.specs.Text.{hyphenated_text, lower};
 ghost use Rattle.binlog_json.specs.Line.{gtid_data, gtid_text};
 ghost use Rattle.binlog_json.specs.LineBytes.{line_bytes};

@@ -1,7 +1,7 @@
 //! Images as objects, written in the order of the columns' names.
 ghost use Rattle.std.specs.Prelude.{◌≡◌, ◌<◌, ◌≤◌, ◌++◌, ◌||◌, not, length, take, drop, if◌then◌else◌, OnOk, IfOk};
-ghost use Rattle.serde_json.specs.Data.{object};
-ghost use Rattle.serde_json.specs.Written.{compact_text};
+ghost use Rattle.binlog_json.specs.Json.{object};
+ghost use Rattle.binlog_json.specs.Json.{compact_text};
 ghost use Rattle.binlog_json.specs.Images.{cell_in, image_members};
 ghost use Rattle.binlog_json.specs.Labels.{AreLabels};
 ghost use Rattle.binlog_json.specs.Values.{is_absent};

@@ -2,7 +2,7 @@
 ghost use Rattle.std.specs.Prelude.{◌≡◌, ℕ, ◌<◌, ◌++◌, ◌||◌, List, [], map, length, unwrap_or, if◌then◌else◌, IfOk, OnOk, MatchOption};
 ghost use Rattle.std.specs.List.{join_with_byte};
 ghost use Rattle.binlog_table.specs.MapWords.{value_names_in};
-ghost use Rattle.serde_json.specs.Data.{Data};
+ghost use Rattle.binlog_json.specs.Json.{Data};
 ghost use Rattle.binlog_json.specs.Values.{whole_number, enum_by, set_by, members_in};
 ghost use Rattle.binlog_json.specs.Joining.{comma_if};
 

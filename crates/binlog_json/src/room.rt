@@ -13,7 +13,7 @@ pub(crate) struct Room {
     pub(crate) text: String,
     /// The text of a type before it is quoted.
     pub(crate) table: Line,
-    /// The names of a SET's value, or the bytes of a BINARY.
+    /// The names of a SET's value, the bytes of a BINARY, or the text of a float.
     pub(crate) names: Vec<u8>,
     pub(crate) decoder: Decoder,
 }

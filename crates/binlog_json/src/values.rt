@@ -3,7 +3,7 @@ ghost use Rattle.std.specs.Prelude.{◌≡◌, ◌<◌, ◌++◌, ◌∷◌, [],
 ghost use Rattle.json.specs.Print.{quoted};
 ghost use Rattle.base64.specs.Engines.{standard};
 ghost use Rattle.base64.specs.GeneralPurpose.{encode_of};
-ghost use Rattle.serde_json.specs.Written.{compact_text};
+ghost use Rattle.binlog_json.specs.Json.{compact_text};
 ghost use Rattle.binlog_table.specs.Value.{view as cell_view};
 ghost use Rattle.binlog_table.specs.MapWords.{value_names_in};
 ghost use Rattle.binlog_json.specs.Values.{content_data, bytes_data, encoded_data, enum_data, set_data};
@@ -130,7 +130,7 @@ fn append_any_text(
 
 /// An object whose member says that the bytes are as they are stored.
 #[inline(never)]
-fn append_raw(
+pub(crate) fn append_raw(
     out: &mut Line,
     quoter: &mut Quoter,
     room: &mut String,

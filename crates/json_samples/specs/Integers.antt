@@ -1,7 +1,7 @@
 -- Integers by the sign that the server declared, whatever sign the row was read with.
 use Prim.Native.String.{String}
 use Rattle.std.specs.Prelude.{◌≡◌, ℕ, ℤ, pos, negsuc, Bool, true, false, None, codes}
-use Rattle.serde_json.specs.Written.{compact_text}
+use Rattle.binlog_json.specs.Json.{compact_text}
 use Rattle.binlog_table.specs.Value as cell
 use Rattle.binlog_table.specs.Value.{Content}
 use Rattle.binlog_types.specs.declared.column_type.ColumnType.{ColumnType}

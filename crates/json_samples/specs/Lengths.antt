@@ -1,7 +1,7 @@
 -- Texts of any length, and keys of many columns.
 use Prim.Native.String.{String}
 use Rattle.std.specs.Prelude.{◌≡◌, ℕ, zero, suc, pos, List, [], ◌∷◌, replicate, Some, None, Bool, true, false, codes}
-use Rattle.serde_json.specs.Data.{string}
+use Rattle.binlog_json.specs.Json.{string}
 use Rattle.binlog_select.specs.declared.kind.ChangeKind.TheVariants.{Insert}
 use Rattle.binlog_table.specs.Value as cell
 use Rattle.binlog_table.specs.Value.{Content}

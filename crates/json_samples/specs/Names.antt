@@ -1,7 +1,7 @@
 -- Values of ENUM and SET columns, whose names are read by the columns' character sets.
 use Prim.Native.String.{String}
 use Rattle.std.specs.Prelude.{◌≡◌, ℕ, List, [], ◌∷◌, map, Option, Some, None}
-use Rattle.serde_json.specs.Written.{compact_text}
+use Rattle.binlog_json.specs.Json.{compact_text}
 use Rattle.binlog_table.specs.Value as cell
 use Rattle.binlog_types.specs.declared.charsets.Charset.{Charset}
 use Rattle.binlog_types.specs.declared.charsets.Charset.TheVariants.{Binary, Gbk, Latin1, Ucs2, Utf16, Utf16le, Utf32, Utf8mb4}

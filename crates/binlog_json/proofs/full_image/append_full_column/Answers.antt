@@ -8,7 +8,7 @@ use Rattle.binlog_table.specs.MapWords.{value_names_in}
 use Rattle.binlog_types.specs.declared.column_type.ColumnType.{ColumnType}
 use Rattle.binlog_json.specs.FullValues.{full_data, full_value, type_in, unknown_type}
 use Rattle.binlog_types.specs.ColumnTypes.{types_of}
-use Rattle.serde_json.specs.Data.{Data}
+use Rattle.binlog_json.specs.Json.{Data}
 use Rattle.binlog_json.proofs.ColumnTexts.{past_is_absent, absent_is, present_is, column_is_by, then_value, index_of_get}
 use Rattle.binlog_json.proofs.LabelTexts.{joined_is, joined_utf8, some_label}
 use Rattle.binlog_json.proofs.full_image.append_full_column.Goals as goal

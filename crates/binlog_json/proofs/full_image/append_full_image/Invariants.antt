@@ -1,6 +1,6 @@
 use Rattle.binlog_json.specs.LineBytes.{line_bytes}
 use Rattle.std.proofs.Common.{◌≡◌, ◌++◌, drop, false}
-use Rattle.serde_json.specs.Written.{members_text}
+use Rattle.binlog_json.specs.Json.{members_text}
 use Rattle.binlog_json.specs.Listed.{listed_by}
 use Rattle.binlog_json.specs.FullValues.{full_value}
 use Rattle.binlog_json.proofs.full_image.append_full_image.Given as goal

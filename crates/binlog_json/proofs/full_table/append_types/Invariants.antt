@@ -1,6 +1,6 @@
 use Rattle.binlog_json.specs.LineBytes.{line_bytes}
 use Rattle.std.proofs.Common.{◌≡◌, ◌++◌, drop, false}
-use Rattle.serde_json.specs.Written.{members_text}
+use Rattle.binlog_json.specs.Json.{members_text}
 use Rattle.binlog_json.specs.Listed.{listed_by}
 use Rattle.binlog_json.specs.TypeTexts.{type_of_column, every_column}
 use Rattle.binlog_json.proofs.full_table.append_types.Given as goal

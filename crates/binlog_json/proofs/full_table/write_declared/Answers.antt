@@ -1,5 +1,5 @@
 use Rattle.std.proofs.Common.{codes}
-use Rattle.serde_json.specs.Written.{compact_text}
+use Rattle.binlog_json.specs.Json.{compact_text}
 use Rattle.binlog_json.specs.LineBytes.{line_bytes}
 use Rattle.binlog_json.specs.FullWritten.{key_text}
 use Rattle.binlog_json.specs.TypeTexts.{types_data}

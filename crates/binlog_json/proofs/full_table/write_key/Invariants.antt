@@ -1,6 +1,6 @@
 use Rattle.binlog_json.specs.LineBytes.{line_bytes}
 use Rattle.std.proofs.Common.{◌≡◌, ◌++◌, drop, false}
-use Rattle.serde_json.specs.Written.{items_text}
+use Rattle.binlog_json.specs.Json.{items_text}
 use Rattle.binlog_json.proofs.FullLines.{names_items}
 use Rattle.binlog_json.proofs.full_table.write_key.Given as goal
 

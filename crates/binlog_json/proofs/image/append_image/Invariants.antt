@@ -1,6 +1,6 @@
 use Rattle.binlog_json.specs.LineBytes.{line_bytes}
 use Rattle.std.proofs.Common.{◌≡◌, ◌++◌, drop, false}
-use Rattle.serde_json.specs.Written.{members_text}
+use Rattle.binlog_json.specs.Json.{members_text}
 use Rattle.binlog_json.specs.Listed.{listed}
 use Rattle.binlog_json.proofs.image.append_image.Given as goal
 

@@ -1,7 +1,7 @@
 use Rattle.binlog_json.specs.LineBytes.{line_bytes}
 use Rattle.std.proofs.Common.{◌∙◌, ◌++◌, Option, ap, sym}
 use Rattle.std.specs.Prelude.{is_some}
-use Rattle.serde_json.specs.Data.{Data}
+use Rattle.binlog_json.specs.Json.{Data}
 use Rattle.binlog_json.specs.Written.{text_if}
 use Rattle.binlog_json.proofs.KeyTexts.{first_is, second_text, second_has}
 use Rattle.binlog_json.proofs.key.append_of_either.Goals as goal

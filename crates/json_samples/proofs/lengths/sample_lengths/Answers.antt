@@ -2,7 +2,7 @@ use Rattle.std.proofs.Common.{◌≡◌, ℕ, zero, suc, List, [], ◌∷◌, re
 use Rattle.std.specs.Prelude.{Some}
 use Rattle.std.specs.Str.{IsUtf8, is_utf8}
 use Rattle.std.proofs.lemmas.Str.{IsUtf8-nil, IsUtf8-append, IsUtf8-from_is_utf8, is_utf8-from_IsUtf8}
-use Rattle.serde_json.specs.Data.{string}
+use Rattle.binlog_json.specs.Json.{string}
 use Rattle.binlog_types.specs.declared.charsets.Charset.TheVariants.{Utf8mb4}
 use Rattle.binlog_json.specs.Encodings.{latin1_text}
 use Rattle.binlog_json.specs.FullValues.{text_or_bytes}

@@ -1,0 +1,5 @@
+pub mod Layout
+pub mod Limbs
+pub mod Search
+pub mod Shortest
+pub mod Stored

@@ -1,0 +1,12 @@
+//! The text of a float as a JSON number: the shortest decimal that reads back, laid out as Python's `repr` does.
+#![tactic(auto)]
+
+mod candidate;
+mod layout;
+mod natural;
+mod number;
+mod search;
+mod stored;
+
+pub use number::{push_number, shortest_decimal};
+pub use stored::push_stored;
