@@ -1,0 +1,4 @@
+pub mod Quoting
+pub mod Texts
+pub mod Lengths
+pub mod Steps

@@ -1,0 +1,14 @@
+//! The documents of MySQL's binary form of JSON, as JSON text.
+#![tactic(auto)]
+
+mod append;
+mod bytes;
+mod container;
+mod documents;
+mod read;
+mod scalar;
+mod writer;
+
+pub use read::scalar_at;
+pub use scalar::{Finite, Scalar};
+pub use writer::DocumentWriter;
