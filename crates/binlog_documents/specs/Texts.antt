@@ -1,11 +1,10 @@
 -- A document as compact JSON.
-use Rattle.std.specs.Prelude.{ℕ, List, [], ◌∷◌, ◌++◌, Bool, true, false, codes, decimal, if◌then◌else◌}
+use Rattle.std.specs.Prelude.{ℕ, List, [], ◌∷◌, ◌++◌, Bool, true, false, codes, if◌then◌else◌}
 use Rattle.std.specs.Fmt.{signed_decimal}
 use Rattle.std.specs.Float.{binary64}
 use Rattle.json.specs.Print.{quoted}
-use Rattle.base64.specs.Engines.{standard}
-use Rattle.base64.specs.GeneralPurpose.{encode_of}
-use Rattle.number_text.specs.Layout.{number_text}
+use Rattle.float_text.specs.Layout.{number_text}
+use Rattle.binlog_documents.specs.Opaques.{opaque_text}
 use Rattle.binlog_documents.specs.Document.{Document, null, boolean, integer, double, text, opaque, array, object, Elements, no_elements, element, Members, no_members, member}
 
 abbrev pub comma_if : Bool → List ℕ
@@ -13,13 +12,6 @@ comma_if later = if later then 44 ∷ [] else []
 
 abbrev pub double_text : ℕ → List ℕ
 double_text bits = number_text binary64 bits
-
--- the bytes in base64, and the type
-abbrev pub encoded_text : ℕ → List ℕ → List ℕ
-encoded_text kind bytes = codes "{\"base64\":" ++ (quoted (encode_of standard bytes) ++ (codes ",\"type\":" ++ (decimal kind ++ codes "}")))
-
-abbrev pub opaque_text : ℕ → List ℕ → List ℕ
-opaque_text kind bytes = encoded_text kind bytes
 
 abbrev mutual
   pub document_text : Document → List ℕ

@@ -2,16 +2,14 @@
 ghost use Rattle.std.specs.Prelude.{◌≡◌, ◌++◌, OnOk, decimal};
 ghost use Rattle.std.specs.Fmt.{signed_decimal};
 ghost use Rattle.json.specs.Print.{quoted};
-ghost use Rattle.base64.specs.Engines.{standard};
-ghost use Rattle.base64.specs.GeneralPurpose.{encode_of};
-ghost use Rattle.binlog_documents.specs.Texts.{comma_if, double_text, encoded_text, opaque_text, document_text};
+ghost use Rattle.binlog_documents.specs.Texts.{comma_if, double_text, document_text};
 ghost use Rattle.binlog_documents.specs.ScalarShown.{scalar_view};
 
+use crate::opaque::append_opaque;
 use crate::scalar::{Finite, Scalar};
-use base64::engine::general_purpose::STANDARD;
+use float_text::push_number;
 use itoa::Buffer;
 use json::Writer;
-use number_text::push_number;
 use std::alloc::AllocError;
 use std::mem;
 
@@ -55,32 +53,6 @@ pub(crate) fn append_quoted(out: &mut Vec<u8>, text: &str) -> Result<(), AllocEr
     let written = writer.string(text);
     *out = writer.into_inner();
     written
-}
-
-/// The bytes in base64, as a string.
-fn append_base64(out: &mut Vec<u8>, bytes: &[u8]) -> Result<(), AllocError>
-    ensures { OnOk result (out.new.items ≡ out.old.items ++ quoted (encode_of standard bytes.now)) }
-{
-    let text = STANDARD.encode(*out.allocator(), bytes)?;
-    append_quoted(out, text.as_str())
-}
-
-/// An object that has the bytes in base64, and the type.
-fn append_encoded(out: &mut Vec<u8>, kind: u8, bytes: &[u8]) -> Result<(), AllocError>
-    ensures { OnOk result (out.new.items ≡ out.old.items ++ encoded_text kind bytes.now) }
-{
-    out.extend_from_slice(b"{\"base64\":")?;
-    append_base64(out, bytes)?;
-    out.extend_from_slice(b",\"type\":")?;
-    append_unsigned(out, u64::from(kind))?;
-    out.extend_from_slice(b"}")
-}
-
-/// A value of another of MySQL's types.
-fn append_opaque(out: &mut Vec<u8>, kind: u8, bytes: &[u8]) -> Result<(), AllocError>
-    ensures { OnOk result (out.new.items ≡ out.old.items ++ opaque_text kind bytes.now) }
-{
-    append_encoded(out, kind, bytes)
 }
 
 /// A value that has no parts.

@@ -4,9 +4,13 @@
 mod append;
 mod bytes;
 mod container;
+mod decimal;
 mod documents;
+mod opaque;
+mod padded;
 mod read;
 mod scalar;
+mod time;
 mod writer;
 
 pub use read::scalar_at;

@@ -11,9 +11,9 @@ append_elements-loop-place-preserved t c =
     record {
       room = (entry-room l.entry a.array.count l.place (c.bytes-step.result + 1) (length a.array.bytes.now) c.loop-place-test.true l.invariant.room).1;
       ahead =
-        elements-go (value_at a.depth) (bytes_of a.width) a.array.bytes.now (a.array.count - l.place) (a.array.count - (l.place + 1)) (c.bytes-step.result + 1) l.entry l.from l.out.items c.append_comma.new.out.items
-        c.append_value_in.new.out.items (nat_lt 0 l.place) (nat_lt 0 (l.place + 1)) c.in_ok-end.field-0 c.in-Some.end (elements_behind a.out.now.items false (elements_of (value_at a.depth) (bytes_of a.width) (container_view a.array)))
-        (omega arith) (omega arith) (is-later l.place) c.in_ok-append_comma.ensures c.in_ok-end.ensures.text c.in-Some.is l.invariant.ahead;
+          elements-go (value_at a.depth) (bytes_of a.width) a.array.bytes.now (a.array.count - l.place) (a.array.count - (l.place + 1)) (c.bytes-step.result + 1) l.entry l.from l.out.items c.append_comma.new.out.items
+          c.append_value_in.new.out.items (nat_lt 0 l.place) (nat_lt 0 (l.place + 1)) c.in_ok-end.field-0 c.in-Some.end (elements_behind a.out.now.items false (elements_of (value_at a.depth) (bytes_of a.width) (container_view a.array)))
+          (omega arith) (omega arith) (is-later l.place) c.in_ok-append_comma.ensures c.in_ok-end.ensures.text c.in-Some.is l.invariant.ahead;
     }
 
 pub append_elements-returns-in_default : goal.append_elements-returns-in_default
@@ -22,7 +22,7 @@ append_elements-returns-in_default t c =
     let l = c.loop-place in
     record {
       text = elements-stop (value_at a.depth) (bytes_of a.width) a.array.bytes.now (a.array.count - l.place) l.entry l.from l.out.items c.append_comma.new.out.items c.append_value_in.new.out.items a.out.now.items
-        (nat_lt 0 l.place) c.in_ok-end.field-0 (elements_of (value_at a.depth) (bytes_of a.width) (container_view a.array)) (omega arith) c.in_ok-end.ensures.text c.in_default.is l.invariant.ahead;
+          (nat_lt 0 l.place) c.in_ok-end.field-0 (elements_of (value_at a.depth) (bytes_of a.width) (container_view a.array)) (omega arith) c.in_ok-end.ensures.text c.in_default.is l.invariant.ahead;
     }
 
 pub append_elements-returns : goal.append_elements-returns
@@ -31,7 +31,7 @@ append_elements-returns t c =
     let l = c.loop-place in
     record {
       text = elements-end (value_at a.depth) (bytes_of a.width) a.array.bytes.now (a.array.count - l.place) l.entry l.from l.out.items a.out.now.items (nat_lt 0 l.place)
-        (elements_of (value_at a.depth) (bytes_of a.width) (container_view a.array)) (omega arith) l.invariant.ahead;
+          (elements_of (value_at a.depth) (bytes_of a.width) (container_view a.array)) (omega arith) l.invariant.ahead;
     }
 
 pub append_members-loop-place-preserved : goal.append_members-loop-place-preserved
@@ -42,10 +42,10 @@ append_members-loop-place-preserved t c =
       key_room = (entry-room l.key_entry a.object.count l.place (c.bytes-key_step.result + 2) (length a.object.bytes.now) c.loop-place-test.true l.invariant.key_room).1;
       room = (entry-room l.entry a.object.count l.place (c.bytes-step.result + 1) (length a.object.bytes.now) c.loop-place-test.true l.invariant.room).1;
       ahead =
-        members-go (value_at a.depth) (bytes_of a.width) a.object.bytes.now (a.object.count - l.place) (a.object.count - (l.place + 1)) (c.bytes-key_step.result + 2) (c.bytes-step.result + 1) l.key_entry l.key_from l.entry l.from
-        l.out.items c.append_comma.new.out.items c.append_key_in.new.out.items c.append_value_in.new.out.items (nat_lt 0 l.place) (nat_lt 0 (l.place + 1)) c.in_ok-key_end.field-0 c.in_ok-end.field-0 c.in-Some.key_end c.in-Some-2.end
-        (members_behind a.out.now.items false (members_of (value_at a.depth) (bytes_of a.width) (container_view a.object)))
-        (omega arith) (omega arith) (omega arith) (is-later l.place) c.in_ok-append_comma.ensures c.in_ok-key_end.ensures c.in-Some.is c.in_ok-end.ensures.text c.in-Some-2.is l.invariant.ahead;
+          members-go (value_at a.depth) (bytes_of a.width) a.object.bytes.now (a.object.count - l.place) (a.object.count - (l.place + 1)) (c.bytes-key_step.result + 2) (c.bytes-step.result + 1) l.key_entry l.key_from l.entry l.from
+          l.out.items c.append_comma.new.out.items c.append_key_in.new.out.items c.append_value_in.new.out.items (nat_lt 0 l.place) (nat_lt 0 (l.place + 1)) c.in_ok-key_end.field-0 c.in_ok-end.field-0 c.in-Some.key_end c.in-Some-2.end
+          (members_behind a.out.now.items false (members_of (value_at a.depth) (bytes_of a.width) (container_view a.object)))
+          (omega arith) (omega arith) (omega arith) (is-later l.place) c.in_ok-append_comma.ensures c.in_ok-key_end.ensures c.in-Some.is c.in_ok-end.ensures.text c.in-Some-2.is l.invariant.ahead;
     }
 
 pub append_members-returns-in_default : goal.append_members-returns-in_default
@@ -54,7 +54,7 @@ append_members-returns-in_default t c =
     let l = c.loop-place in
     record {
       text = members-stop_at_key (value_at a.depth) (bytes_of a.width) a.object.bytes.now (a.object.count - l.place) l.key_entry l.key_from l.entry l.from l.out.items c.append_comma.new.out.items c.append_key_in.new.out.items
-        a.out.now.items (nat_lt 0 l.place) c.in_ok-key_end.field-0 (members_of (value_at a.depth) (bytes_of a.width) (container_view a.object)) (omega arith) c.in_ok-key_end.ensures c.in_default.is l.invariant.ahead;
+          a.out.now.items (nat_lt 0 l.place) c.in_ok-key_end.field-0 (members_of (value_at a.depth) (bytes_of a.width) (container_view a.object)) (omega arith) c.in_ok-key_end.ensures c.in_default.is l.invariant.ahead;
     }
 
 pub append_members-returns-in_default-2 : goal.append_members-returns-in_default-2
@@ -63,7 +63,7 @@ append_members-returns-in_default-2 t c =
     let l = c.loop-place in
     record {
       text = members-stop (value_at a.depth) (bytes_of a.width) a.object.bytes.now (a.object.count - l.place) l.key_entry l.key_from l.entry l.from l.out.items c.append_key_in.new.out.items c.append_value_in.new.out.items
-        a.out.now.items (nat_lt 0 l.place) c.in_ok-end.field-0 (members_of (value_at a.depth) (bytes_of a.width) (container_view a.object)) (omega arith) c.in_ok-end.ensures.text c.in_default-2.is l.invariant.ahead;
+          a.out.now.items (nat_lt 0 l.place) c.in_ok-end.field-0 (members_of (value_at a.depth) (bytes_of a.width) (container_view a.object)) (omega arith) c.in_ok-end.ensures.text c.in_default-2.is l.invariant.ahead;
     }
 
 pub append_members-returns : goal.append_members-returns
@@ -72,7 +72,7 @@ append_members-returns t c =
     let l = c.loop-place in
     record {
       text = members-end (value_at a.depth) (bytes_of a.width) a.object.bytes.now (a.object.count - l.place) l.key_entry l.key_from l.entry l.from l.out.items a.out.now.items (nat_lt 0 l.place)
-        (members_of (value_at a.depth) (bytes_of a.width) (container_view a.object)) (omega arith) l.invariant.ahead;
+          (members_of (value_at a.depth) (bytes_of a.width) (container_view a.object)) (omega arith) l.invariant.ahead;
     }
 
 pub append_members-append_value_in-requires : goal.append_members-append_value_in-requires
