@@ -1,0 +1,5 @@
+pub mod Quoting
+pub mod Texts
+pub mod Lengths
+pub mod Steps
+pub mod Times
