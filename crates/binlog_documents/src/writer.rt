@@ -1,5 +1,6 @@
 //! Documents as JSON, at the end of a text.
 ghost use Rattle.std.specs.Prelude.{◌≡◌, IfOk, OnErr};
+ghost use Rattle.std.specs.Str.{IsUtf8};
 ghost use Rattle.binlog_documents.specs.Appended.{IsRead, AppendsText};
 ghost use Rattle.binlog_documents.specs.Values.{value_text};
 
@@ -26,6 +27,7 @@ impl DocumentWriter {
     /// nor is it where memory runs out.
     pub fn append(&mut self, out: &mut Vec<u8>, value: &[u8]) -> Result<bool, AllocError>
         ensures text { IfOk result (AppendsText out.old.items out.new.items (value_text value.now)) }
+        ensures utf8 { IfOk result (λ _. IsUtf8 out.old.items → IsUtf8 out.new.items) }
         ensures err { OnErr result (out.new.items ≡ out.old.items) }
     {
         self.text.clear();
