@@ -1,20 +1,19 @@
 -- The text of a document that is read is UTF-8.
-use Rattle.std.proofs.Common.{◌≡◌, ℕ, zero, suc, ◌+◌, ◌-◌, ◌*◌, ◌<◌, ◌==◌, ◌&&◌, ◌||◌, Bool, true, false, cond, List, [], ◌∷◌, ◌++◌, length, take, drop, decimal, codes, nat_le, nat_lt, Option, Some, None, option_map, option_and_then, unwrap_or, refl, sym, subst, true≢false}
+use Rattle.std.proofs.Common.{◌≡◌, ℕ, zero, suc, ◌+◌, ◌==◌, ◌&&◌, ◌||◌, Bool, true, false, cond, List, [], ◌∷◌, ◌++◌, length, drop, codes, nat_le, Option, Some, None, option_map, unwrap_or, refl, sym, subst, true≢false}
 use Rattle.std.specs.Prelude.{slice_index}
 use Rattle.std.specs.Str.{IsUtf8, is_utf8}
 use Rattle.std.specs.Float.{binary64}
-use Rattle.std.proofs.lemmas.Str.{IsUtf8-append, IsUtf8-nil, IsUtf8-from_ascii, IsUtf8-from_is_utf8}
+use Rattle.std.proofs.lemmas.Str.{IsUtf8-append, IsUtf8-from_ascii, IsUtf8-from_is_utf8}
 use Rattle.byteorder.specs.Endian.{little_number}
 use Rattle.base64.specs.Engines.{standard}
-use Rattle.base64.specs.GeneralPurpose.{encode_of}
 use Rattle.base64.proofs.EngineFacts.{IsAscii-encode_of}
 use Rattle.json.specs.Print.{quoted}
 use Rattle.json.proofs.Printed.Utf8.{IsUtf8-are_ascii, IsUtf8-quoted, are_ascii}
 use Rattle.binlog_documents.specs.Document.{Document, null, boolean, integer, double, text, opaque, array, object, Elements, no_elements, element, Members, no_members, member}
-use Rattle.binlog_documents.specs.Scalars.{◌>>=◌, Reading, literal_of, literal_at, number_at, signed, unsigned, is_finite, double_at, counted_at, utf8_text, text_at, opaque_at, scalar_at}
+use Rattle.binlog_documents.specs.Scalars.{◌>>=◌, Reading, literal_at, number_at, signed, unsigned, is_finite, double_at, counted_at, utf8_text, text_at, opaque_at, scalar_at}
 use Rattle.binlog_documents.specs.Opaques.{encoded_text, time_opaque, decimal_opaque, opaque_text}
 use Rattle.binlog_documents.specs.Texts.{comma_if, document_text, elements_text, members_text}
-use Rattle.binlog_documents.specs.Containers.{Container, element_entry, member_entries, container_at, is_inlined, value_in, key_entry, key_in, elements_in, members_in, elements_of, keys_end, members_of, array_at, object_at, value_at, greatest_depth, document_at}
+use Rattle.binlog_documents.specs.Containers.{Container, element_entry, member_entries, container_at, is_inlined, value_in, key_entry, key_in, elements_in, members_in, elements_of, members_of, array_at, object_at, value_at, greatest_depth, document_at}
 use Rattle.binlog_documents.specs.Values.{value_text}
 use Rattle.binlog_documents.specs.Appended.{IsRead}
 use Rattle.binlog_documents.proofs.Ascii as ascii

@@ -1,9 +1,9 @@
 -- The texts of decimals, dates and times are ASCII.
-use Rattle.std.proofs.Common.{◌≡◌, ℕ, ◌+◌, ◌-◌, ◌*◌, ◌%◌, ◌/◌, ◌^◌, ◌==◌, ◌&&◌, ◌||◌, Bool, true, false, cond, List, [], ◌∷◌, ◌++◌, length, take, drop, decimal, nat_lt, Option, Some, None, option_map, arith}
+use Rattle.std.proofs.Common.{ℕ, ◌-◌, ◌%◌, ◌/◌, ◌^◌, ◌==◌, ◌&&◌, Bool, true, false, cond, List, [], ◌∷◌, ◌++◌, length, take, drop, decimal, nat_lt, Option, Some, None, option_map, arith}
 use Rattle.std.specs.Prelude.{not}
 use Rattle.std.specs.List.{list_all}
 use Rattle.byteorder.specs.Endian.{little_number, big_number}
-use Rattle.binlog_documents.specs.Opaques.{padded, above_micros, day_text, clock_text, in_quotes, span_text, time_text, moment_text, shown_text, is_shown, time_opaque, group_len, groups, group_text, digits_in, has_precision, plain, without_zeros, point_text, scaled_text, decimal_opaque}
+use Rattle.binlog_documents.specs.Opaques.{padded, above_micros, day_text, clock_text, in_quotes, span_text, time_text, moment_text, shown_text, is_shown, time_opaque, group_len, groups, group_text, digits_in, has_precision, without_zeros, point_text, scaled_text, decimal_opaque}
 use Rattle.binlog_documents.proofs.Ascii.{IsAsciiText, none, byte, join, front, rest, either, copies, number}
 
 abbrev OnText : Option (List ℕ) → Type 0
