@@ -1,26 +1,17 @@
 -- What a FLOAT, a DOUBLE and a value of JSON are in a full line.
-use Rattle.std.proofs.Common.{◌≡◌, ℕ, List, [], ◌++◌, Bool, true, false, Option, Some, None, Result, Ok, Err, is_ok, OnOk, if◌then◌else◌, refl, sym, ap, subst, ◌∙◌, codes, true≢false, IsAscii}
-use Rattle.std.specs.Option.{MatchOption}
+use Rattle.std.proofs.Common.{◌≡◌, ℕ, List, [], ◌++◌, Bool, true, false, Option, Some, None, Result, Ok, Err, is_ok, OnOk, IfOk, if◌then◌else◌, refl, sym, ap, subst, ◌∙◌, codes, true≢false, IsAscii}
 use Rattle.std.specs.Str.{IsUtf8}
-use Rattle.std.proofs.lemmas.Str.{IsUtf8-from_ascii, IsUtf8-nil}
+use Rattle.std.proofs.lemmas.Str.{IsUtf8-from_ascii}
 use Rattle.std.proofs.lemmas.Str.Ascii.{IsAscii-nil}
 use Rattle.binlog_documents.specs.Appended.{AppendsText}
 use Rattle.binlog_json.specs.Json.{compact_text}
 use Rattle.binlog_json.specs.Values.{encoded_data}
 use Rattle.binlog_json.specs.FullValues.{written_or_raw}
 
--- how `push_stored` says that a text was appended
-pub appends : (text : Option (List ℕ)) (before after : List ℕ) (is_number : Bool)
-    → MatchOption text ((is_number ≡ false) × (after ≡ before)) (λ text. (is_number ≡ true) × (after ≡ before ++ text)) → AppendsText before after text is_number
-appends None before after is_number is = is
-appends (Some text) before after is_number is = is
-
--- text stays text behind nothing
-pub utf8_behind_nothing : (before after : List ℕ) → (IsAscii before → IsAscii after) → before ≡ [] → IsUtf8 after
-utf8_behind_nothing before after keeps empty = IsUtf8-from_ascii after (keeps (subst IsAscii (sym empty) IsAscii-nil))
-
-pub utf8_as_before : (before after : List ℕ) → (IsUtf8 before → IsUtf8 after) → before ≡ [] → IsUtf8 after
-utf8_as_before before after keeps empty = keeps (subst IsUtf8 (sym empty) IsUtf8-nil)
+-- ASCII behind nothing is text
+pub utf8_of_ascii : {A E : Type 0} (r : Result A E) (before after : List ℕ) → IfOk r (λ _. IsAscii before → IsAscii after) → IfOk r (λ _. before ≡ [] → IsUtf8 after)
+utf8_of_ascii (Ok a) before after keeps = λ empty. IsUtf8-from_ascii after (keeps (subst IsAscii (sym empty) IsAscii-nil))
+utf8_of_ascii (Err e) before after keeps = tt
 
 module _ (text : Option (List ℕ)) (bytes before after : List ℕ) (is_text : Bool) (empty : before ≡ []) (appended : AppendsText before after text is_text) where
   pub text_shown : is_text ≡ true → compact_text (written_or_raw bytes text) ≡ after
