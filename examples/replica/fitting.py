@@ -121,12 +121,12 @@ def bits(log: str, target: str) -> Callable[[int], str]:
     return str
 
 
-def real(raw: bytes) -> str:
+def real(raw: bytes | float) -> str:
     """A FLOAT."""
     return repr(floats.shortest(raw))
 
 
-def double(raw: bytes) -> str:
+def double(raw: bytes | float) -> str:
     """A DOUBLE."""
     return repr(floats.from_raw(raw))
 

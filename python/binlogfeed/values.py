@@ -124,12 +124,13 @@ def _set_of(charset: str | None) -> Convert:
 
 
 def _float_of(code: str) -> Convert:
-    """What makes a number of a FLOAT's or DOUBLE's bytes."""
-    unpack = struct.Struct(code).unpack
+    """What makes the number that a FLOAT or a DOUBLE holds of the shortest one that reads back as it."""
+    form = struct.Struct(code)
 
     def to_float(value: Any) -> float:
-        """The number, exactly."""
-        (number,) = unpack(a2b_base64(value["raw"]))
+        """The number, exactly. A line has NaN and the infinities as bytes."""
+        stored = a2b_base64(value["raw"]) if type(value) is dict else form.pack(value)
+        (number,) = form.unpack(stored)
         return float(number)
 
     return to_float

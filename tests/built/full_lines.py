@@ -1,5 +1,6 @@
 """Full lines beside plain ones: over the logs of servers they tell the same changes, go on behind tokens, and tell the stories of keys.
 What is kept of a table's map is never another one's."""
+import base64
 import json
 import struct
 from functools import partial
@@ -8,6 +9,7 @@ from pathlib import Path
 from typing import NamedTuple
 
 from built.check import Check, Wanted, differs, run
+from built.floats import double_text, float_text
 from built.logs import MAP_BODY, SOURCE_ID, TABLE_MAP, TIME, WRITE_ROWS, front, full_lines, put, transaction, worked_log
 from built.server_logs import BANK, KEYS, SHOP, SHOP_KEYS, logs_of
 from built.truth import TRUTH
@@ -18,7 +20,10 @@ KEY_NAMES = {**{table: list(names) for table, names in SHOP_KEYS.items()}, **{ta
 # What a plain line has that a full line has as it is.
 SAME = ("gtid", "kind", "schema", "table", "timestamp", "token")
 # The first words of types whose values are as in plain lines, of which YEAR is one.
-SAME_TYPES = ("decimal", "float", "double", "year", "date", "time", "datetime", "timestamp", "bit", "json", "geometry")
+SAME_TYPES = ("decimal", "year", "date", "time", "datetime", "timestamp", "bit", "json", "geometry")
+
+# The texts of values that a plain line has as bytes, by the first words of their types.
+NUMBERS = {"float": float_text, "double": double_text}
 
 # How many reasons a check gives.
 REASONS = 4
@@ -58,13 +63,16 @@ def size(type_text: str) -> str:
 
 
 def unlike_image(plain: Line | None, full: Line | None, types: dict[str, str]) -> list[str]:
-    """What an image tells otherwise than a plain line's: its columns, and values of the types that are the same."""
+    """What an image tells otherwise than a plain line's: its columns, values of the types that are the same, and numbers."""
     if plain is None or full is None:
         return [] if plain is full else ["an image is there in one of them only"]
     if list(plain) != list(full):
         return [f"the columns are {list(full)}"]
-    same = [name for name in full if full[name] is None or size(types[name]) in SAME_TYPES]
-    return [f"{name} is {full[name]}" for name in same if full[name] != plain[name]]
+    same = {name: plain[name] for name in full if full[name] is None or size(types[name]) in SAME_TYPES}
+    for name in full.keys() - same.keys():
+        if size(types[name]) in NUMBERS:
+            same[name] = json.loads(NUMBERS[size(types[name])](base64.b64decode(plain[name]["raw"])))
+    return [f"{name} is {full[name]}" for name in same if full[name] != same[name]]
 
 
 def unlike(plain: Line, full: Line) -> list[str]:

@@ -10,8 +10,9 @@ from built.logs import SOURCE_ID, TABLE_MAP, TIME, WRITE_ROWS, field, front, pac
 
 PLACE = len(front())
 # Types of columns, by the number that a table map has.
-TINY, LONG, BLOB, STRING = 0x01, 0x03, 0xFC, 0xFE
+TINY, LONG, FLOAT, DOUBLE, BLOB, STRING = 0x01, 0x03, 0x04, 0x05, 0xFC, 0xFE
 ENUM = 0xF7
+NUMERIC = {TINY, LONG, FLOAT, DOUBLE}
 # Fields of a table map.
 SIGNEDNESS, COLUMN_NAMES, ENUM_VALUES, KEY, KEY_WITH_PREFIX = 1, 4, 6, 8, 9
 # A server's greatest number of columns in a table, and of columns in a key.
@@ -40,7 +41,7 @@ def table_map(columns: list[Column], *fields: bytes, table_id: int = 100, table:
     return (
         struct.pack("<Q", table_id)[:6] + b"\x01\x00\x01s\x00" + bytes([len(table)]) + table.encode() + b"\x00" + packed(len(columns))
         + bytes(column.kind for column in columns) + packed(len(metadata)) + metadata + bits(set(range(len(columns))), len(columns))
-        + field(SIGNEDNESS, bytes((sum(column.kind in (TINY, LONG) for column in columns) + 7) // 8)) + field(COLUMN_NAMES, names)
+        + field(SIGNEDNESS, bytes((sum(column.kind in NUMERIC for column in columns) + 7) // 8)) + field(COLUMN_NAMES, names)
         + b"".join(fields)
     )  # fmt: skip
 

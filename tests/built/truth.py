@@ -130,11 +130,12 @@ def content(value: Json, type_text: str) -> bytes:
 
 def fraction(value: Json, type_text: str) -> float:
     """A FLOAT or a DOUBLE."""
-    raw = coded(value, "raw")
+    if not isinstance(value, float):
+        raise WrongError
     code = {"float": "<f", "double": "<d"}.get(type_text.split(" ")[0])
     if code is None:
         raise OpenError
-    return struct.unpack(code, raw)[0]
+    return struct.unpack(code, struct.pack(code, value))[0]
 
 
 def document(value: Json, type_text: str) -> str:
@@ -291,10 +292,10 @@ SHOWN_VALUES = (
     ("wrong", Cell("decimal", "decimal(3,2)", 3.14, "3.14")),
     ("wrong", Cell("year", "year", 2024, "2024")),
     ("wrong", Cell("time", "time", "00:00:01", "-00:00:01")),
-    ("right", Cell("float", "float", {"raw": "zczMPQ=="}, "0.10000000149011612")),
-    ("wrong", Cell("float", "float", {"raw": "zczMPQ=="}, "0.1")),
-    ("wrong", Cell("float", "double", {"raw": "zczMPQ=="}, "0.1")),
-    ("open", Cell("float", "", {"raw": "zczMPQ=="}, "0.10000000149011612")),
+    ("right", Cell("float", "float", 0.1, "0.10000000149011612")),
+    ("wrong", Cell("float", "float", 0.1, "0.1")),
+    ("wrong", Cell("float", "double", 0.1, "0.10000000149011612")),
+    ("open", Cell("float", "", 0.1, "0.10000000149011612")),
     ("right", Cell("text", "varchar latin1", "é", "C3A9")),
     ("wrong", Cell("text", "text latin1", "é", "C383C2A9")),
     ("wrong", Cell("text", "varchar utf16", {"base64": "AOk=", "charset": "utf16"}, "C3A9")),

@@ -25,6 +25,7 @@ class Floats(unittest.TestCase):
         for value in (0.1, 0.35, 1.2, -1.2, 0.0, 16777216.0, 3.4028235e38, 1e-45, 1.0000001):
             self.assertEqual(floats.shortest(struct.pack("<f", value)), value)
         self.assertEqual(floats.shortest(struct.pack("<d", 0.1)), 0.1)
+        self.assertEqual((floats.shortest(0.1), floats.from_raw(0.1)), (0.1, 0.1))
 
     def test_every_float_of_some(self):
         for code in range(0, 0x7F800000, 7_654_321):

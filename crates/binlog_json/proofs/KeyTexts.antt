@@ -18,10 +18,10 @@ use Rattle.binlog_table.specs.declared.row_view.Side.TheVariants.{Before, After}
 use Rattle.binlog_feed.specs.Changes.{RowChange}
 use Rattle.binlog_types.specs.ColumnTypes.{types_of}
 use Rattle.binlog_types.specs.declared.column_type.ColumnType.{ColumnType}
-use Rattle.binlog_json.specs.FullValues.{full_data, type_in, unknown_type}
+use Rattle.binlog_json.specs.FullValues.{type_in, unknown_type}
 use Rattle.binlog_json.specs.Joining.{comma_if}
 use Rattle.binlog_json.specs.Line.{before_of}
-use Rattle.binlog_json.specs.Keys.{HasTypes, different_texts, image_key, is_text, key_of, key_text_as, keys_as, value_as, value_in, value_in_either, values_in}
+use Rattle.binlog_json.specs.Keys.{HasTypes, different_texts, full_key_data, image_key, is_text, key_of, key_text_as, keys_as, value_as, value_in, value_in_either, values_in}
 use Rattle.binlog_json.specs.declared.style.Style.{Style}
 use Rattle.binlog_json.specs.declared.style.Style.TheVariants.{Plain, Full}
 use Rattle.binlog_json.specs.Values.{content_data}
@@ -43,11 +43,11 @@ plain_value image column cell at = ap (content_data (value_names_in image.table 
 
 full_value_is : (image : RowImage) (column : ℕ) (cell : Cell) (types : List ColumnType) (t : ColumnType) → slice_get image.cells column ≡ Some (view cell)
     → types ≡ types_of image.table.sections → t ≡ slice_index_or types column unknown_type
-    → value_as Full image column ≡ full_data t (value_names_in image.table column) (view cell)
+    → value_as Full image column ≡ full_key_data t (value_names_in image.table column) (view cell)
 full_value_is image column cell types t at declared is =
     let type_is : t ≡ type_in image.table column = is ∙ ap (λ (list : List ColumnType). slice_index_or list column unknown_type) declared in
-    ap (full_data (type_in image.table column) (value_names_in image.table column)) (index_of_get image.cells column (view cell) absent at)
-    ∙ ap (λ (given : ColumnType). full_data given (value_names_in image.table column) (view cell)) (sym type_is)
+    ap (full_key_data (type_in image.table column) (value_names_in image.table column)) (index_of_get image.cells column (view cell) absent at)
+    ∙ ap (λ (given : ColumnType). full_key_data given (value_names_in image.table column) (view cell)) (sym type_is)
 
 pub plain_written : {E : Type 0} (r : Result (Unit {0}) E) (style : Style) (image : RowImage) (column : ℕ) (cell : Cell) (old new : List ℕ) → style ≡ Plain
     → slice_get image.cells column ≡ Some (view cell) → OnOk r (new ≡ old ++ compact_text (content_data (value_names_in image.table column) (view cell)))
@@ -58,7 +58,7 @@ plain_written (Err x) style image column cell old new plain at text = tt
 
 pub full_written : {E : Type 0} (r : Result (Unit {0}) E) (style : Style) (image : RowImage) (column : ℕ) (cell : Cell) (types : List ColumnType) (t : ColumnType) (old new : List ℕ) → style ≡ Full
     → slice_get image.cells column ≡ Some (view cell) → HasTypes style types image.table → t ≡ slice_index_or types column unknown_type
-    → OnOk r (new ≡ old ++ compact_text (full_data t (value_names_in image.table column) (view cell)))
+    → OnOk r (new ≡ old ++ compact_text (full_key_data t (value_names_in image.table column) (view cell)))
     → OnOk r (new ≡ old ++ compact_text (value_as style image column))
 full_written (Ok u) style image column cell types t old new full at has is text =
     let declared : types ≡ types_of image.table.sections = subst (λ (s : Style). HasTypes s types image.table) full has in

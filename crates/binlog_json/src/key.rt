@@ -4,8 +4,9 @@ ghost use Rattle.std.specs.List.{list_any};
 ghost use Rattle.std.specs.Str.{bytes_eq};
 ghost use Rattle.binlog_json.specs.Json.{compact_text};
 ghost use Rattle.binlog_table.specs.Value.{view as cell_view};
+ghost use Rattle.binlog_table.specs.MapWords.{value_names_in};
 ghost use Rattle.binlog_feed.specs.Changes.{view};
-ghost use Rattle.binlog_json.specs.Keys.{HasTypes, has_key as is_of_key, has_key_as as is_of_key_as, image_key as key_of_image, is_text, key_text_as as text_of_key, key_text_of, keys_as, value_as, value_in, value_in_either};
+ghost use Rattle.binlog_json.specs.Keys.{HasTypes, full_key_data, has_key as is_of_key, has_key_as as is_of_key_as, image_key as key_of_image, is_text, key_text_as as text_of_key, key_text_of, keys_as, value_as, value_in, value_in_either};
 ghost use Rattle.binlog_json.specs.Written.{text_if};
 ghost use Rattle.binlog_json.specs.LineBytes.{line_bytes};
 
@@ -161,8 +162,40 @@ fn append_value_as(
         Style::Plain => append_value(out, room, image, column, cell),
         Style::Full => {
             let column_type = type_at(types, column);
-            append_full_value(out, room, image, column, &column_type, cell)
+            append_full_key_value(out, room, image, column, &column_type, cell)
         }
+    }
+}
+
+/// Appends the value of a column of this type with this cell as full keys have it: a FLOAT or a DOUBLE as bytes.
+fn append_full_key_value(
+    out: &mut Line,
+    room: &mut Room,
+    image: &RowView<'_>,
+    column: usize,
+    column_type: &ColumnType,
+    cell: &Cell<'_>,
+) -> Result<(), AllocError>
+    requires { column < length image.now.table.columns }
+    ensures { OnOk result (line_bytes out.new ≡ line_bytes out.old ++ compact_text
+        (full_key_data column_type.now (value_names_in image.now.table column) (cell_view cell.now))) }
+{
+    match cell {
+        Cell::Raw(_) => append_value(out, room, image, column, cell),
+        Cell::Absent
+        | Cell::Null
+        | Cell::Int(_)
+        | Cell::UInt(_)
+        | Cell::Bits(_)
+        | Cell::Enum(_)
+        | Cell::Set(_)
+        | Cell::Bytes(_)
+        | Cell::Decimal(_)
+        | Cell::Year(_)
+        | Cell::Date(_)
+        | Cell::DateTime(_)
+        | Cell::Time(_)
+        | Cell::Timestamp(_) => append_full_value(out, room, image, column, column_type, cell),
     }
 }
 

@@ -1,8 +1,9 @@
 -- The power that no decimal above reads back at, and the digits there.
 use Rattle.std.proofs.Common.{◌≡◌, ℕ, zero, suc, ◌+◌, ◌-◌, ◌*◌, ◌/◌, ◌^◌, ◌<◌, ◌≤◌, Bool, true, false, T, refl, sym, ap, ◌∙◌, subst, inl, inr, arith, eq-zero-or-pos, mul-le-mul_right}
+use native.Mathlib.Nat.{le_of_lt, mul-le-mul, pow-le-pow_right}
 use lib.Pow.{pow-add}
 use borrow.Author.Tests.{eq-eqb, ne_eqb}
-use lib.Dec.{eqb→eq}
+use lib.Dec.{eqb→eq, lit<}
 use lib.Ieee.{Format}
 use Rattle.fast_float.specs.Rounding.{IsNearestBits}
 use Rattle.fast_float.proofs.ExactLemmas.{ten_to_pos}
@@ -103,3 +104,19 @@ coarsest_from f bits d e (suc n) l some is none =
 
 pub shortest_is : (f : Format) (bits d e : ℕ) → e ≤ 709 → 0 < d → digits_at f bits e ≡ d → ((i : ℕ) → e < i → digits_at f bits i ≡ 0) → shortest f bits ≡ (d, e)
 shortest_is f bits d e l some is none = coarsest_from f bits d e 709 l some is none
+
+-- Of all decimals that read back, that of the greatest power has the fewest digits: with more than n digits, where another has n, a 1
+-- with zeros would lie between the two, and read back at a greater power.
+pub few_digits : (f : Format) (bits d e : ℕ) → IsFinite f bits → reads_as f bits d e ≡ true → ((x i : ℕ) → reads_as f bits x i ≡ true → i ≤ e) → (x i n : ℕ) → reads_as f bits x i ≡ true → 0 < n → x < 10 ^ n → d < 10 ^ n
+few_digits f bits d e F read greatest x i n other some small =
+    elim (eq-zero-or-pos (10 ^ n - d)) [
+      | inr p ↦ omega arith
+      | inl z ↦
+          let many : 10 ^ n ≤ d = omega arith in
+          let one : 1 * 10 ^ (e + n) ≡ 10 ^ n * 10 ^ e = omega (arith, pow-add 10 e n) in
+          let from : x * 10 ^ i ≤ 10 ^ n * 10 ^ e = mul-le-mul (le_of_lt small) (pow-le-pow_right (lit< tt) (greatest x i other)) in
+          let to : 10 ^ n * 10 ^ e ≤ d * 10 ^ e = mul-le-mul_right (10 ^ e) many in
+          let between = between_decimals f bits 1 (e + n) x i d e F (read_of_test f bits x i F other) (read_of_test f bits d e F read) (rw one from) (rw one to) in
+          let least = greatest 1 (e + n) (test_of_read f bits 1 (e + n) between) in
+          absurd (omega arith)
+    ]

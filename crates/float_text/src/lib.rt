@@ -8,5 +8,5 @@ mod number;
 mod search;
 mod stored;
 
-pub use number::push_number;
+pub use number::{push_number, shortest_decimal};
 pub use stored::push_stored;

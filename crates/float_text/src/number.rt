@@ -1,5 +1,5 @@
 //! The text of a finite float, by its bits.
-ghost use Rattle.std.specs.Prelude.{◌≡◌, ℕ, ◌+◌, ◌*◌, ◌%◌, ◌<◌, ◌≤◌, ◌++◌, true, IfOk, IsAscii};
+ghost use Rattle.std.specs.Prelude.{◌≡◌, ℕ, ◌+◌, ◌*◌, ◌%◌, ◌^◌, ◌<◌, ◌≤◌, ◌++◌, true, IfOk, IsAscii};
 ghost use Rattle.std.specs.Float.Ieee.{top, ones, hid};
 ghost use Rattle.float_text.specs.Shortest.{IsFinite, reads_as, scaled_num, scaled_den, shortest};
 ghost use Rattle.float_text.specs.Layout.{size_text, number_text};
@@ -12,8 +12,8 @@ use ryu::Float;
 use std::alloc::{AllocError, Global};
 
 /// The digits of the shortest decimal, and its power plus 400: the greatest power at which a decimal reads back, and the digits at
-/// it that are the closest.
-fn shortest_decimal<F: Float>(bits: u64) -> (u64, u64)
+/// it that are the closest. No decimal that reads back has fewer digits.
+pub fn shortest_decimal<F: Float>(bits: u64) -> (u64, u64)
     requires { IsFinite F.format bits }
     ensures same { result ≡ shortest F.format bits }
     ensures reads { reads_as F.format bits result.0 result.1 ≡ true }
@@ -22,6 +22,7 @@ fn shortest_decimal<F: Float>(bits: u64) -> (u64, u64)
         → 2 * scaled_num F.format bits ≤ (result.0 + x) * scaled_den F.format result.1 }
     ensures closest_below { (x : ℕ) → x < result.0 → reads_as F.format bits x result.1 ≡ true
         → (result.0 + x) * scaled_den F.format result.1 ≤ 2 * scaled_num F.format bits }
+    ensures fewest { (x i n : ℕ) → reads_as F.format bits x i ≡ true → 0 < n → x < 10 ^ n → result.0 < 10 ^ n }
     ensures power { result.1 ≤ 708 }
 {
     let (digits, power) = candidate::<F>(bits);

@@ -1,4 +1,4 @@
--- Values that full lines have as plain lines do.
+-- FLOAT and DOUBLE in full lines, and values that full lines have as plain lines do.
 use Prim.Native.String.{String}
 use Rattle.std.specs.Prelude.{◌≡◌, ℕ, ◌-◌, true, false, List, map, None, codes}
 use Rattle.binlog_json.specs.Json.{compact_text}
@@ -32,9 +32,29 @@ Decimals =
     × Both 246 (cell.decimal (record { negative = true; digits = digits "0000"; scale = 2 })) "\"0.00\""
     × Both 246 (cell.decimal (record { negative = false; digits = digits "120"; scale = 0 })) "\"120\""
 
--- BIT(9), FLOAT 1.5, DOUBLE 0.1, the JSON {"a":1}, and null
+-- a value of a type has this JSON in full lines, and that in plain ones
+abbrev pub Each : ℕ → Content → String → String → Type 0
+Each code content full plain = (compact_text (full_data (text_type code 0 None) None content) ≡ codes full) × (compact_text (content_data None content) ≡ codes plain)
+
+-- the FLOATs 1.5, 0.1 and 1e-07, and the DOUBLEs 0.1, 1e+22 and a zero with a sign
+abbrev pub Floats : Type 0
+Floats =
+    Each 4 (cell.raw (hex "00 00 c0 3f")) "1.5" "{\"raw\":\"AADAPw==\"}"
+    × Each 4 (cell.raw (hex "cd cc cc 3d")) "0.1" "{\"raw\":\"zczMPQ==\"}"
+    × Each 4 (cell.raw (hex "95 bf d6 33")) "1e-07" "{\"raw\":\"lb/WMw==\"}"
+    × Each 5 (cell.raw (hex "9a 99 99 99 99 99 b9 3f")) "0.1" "{\"raw\":\"mpmZmZmZuT8=\"}"
+    × Each 5 (cell.raw (hex "92 d5 4d 06 cf f0 80 44")) "1e+22" "{\"raw\":\"ktVNBs/wgEQ=\"}"
+    × Each 5 (cell.raw (hex "00 00 00 00 00 00 00 80")) "-0.0" "{\"raw\":\"AAAAAAAAAIA=\"}"
+
+-- an infinity and a NaN of each
+abbrev pub NoNumbers : Type 0
+NoNumbers =
+    Both 4 (cell.raw (hex "00 00 80 7f")) "{\"raw\":\"AACAfw==\"}"
+    × Both 4 (cell.raw (hex "00 00 c0 ff")) "{\"raw\":\"AADA/w==\"}"
+    × Both 5 (cell.raw (hex "00 00 00 00 00 00 f0 7f")) "{\"raw\":\"AAAAAAAA8H8=\"}"
+    × Both 5 (cell.raw (hex "01 00 00 00 00 00 f0 ff")) "{\"raw\":\"AQAAAAAA8P8=\"}"
+
+-- BIT(9), the JSON {"a":1}, and null
 abbrev pub RawValues : Type 0
 RawValues =
-    Both 16 (cell.bits 257) "257" × Both 4 (cell.raw (hex "00 00 c0 3f")) "{\"raw\":\"AADAPw==\"}"
-    × Both 5 (cell.raw (hex "9a 99 99 99 99 99 b9 3f")) "{\"raw\":\"mpmZmZmZuT8=\"}"
-    × Both 245 (cell.raw (hex "00 01 00 0c 00 0b 00 01 00 05 01 00 61")) "{\"raw\":\"AAEADAALAAEABQEAYQ==\"}" × Both 15 cell.null "null"
+    Both 16 (cell.bits 257) "257" × Both 245 (cell.raw (hex "00 01 00 0c 00 0b 00 01 00 05 01 00 61")) "{\"raw\":\"AAEADAALAAEABQEAYQ==\"}" × Both 15 cell.null "null"

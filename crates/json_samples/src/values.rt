@@ -2,9 +2,9 @@
 ghost use Rattle.json_samples.specs.Integers.{Tiny, Small, Medium, Long, LongLong};
 ghost use Rattle.json_samples.specs.Texts.{Latin1Texts, Windows1252, Utf8Texts, NoUtf8, Utf16Texts, NoUtf16, Utf32Texts, NoUtf32, OtherCharsets, Binaries, NoCharset};
 ghost use Rattle.json_samples.specs.Names.{Unnamed, Enums, EnumBytes, Sets, WideSets, MalformedSets, SetBytes};
-ghost use Rattle.json_samples.specs.Others.{Times, Decimals, RawValues};
+ghost use Rattle.json_samples.specs.Others.{Times, Decimals, Floats, NoNumbers, RawValues};
 
-/// Integers by the server's sign, texts by their character sets, values of ENUM and SET, and those that plain lines have, too.
+/// Integers by the server's sign, texts by their character sets, values of ENUM and SET, FLOAT and DOUBLE, and those that plain lines have, too.
 pub fn sample_full_values()
     ensures tiny { Tiny }
     ensures small { Small }
@@ -31,5 +31,7 @@ pub fn sample_full_values()
     ensures set_bytes { SetBytes }
     ensures times { Times }
     ensures decimals { Decimals }
+    ensures floats { Floats }
+    ensures no_numbers { NoNumbers }
     ensures raw_values { RawValues }
 {}

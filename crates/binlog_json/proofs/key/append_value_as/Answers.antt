@@ -9,5 +9,5 @@ returns-in-Plain c =
 
 pub returns-in-Full : goal.returns-in-Full
 returns-in-Full c =
-    full_written c.append_full_value.result c.args.style c.args.image.now c.args.column c.args.cell.now c.args.types.now c.type_at-column_type.result (line_bytes c.args.out.now) (line_bytes c.append_full_value.new.out)
-    c.in-Full.is c.requires.cell c.requires.types c.type_at-column_type.ensures c.append_full_value.ensures
+    full_written c.append_full_key_value.result c.args.style c.args.image.now c.args.column c.args.cell.now c.args.types.now c.type_at-column_type.result (line_bytes c.args.out.now) (line_bytes c.append_full_key_value.new.out)
+    c.in-Full.is c.requires.cell c.requires.types c.type_at-column_type.ensures c.append_full_key_value.ensures
