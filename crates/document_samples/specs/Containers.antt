@@ -21,7 +21,8 @@ Objects =
 -- Bytes that belong to no value may stand between values, behind the last one and behind the whole.
 abbrev pub Gaps : Type 0
 Gaps =
-    Says "02 02 00 0f 00 0c 0a 00 0c 0d 00 02 61 62 01 63" "[\"ab\",\"c\"]" × Says "02 02 00 13 00 0c 0b 00 0c 10 00 ff 02 61 62 ff ff 01 63 ff" "[\"ab\",\"c\"]"
+    Says "00 01 00 1a 00 0b 00 01 00 02 0c 00 61 02 00 0e 00 05 01 00 0c 0b 00 ff 02 c3 a9" "{\"a\":[1,\"é\"]}"
+    × Says "02 02 00 0f 00 0c 0a 00 0c 0d 00 02 61 62 01 63" "[\"ab\",\"c\"]" × Says "02 02 00 13 00 0c 0b 00 0c 10 00 ff 02 61 62 ff ff 01 63 ff" "[\"ab\",\"c\"]"
     × Says "02 02 00 0f 00 0c 0a 00 0c 0d 00 01 61 ff 01 63 ff ff" "[\"a\",\"c\"]" × Says "00 01 00 0f 00 0d 00 01 00 05 01 00 ff ff 61 ff ff" "{\"a\":1}"
 
 -- A size beyond the bytes, one that has no room for the entries, and entries that say more than there is.
