@@ -309,11 +309,12 @@ unfolding document_at
 value_is_text [] = record { has = document_is_text null tt }
 value_is_text (kind ∷ bytes) = reading_text (value_at greatest_depth kind bytes) (value_sound greatest_depth kind bytes)
 
-read_text : (o : Option (List ℕ)) (old new : List ℕ) → SoundText o → IsRead old new o true → IsUtf8 old → IsUtf8 new
-read_text None old new p read utf8 = absurd (true≢false read)
-read_text (Some t) old new p read utf8 = subst IsUtf8 (sym read.1) (IsUtf8-append old t utf8 p.has.utf8)
+read_text : (o : Option (List ℕ)) (t : List ℕ) → Some t ≡ o → SoundText o → IsUtf8 t
+read_text None t is p = absurd cc
+read_text (Some found) t is p =
+    let same : found ≡ t = cc in
+    subst IsUtf8 same p.has.utf8
 
--- a text that was read behind another one is text
-pub read_utf8 : (value old new : List ℕ) (is_text : Bool) → is_text ≡ true → IsRead old new (value_text value) is_text → IsUtf8 old → IsUtf8 new
-read_utf8 value old new true given read utf8 = read_text (value_text value) old new (value_is_text value) read utf8
-read_utf8 value old new false given read utf8 = absurd (true≢false (sym given))
+-- the text of a value is UTF-8
+pub text_utf8 : (value t : List ℕ) → Some t ≡ value_text value → IsUtf8 t
+text_utf8 value t is = read_text (value_text value) t is (value_is_text value)

@@ -1,5 +1,5 @@
 //! Documents as JSON, at the end of a text.
-ghost use Rattle.std.specs.Prelude.{◌≡◌, IfOk, OnErr};
+ghost use Rattle.std.specs.Prelude.{◌≡◌, IfOk, OnErr, option_map};
 ghost use Rattle.std.specs.Str.{IsUtf8};
 ghost use Rattle.binlog_documents.specs.Appended.{IsRead, AppendsText};
 ghost use Rattle.binlog_documents.specs.Values.{value_text};
@@ -23,6 +23,18 @@ impl DocumentWriter {
         }
     }
 
+    /// The document that a column's value is, as compact JSON; none where the value is no document. It stands until the next call.
+    pub fn text(&mut self, value: &[u8]) -> Result<Option<&[u8]>, AllocError>
+        ensures { IfOk result (λ text. option_map (λ t. t.now) text ≡ value_text value.now) }
+    {
+        self.text.clear();
+        if append_document(&mut self.text, value)? {
+            Ok(Some(&self.text))
+        } else {
+            Ok(None)
+        }
+    }
+
     /// Appends the document that a column's value is, as compact JSON. False where the value is no document; nothing is appended then,
     /// nor is it where memory runs out.
     pub fn append(&mut self, out: &mut Vec<u8>, value: &[u8]) -> Result<bool, AllocError>
@@ -30,11 +42,10 @@ impl DocumentWriter {
         ensures utf8 { IfOk result (λ _. IsUtf8 out.old.items → IsUtf8 out.new.items) }
         ensures err { OnErr result (out.new.items ≡ out.old.items) }
     {
-        self.text.clear();
-        if !append_document(&mut self.text, value)? {
+        let Some(text) = self.text(value)? else {
             return Ok(false);
-        }
-        out.extend_from_slice(&self.text)?;
+        };
+        out.extend_from_slice(text)?;
         Ok(true)
     }
 }
