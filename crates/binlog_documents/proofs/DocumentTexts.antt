@@ -1,5 +1,5 @@
 -- The text of a document that is read is UTF-8.
-use Rattle.std.proofs.Common.{◌≡◌, ℕ, zero, suc, ◌+◌, ◌==◌, ◌&&◌, ◌||◌, Bool, true, false, cond, List, [], ◌∷◌, ◌++◌, length, drop, codes, nat_le, Option, Some, None, option_map, unwrap_or, refl, sym, subst, true≢false}
+use Rattle.std.proofs.Common.{◌≡◌, ℕ, zero, suc, ◌+◌, ◌==◌, ◌&&◌, ◌||◌, Bool, true, false, cond, List, [], ◌∷◌, ◌++◌, length, drop, codes, nat_le, Option, Some, None, option_map, unwrap_or, refl, subst}
 use Rattle.std.specs.Prelude.{slice_index}
 use Rattle.std.specs.Str.{IsUtf8, is_utf8}
 use Rattle.std.specs.Float.{binary64}
@@ -15,7 +15,6 @@ use Rattle.binlog_documents.specs.Opaques.{encoded_text, time_opaque, decimal_op
 use Rattle.binlog_documents.specs.Texts.{comma_if, document_text, elements_text, members_text}
 use Rattle.binlog_documents.specs.Containers.{Container, element_entry, member_entries, container_at, is_inlined, value_in, key_entry, key_in, elements_in, members_in, elements_of, members_of, array_at, object_at, value_at, greatest_depth, document_at}
 use Rattle.binlog_documents.specs.Values.{value_text}
-use Rattle.binlog_documents.specs.Appended.{IsRead}
 use Rattle.binlog_documents.proofs.Ascii as ascii
 use Rattle.binlog_documents.proofs.Ascii.{IsAsciiText}
 use Rattle.binlog_documents.proofs.OpaqueTexts.{IsAsciiOption, time_ascii, decimal_ascii}
