@@ -25,4 +25,4 @@ pub mod Transcoding
 pub mod FullLines
 pub mod Charsets
 pub mod TypeLists
-pub mod FloatTexts
+pub mod RawTexts

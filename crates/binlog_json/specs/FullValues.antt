@@ -2,7 +2,7 @@
 use Rattle.std.specs.Prelude.{ℕ, ◌-◌, ◌/◌, ℤ, pos, negsuc, Bool, List, [], ◌∷◌, ◌++◌, length, replicate, slice_index_or, ◌||◌, Option, Some, None, option_map, nat_le, ◌==◌, codes, if◌then◌else◌}
 use Rattle.base64.specs.Engines.{standard}
 use Rattle.base64.specs.GeneralPurpose.{encode_of}
-use Rattle.binlog_json.specs.Json.{Data, number, numeral, string, object, member, no_members}
+use Rattle.binlog_json.specs.Json.{Data, number, written, string, object, member, no_members}
 use Rattle.serde_json.specs.Find.{of_integer}
 use Rattle.binlog_table.specs.Map.{Map}
 use Rattle.binlog_table.specs.MapWords.{value_names_in}
@@ -16,6 +16,7 @@ use Rattle.binlog_types.specs.declared.charsets.Charset.{Charset}
 use Rattle.binlog_types.specs.declared.charsets.Encoding.{Encoding}
 use Rattle.binlog_types.specs.declared.charsets.Encoding.TheVariants.{Binary}
 use Rattle.float_text.specs.Stored.{stored_text}
+use Rattle.binlog_documents.specs.Values.{value_text}
 use Rattle.binlog_json.specs.Images.{cell_in}
 use Rattle.binlog_json.specs.Encodings.{decoded, all_decoded, comma_in, joined_by}
 use Rattle.binlog_json.specs.Values.{encoded_data, whole_number, enum_by, set_by, content_data}
@@ -87,19 +88,26 @@ members_text (Some charset) members =
     if is_binary (encoding_of charset) then encoded_data (codes "base64") (joined_by (44 ∷ []) members)
     else text_or_bytes charset (joined_by (comma_in (encoding_of charset)) members) (option_map (joined_by (44 ∷ [])) (all_decoded (encoding_of charset) members))
 
--- ---- FLOAT and DOUBLE
+-- ---- FLOAT, DOUBLE and JSON
 
 abbrev pub is_float : ℕ → Bool
 is_float code = code == 4 || code == 5
 
--- the shortest number that reads back; NaN and the infinities, which have none, are their bytes
-abbrev pub number_or_raw : List ℕ → Option (List ℕ) → Data
-number_or_raw bytes None = encoded_data (codes "raw") bytes
-number_or_raw bytes (Some text) = numeral text
+abbrev pub is_json : ℕ → Bool
+is_json code = code == 245
 
--- the bytes of what is no FLOAT and no DOUBLE stand as they are
+-- The text of a value of JSON that the bytes say: of a FLOAT or DOUBLE the shortest number that reads back, of a JSON column the document.
+-- NaN and the infinities have none, nor have bytes that are no document, nor has a value of another type.
+abbrev pub raw_text : ℕ → List ℕ → Option (List ℕ)
+raw_text code bytes = if is_float code then stored_text bytes else (if is_json code then value_text bytes else None)
+
+-- what has no such text is its bytes
+abbrev pub written_or_raw : List ℕ → Option (List ℕ) → Data
+written_or_raw bytes None = encoded_data (codes "raw") bytes
+written_or_raw bytes (Some text) = written text
+
 abbrev pub raw_data : ColumnType → List ℕ → Data
-raw_data t bytes = if is_float t.code then number_or_raw bytes (stored_text bytes) else encoded_data (codes "raw") bytes
+raw_data t bytes = written_or_raw bytes (raw_text t.code bytes)
 
 -- ---- values
 

@@ -1,4 +1,4 @@
--- A JSON value whose objects have each name once, and its compact text. A number is an integer, or a text of its own.
+-- A JSON value whose objects have each name once, and its compact text. A number is an integer; others, and documents, are given by their text.
 use Rattle.std.specs.Prelude.{ℕ, List, [], ◌∷◌, ◌++◌, Bool, codes}
 use Rattle.std.specs.Ordering.{nat_cmp, match_ordering}
 use Rattle.std.specs.Cmp.Lexicographic.{slice_cmp}
@@ -10,7 +10,8 @@ mutual
   pub data Data : Type 0 where
     null : Data
     number : Num → Data
-    numeral : List ℕ → Data
+    -- a value by its text
+    written : List ℕ → Data
     string : List ℕ → Data
     array : Items → Data
     object : Members → Data
@@ -37,7 +38,7 @@ abbrev mutual
   pub compact_text : Data → List ℕ
   compact_text null = codes "null"
   compact_text (number n) = number_text n
-  compact_text (numeral text) = text
+  compact_text (written text) = text
   compact_text (string s) = quoted s
   compact_text (array ds) = 91 ∷ items_text Bool.false ds
   compact_text (object ms) = 123 ∷ members_text Bool.false ms

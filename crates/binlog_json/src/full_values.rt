@@ -1,5 +1,6 @@
 //! Values of columns as full lines have them: by the types that the server declared.
-ghost use Rattle.std.specs.Prelude.{◌≡◌, ◌<◌, ◌≤◌, ◌++◌, codes, length, replicate, ◌-◌, ◌^◌, OnOk, ℤ};
+ghost use Rattle.std.specs.Prelude.{◌≡◌, ◌<◌, ◌≤◌, ◌++◌, codes, length, replicate, ◌-◌, ◌^◌, [], OnOk, IfOk, ℤ};
+ghost use Rattle.std.specs.Str.{IsUtf8};
 ghost use Rattle.json.specs.Print.{quoted};
 ghost use Rattle.binlog_json.specs.Json.{compact_text};
 ghost use Rattle.binlog_table.specs.Value.{view as cell_view};
@@ -7,7 +8,8 @@ ghost use Rattle.binlog_table.specs.MapWords.{value_names_in};
 ghost use Rattle.binlog_types.specs.Charsets.{encoding_of};
 ghost use Rattle.binlog_json.specs.Encodings.{decoded};
 ghost use Rattle.binlog_json.specs.Values.{encoded_data, enum_by, set_by};
-ghost use Rattle.binlog_json.specs.FullValues.{greatest_of, as_unsigned, int_data, uint_data, in_charset, text_or_bytes, is_binary, whole_bytes, text_data, members_text, is_float, raw_data, full_data};
+ghost use Rattle.binlog_json.specs.FullValues.{greatest_of, as_unsigned, int_data, uint_data, in_charset, text_or_bytes, is_binary, whole_bytes, text_data, members_text, is_float, is_json, raw_text, raw_data, full_data};
+ghost use Rattle.binlog_documents.specs.Appended.{AppendsText};
 ghost use Rattle.binlog_json.specs.LineBytes.{line_bytes};
 
 use crate::append::{Quoter, append_integer, append_number, append_plain};
@@ -17,6 +19,7 @@ use crate::names::{enum_name, is_named, members_of};
 use crate::plain::is_plain;
 use crate::room::Room;
 use crate::values::{append_base64, append_encoded, append_raw, append_value};
+use binlog_documents::DocumentWriter;
 use binlog_table::{Cell, RowView};
 use binlog_types::{Charset, ColumnType, Encoding, charset_name, encoding_of};
 use float_text::push_stored;
@@ -234,7 +237,35 @@ fn is_float(code: u8) -> bool
     code == 4 || code == 5
 }
 
-/// The number that a FLOAT or a DOUBLE is. Where it is none, and for other types, the bytes.
+/// Whether it is the number of JSON.
+fn is_json(code: u8) -> bool
+    ensures { result ≡ is_json code }
+{
+    code == 245
+}
+
+/// Appends the number that a FLOAT or a DOUBLE is, or the document that a value of JSON is. False, and nothing is appended, where the
+/// bytes are none, and for other types.
+#[inline(never)]
+fn append_raw_text(
+    out: &mut Vec<u8>,
+    documents: &mut DocumentWriter,
+    code: u8,
+    bytes: &[u8],
+) -> Result<bool, AllocError>
+    ensures text { IfOk result (AppendsText out.old.items out.new.items (raw_text code bytes.now)) }
+    ensures utf8 { IfOk result (λ _. out.old.items ≡ [] → IsUtf8 out.new.items) }
+{
+    if is_float(code) {
+        return push_stored(out, bytes);
+    }
+    if is_json(code) {
+        return documents.append(out, bytes);
+    }
+    Ok(false)
+}
+
+/// The number or the document that the bytes are. Where they are none, and for other types, the bytes.
 #[inline(never)]
 fn append_full_raw(
     out: &mut Line,
@@ -244,11 +275,13 @@ fn append_full_raw(
 ) -> Result<(), AllocError>
     ensures { OnOk result (line_bytes out.new ≡ line_bytes out.old ++ compact_text (raw_data column_type.now bytes.now)) }
 {
-    if !is_float(column_type.code) {
-        return append_raw(out, &mut room.quoter, &mut room.text, bytes);
-    }
     room.names.clear();
-    if push_stored(&mut room.names, bytes)? {
+    if append_raw_text(
+        &mut room.names,
+        &mut room.documents,
+        column_type.code,
+        bytes,
+    )? {
         return out.push_str(unsafe { str::from_utf8_unchecked(&room.names) });
     }
     append_raw(out, &mut room.quoter, &mut room.text, bytes)

@@ -3,6 +3,7 @@
 use crate::append::Quoter;
 use crate::encodings::Decoder;
 use crate::lines::Line;
+use binlog_documents::DocumentWriter;
 use std::alloc::Global;
 
 /// What a value is put together in.
@@ -13,9 +14,10 @@ pub(crate) struct Room {
     pub(crate) text: String,
     /// The text of a type before it is quoted.
     pub(crate) table: Line,
-    /// The names of a SET's value, the bytes of a BINARY, or the text of a float.
+    /// The names of a SET's value, the bytes of a BINARY, or the text of a float or of a document.
     pub(crate) names: Vec<u8>,
     pub(crate) decoder: Decoder,
+    pub(crate) documents: DocumentWriter,
 }
 
 impl Room {
@@ -26,6 +28,7 @@ impl Room {
             table: Line::new(alloc),
             names: Vec::new(alloc),
             decoder: Decoder::new(alloc),
+            documents: DocumentWriter::new(alloc),
         }
     }
 }

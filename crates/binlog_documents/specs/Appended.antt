@@ -1,0 +1,30 @@
+-- What is appended to a text while a document is read.
+use Rattle.std.specs.Prelude.{◌≡◌, ℕ, List, [], ◌∷◌, ◌++◌, Bool, true, false, Option, Some, None, option_map}
+use Rattle.json.specs.Print.{quoted}
+use Rattle.binlog_documents.specs.Scalars.{Reading}
+use Rattle.binlog_documents.specs.Texts.{document_text}
+
+-- a text that is read, behind what stands there, and where it ends
+abbrev pub behind : List ℕ → Reading → Option (List ℕ × ℕ)
+behind front reading = option_map (λ x. (front ++ document_text x.0, x.1)) reading
+
+-- Where there is a value, its text was appended, and the place is where it ends.
+abbrev pub IsAppended : List ℕ → List ℕ → Reading → Option ℕ → Type 0
+IsAppended old new reading end = option_map (λ e. (new, e)) end ≡ behind old reading
+
+-- the same for a key and its colon
+abbrev pub key_behind : List ℕ → Option (List ℕ × ℕ) → Option (List ℕ × ℕ)
+key_behind front reading = option_map (λ k. (front ++ (quoted k.0 ++ 58 ∷ []), k.1)) reading
+
+abbrev pub IsKeyAppended : List ℕ → List ℕ → Option (List ℕ × ℕ) → Option ℕ → Type 0
+IsKeyAppended old new reading end = option_map (λ e. (new, e)) end ≡ key_behind old reading
+
+-- Whether there was a text; if so, it was appended.
+abbrev pub IsRead : List ℕ → List ℕ → Option (List ℕ) → Bool → Type 0
+IsRead old new None is_text = is_text ≡ false
+IsRead old new (Some text) is_text = (is_text ≡ true) × (new ≡ old ++ text)
+
+-- Whether there was a text, which was appended; where there was none, nothing was.
+abbrev pub AppendsText : List ℕ → List ℕ → Option (List ℕ) → Bool → Type 0
+AppendsText old new None is_text = (is_text ≡ false) × (new ≡ old)
+AppendsText old new (Some text) is_text = (is_text ≡ true) × (new ≡ old ++ text)

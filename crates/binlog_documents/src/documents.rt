@@ -1,0 +1,217 @@
+//! Values of all types as JSON, at the end of a text. An array or object is read and written element by element. Where one of them is
+//! none, what was written of the others is left to the caller to take back.
+ghost use Rattle.std.specs.Prelude.{◌≡◌, ◌<◌, ◌≤◌, ◌+◌, ◌*◌, ◌^◌, length, IfOk, IfSome, option_map, false};
+ghost use Rattle.binlog_documents.specs.Scalars.{scalar_at};
+ghost use Rattle.binlog_documents.specs.Containers.{value_in, key_in, elements_of, members_of, array_at, object_at, value_at, element_entry, member_entries};
+ghost use Rattle.binlog_documents.specs.Texts.{elements_text, members_text};
+ghost use Rattle.binlog_documents.specs.Widths.{bytes_of, container_view};
+ghost use Rattle.binlog_documents.specs.Appended.{IsAppended, IsKeyAppended, IsRead};
+
+use crate::append::{append_comma, append_quoted, append_scalar};
+use crate::bytes::utf8_text;
+use crate::container::{Container, Width, container_at, is_inlined, key_entry, keys_end, number};
+use crate::read::scalar_at;
+use std::alloc::AllocError;
+
+/// The value at the front of the bytes, where it has no parts, and where it ends.
+pub(crate) fn append_scalar_at(
+    out: &mut Vec<u8>,
+    kind: u8,
+    bytes: &[u8],
+) -> Result<Option<usize>, AllocError>
+    ensures text { IfOk result (IsAppended out.old.items out.new.items (scalar_at kind bytes.now)) }
+    ensures within { IfOk result (λ end. IfSome end (λ len. len ≤ length bytes.now)) }
+{
+    let Some((scalar, len)) = scalar_at(kind, bytes) else {
+        return Ok(None);
+    };
+    append_scalar(out, scalar)?;
+    Ok(Some(len))
+}
+
+/// The key of the entry at a place with its colon, and where it ends.
+#[tactic(auto, unfolding(crate::specs::Containers::key_in))]
+fn append_key_in(
+    out: &mut Vec<u8>,
+    bytes: &[u8],
+    width: Width,
+    entry: usize,
+    from: usize,
+) -> Result<Option<usize>, AllocError>
+    requires { entry + (bytes_of width + 2) ≤ length bytes.now }
+    ensures { IfOk result (IsKeyAppended out.old.items out.new.items (key_in (bytes_of width) bytes.now entry from)) }
+{
+    let (place, len) = key_entry(bytes, width, entry);
+    if place < from || place + len > bytes.len() {
+        return Ok(None);
+    }
+    let Some(key) = utf8_text(&bytes[place..place + len]) else {
+        return Ok(None);
+    };
+    append_quoted(out, key)?;
+    out.push(b':')?;
+    Ok(Some(place + len))
+}
+
+/// The value at the front of the bytes, with at most so many arrays and objects in one another, and where it ends.
+#[cycle(values)]
+#[tactic(auto, unfolding(crate::specs::Containers::value_at))]
+pub(crate) fn append_value(
+    out: &mut Vec<u8>,
+    kind: u8,
+    bytes: &[u8],
+    depth: usize,
+) -> Result<Option<usize>, AllocError>
+    ensures text { IfOk result (IsAppended out.old.items out.new.items (value_at depth kind bytes.now)) }
+    ensures within { IfOk result (λ end. IfSome end (λ len. len ≤ length bytes.now)) }
+{
+    if depth == 0 {
+        return append_scalar_at(out, kind, bytes);
+    }
+    match kind {
+        0 => append_object(out, bytes, Width::Two, depth - 1),
+        1 => append_object(out, bytes, Width::Four, depth - 1),
+        2 => append_array(out, bytes, Width::Two, depth - 1),
+        3 => append_array(out, bytes, Width::Four, depth - 1),
+        _ => append_scalar_at(out, kind, bytes),
+    }
+}
+
+/// The array at the front of the bytes, and where it ends.
+#[cycle(values)]
+#[tactic(auto, unfolding(crate::specs::Containers::array_at))]
+fn append_array(
+    out: &mut Vec<u8>,
+    bytes: &[u8],
+    width: Width,
+    depth: usize,
+) -> Result<Option<usize>, AllocError>
+    ensures text { IfOk result (IsAppended out.old.items out.new.items (array_at (value_at depth) (bytes_of width) bytes.now)) }
+    ensures within { IfOk result (λ end. IfSome end (λ len. len ≤ length bytes.now)) }
+{
+    let Some(array) = container_at(bytes, width, width.bytes() + 1) else {
+        return Ok(None);
+    };
+    out.push(b'[')?;
+    if !append_elements(out, array, width, depth)? {
+        return Ok(None);
+    }
+    out.push(b']')?;
+    Ok(Some(array.bytes.len()))
+}
+
+/// The elements of an array, each but the first behind a comma.
+#[cycle(values)]
+fn append_elements(
+    out: &mut Vec<u8>,
+    array: Container<'_>,
+    width: Width,
+    depth: usize,
+) -> Result<bool, AllocError>
+    requires room { 2 * bytes_of width + array.count * element_entry (bytes_of width) ≤ length array.bytes.now }
+    requires few { array.count < 2 ^ 32 }
+    ensures text { IfOk result (IsRead out.old.items out.new.items (option_map (elements_text false) (elements_of (value_at depth) (bytes_of width) (container_view array.entry)))) }
+{
+    let step = width.bytes() + 1;
+    let mut entry = 2 * width.bytes();
+    let mut from = entry + array.count * step;
+    for place in 0..array.count {
+        append_comma(out, place > 0)?;
+        let Some(end) = append_value_in(out, array.bytes, width, entry, from, depth)? else {
+            return Ok(false);
+        };
+        entry += step;
+        from = end;
+    }
+    Ok(true)
+}
+
+/// The object at the front of the bytes, and where it ends.
+#[cycle(values)]
+#[tactic(auto, unfolding(crate::specs::Containers::object_at))]
+fn append_object(
+    out: &mut Vec<u8>,
+    bytes: &[u8],
+    width: Width,
+    depth: usize,
+) -> Result<Option<usize>, AllocError>
+    ensures text { IfOk result (IsAppended out.old.items out.new.items (object_at (value_at depth) (bytes_of width) bytes.now)) }
+    ensures within { IfOk result (λ end. IfSome end (λ len. len ≤ length bytes.now)) }
+{
+    let entries = (width.bytes() + 2) + (width.bytes() + 1);
+    let Some(object) = container_at(bytes, width, entries) else {
+        return Ok(None);
+    };
+    out.push(b'{')?;
+    if !append_members(out, object, width, depth)? {
+        return Ok(None);
+    }
+    out.push(b'}')?;
+    Ok(Some(object.bytes.len()))
+}
+
+/// The members of an object, each but the first behind a comma.
+#[cycle(values)]
+fn append_members(
+    out: &mut Vec<u8>,
+    object: Container<'_>,
+    width: Width,
+    depth: usize,
+) -> Result<bool, AllocError>
+    requires room { 2 * bytes_of width + object.count * member_entries (bytes_of width) ≤ length object.bytes.now }
+    requires few { object.count < 2 ^ 32 }
+    ensures text { IfOk result (IsRead out.old.items out.new.items (option_map (members_text false) (members_of (value_at depth) (bytes_of width) (container_view object.entry)))) }
+{
+    let key_step = width.bytes() + 2;
+    let step = width.bytes() + 1;
+    let mut key_entry = 2 * width.bytes();
+    let mut entry = key_entry + object.count * key_step;
+    let mut key_from = key_entry + object.count * (key_step + step);
+    let mut from = keys_end(object, width);
+    for place in 0..object.count {
+        append_comma(out, place > 0)?;
+        let Some(key_end) = append_key_in(out, object.bytes, width, key_entry, key_from)? else {
+            return Ok(false);
+        };
+        let Some(end) = append_value_in(out, object.bytes, width, entry, from, depth)? else {
+            return Ok(false);
+        };
+        key_entry += key_step;
+        key_from = key_end;
+        entry += step;
+        from = end;
+    }
+    Ok(true)
+}
+
+/// The value of the entry at a place, and where the next value may begin.
+#[cycle(values)]
+#[tactic(auto, unfolding(crate::specs::Containers::value_in))]
+fn append_value_in(
+    out: &mut Vec<u8>,
+    bytes: &[u8],
+    width: Width,
+    entry: usize,
+    from: usize,
+    depth: usize,
+) -> Result<Option<usize>, AllocError>
+    requires { entry + element_entry (bytes_of width) ≤ length bytes.now }
+    ensures text { IfOk result (IsAppended out.old.items out.new.items (value_in (value_at depth) (bytes_of width) bytes.now entry from)) }
+{
+    let kind = bytes[entry];
+    let field = &bytes[entry + 1..];
+    if is_inlined(width, kind) {
+        return match append_scalar_at(out, kind, field)? {
+            None => Ok(None),
+            Some(_) => Ok(Some(from)),
+        };
+    }
+    let place = number(field, width);
+    if place < from || place > bytes.len() {
+        return Ok(None);
+    }
+    match append_value(out, kind, &bytes[place..], depth)? {
+        None => Ok(None),
+        Some(len) => Ok(Some(place + len)),
+    }
+}

@@ -1,0 +1,18 @@
+//! The documents of MySQL's binary form of JSON, as JSON text.
+#![tactic(auto)]
+
+mod append;
+mod bytes;
+mod container;
+mod decimal;
+mod documents;
+mod opaque;
+mod padded;
+mod read;
+mod scalar;
+mod time;
+mod writer;
+
+pub use read::scalar_at;
+pub use scalar::{Finite, Scalar};
+pub use writer::DocumentWriter;

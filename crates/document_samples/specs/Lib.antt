@@ -1,0 +1,5 @@
+pub mod Bytes
+pub mod Scalars
+pub mod Containers
+pub mod Opaques
+pub mod Shapes

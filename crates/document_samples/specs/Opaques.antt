@@ -1,0 +1,27 @@
+-- Values of MySQL's other types: 0f, the type, a length, the bytes.
+use Rattle.document_samples.specs.Bytes.{Says, IsNone}
+
+-- precision, scale, and the digits
+abbrev pub Decimals : Type 0
+Decimals =
+    Says "0f f6 07 0a 02 80 00 00 03 0e ff" "3.14" × Says "0f f6 07 0a 02 7f ff ff fc f1" "-3.14" × Says "0f f6 07 0a 02 80 00 00 00 00" "0.00" × Says "0f f6 07 0a 02 7f ff ff ff ff" "0.00"
+    × Says "0f f6 07 0a 02 7f ff ff ff cd" "-0.50" × Says "0f f6 03 01 00 87" "7" × Says "0f f6 03 01 00 78" "-7" × Says "0f f6 03 01 01 85" "0.5"
+    × Says "0f f6 0b 13 09 81 00 00 00 02 00 00 00 03" "1000000002.000000003"
+
+-- digits beyond the group, a byte too many, one too few, a precision or a scale that no decimal has
+abbrev pub NoDecimals : Type 0
+NoDecimals =
+    Says "0f f6 03 01 00 8a" "{\"base64\":\"AQCK\",\"type\":246}" × Says "0f f6 04 01 00 87 00" "{\"base64\":\"AQCHAA==\",\"type\":246}" × Says "0f f6 02 01 00" "{\"base64\":\"AQA=\",\"type\":246}"
+    × Says "0f f6 02 00 00" "{\"base64\":\"AAA=\",\"type\":246}" × Says "0f f6 03 01 02 87" "{\"base64\":\"AQKH\",\"type\":246}" × Says "0f f6 01 01" "{\"base64\":\"AQ==\",\"type\":246}" × Says "0f f6 00" "{\"base64\":\"\",\"type\":246}"
+
+abbrev pub DatesAndTimes : Type 0
+DatesAndTimes =
+    Says "0f 0a 08 00 00 00 00 00 5e b2 19" "\"2024-01-15\"" × Says "0f 0a 08 00 00 00 00 00 00 00 00" "\"0000-00-00\""
+    × Says "0f 0c 08 15 03 00 b8 c8 5e b2 19" "\"2024-01-15 12:34:56.000789\"" × Says "0f 07 08 00 00 00 05 31 c4 02 19" "\"1970-01-02 03:04:05.000000\""
+    × Says "0f 0b 08 00 00 00 b8 c8 00 00 00" "\"12:34:56.000000\"" × Says "0f 0b 08 ff ff ff 04 91 cb ff ff" "\"-838:59:59.000001\""
+    × Says "0f 0a 08 ff ff ff ff ff ff ff ff" "{\"base64\":\"//////////8=\",\"type\":10}" × Says "0f 0b 07 00 00 00 b8 c8 00 00" "{\"base64\":\"AAAAuMgAAA==\",\"type\":11}"
+
+-- a byte of an own type is no decimal's, and a length that doesn't fit is no document's
+abbrev pub OtherTypes : Type 0
+OtherTypes =
+    Says "0f fc 03 61 ff 62 07" "{\"base64\":\"Yf9i\",\"type\":252}" × Says "0f 10 01 05" "{\"base64\":\"BQ==\",\"type\":16}" × IsNone "0f fc 03 61 ff" × IsNone "0f fc" × IsNone "0f"
