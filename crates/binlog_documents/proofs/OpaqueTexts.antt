@@ -72,7 +72,7 @@ digits_ascii (digits ∷ more) bytes =
     let n = big_number (group_len digits) bytes in
     chosen _ (option_map (λ behind. group_text digits n ++ behind) (digits_in more (drop (group_len digits) bytes))) None
     (made (λ behind. group_text digits n ++ behind) (digits_in more (drop (group_len digits) bytes)) (λ t p. join (group_text digits n) t (group_ascii digits n) p)
-      (digits_ascii more (drop (group_len digits) bytes)))
+    (digits_ascii more (drop (group_len digits) bytes)))
     nowhere
 
 without_zeros_ascii : (ds : List ℕ) → IsAsciiText ds → IsAsciiText (without_zeros ds)
