@@ -262,6 +262,22 @@ class Growing(ServerTest):
         for token, status in within:
             self.assertIn(f" {len(logs.worked_log(1_400)) - int(token.partition('.')[0])} bytes behind,", status)
 
+    def test_an_output_that_takes_a_part(self):
+        """What is left of a block is written, too."""
+
+        class Narrow(io.BytesIO):
+            """An output that takes ten bytes at a time."""
+
+            def write(self, block):
+                """Takes ten bytes."""
+                return super().write(block[:10])
+
+        out = Narrow()
+        self.index("binlog.000001")
+        self.log("binlog.000001", log(1, 2))
+        self.follower(out).catch_up()
+        self.assertEqual(out.getvalue(), read([self.data / "binlog.000001"]))
+
     def test_nothing_new(self):
         self.index("binlog.000001")
         self.log("binlog.000001", log(1))

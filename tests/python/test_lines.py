@@ -48,7 +48,7 @@ class Taken:
         line = (LINE % "4.1@f").replace('"int"', '"varchar utf8mb4"')
         for value, wanted in (('"a"', "a"), ('{"base64":"/w=="}', b"\xff"), ('"b"', "b")):
             for image in ("after", "before"):
-                text = line.replace('"after":{"id":1},"before":null', '"after":null,"before":null').replace(f'"{image}":null', f'"{image}":{{"id":{value}}}')
+                text = line.replace('"after":{"id":1}', '"after":null').replace(f'"{image}":null', f'"{image}":{{"id":{value}}}')
                 self.assertEqual(getattr(Change(taken_apart(text.encode())), image), {"id": wanted})
 
     def test_no_full_lines(self):

@@ -524,18 +524,20 @@ class Blocking(FolderTest):
             next(self.reader(path, resume_stream=True))
 
     def test_the_end_of_a_log_that_is_replaced(self):
-        """Another log under the name of that behind whose end a watch begins."""
-        self.put("binlog.000001", logs.worked_log(2))
-        watch = Watch(f"{self.folder}/binlog.0*", [PROGRAM, "read", "--follow", "--full"], Place())
-        self.addCleanup(watch.end)
-        watch.skip()
-        self.assertEqual(watch.place.token, "589.0@binlog.000001")
-        self.assertEqual(list(watch.look()), [])
-        log = bytearray(logs.worked_log(3))
-        log[4] ^= 1  # the time at which it was begun
-        self.put("binlog.000001", log)
-        with self.assertRaises(LogsGone):
-            list(watch.look())
+        """Another log under the name of that behind whose end a watch begins, before the first look and behind it."""
+        for looks in (0, 1):
+            self.put("binlog.000001", logs.worked_log(2))
+            watch = Watch(f"{self.folder}/binlog.0*", [PROGRAM, "read", "--follow", "--full"], Place())
+            self.addCleanup(watch.end)
+            watch.skip()
+            self.assertEqual(watch.place.token, "589.0@binlog.000001")
+            for _ in range(looks):
+                self.assertEqual(list(watch.look()), [])
+            log = bytearray(logs.worked_log(3))
+            log[4] ^= 1  # the time at which it was begun
+            self.put("binlog.000001", log)
+            with self.assertRaises(LogsGone):
+                list(watch.look())
 
     def test_the_end_for_a_closed_watch(self):
         path = self.put("binlog.000001", logs.worked_log())

@@ -452,7 +452,8 @@ class Faults(FolderTest):
         change = '{"after":null,"before":null,"gtid":null,"kind":"insert","schema":"x","table":"y","timestamp":7,"token":"4.1@f"}'
         unit = f"4\\t8\\t{SHOP_SOURCE}:1\\txid\\tbinlog.000001"
         # Where nobody takes its lines any more, a write fails.
-        program = self.stub(f"echo $$ >> {self.folder}/started\n[ $1 = read ] && exec yes '{change}'\nwhile printf '{unit}\\n'; do sleep 0.01; done")
+        begin = f"echo $$ >> {self.folder}/started\n[ $1 = read ] && exec yes '{change}'\n"
+        program = self.stub(f"{begin}while printf '{unit}\\n'; do sleep 0.01; done")
         with running(command(path, program=program), stdout=subprocess.DEVNULL, stderr=subprocess.DEVNULL, env=ENVIRONMENT) as process:
             started = self.folder / "started"
             while not started.exists() or started.read_text().count("\n") < 2:

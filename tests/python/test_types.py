@@ -48,7 +48,8 @@ class Types(FolderTest):
         """What mypy says of a program's file, without what it says of the package's own."""
         environment = {**os.environ, "MYPYPATH": str(TOP / "python")}
         words = [sys.executable, "-m", "mypy", "--strict", "--cache-dir", str(self.folder / "cache"), "--follow-imports=silent"]
-        ended = subprocess.run([*words, self.put("program.py", text.encode())], env=environment, capture_output=True, text=True, check=False)
+        words.append(self.put("program.py", text.encode()))
+        ended = subprocess.run(words, env=environment, capture_output=True, text=True, check=False)
         return [line for line in (ended.stdout + ended.stderr).splitlines() if not line.startswith(("Success", "Found"))]
 
     def test_loops(self):
