@@ -218,6 +218,16 @@ class Ends(Files):
             self.assertEqual(self.files.asked(target, "SELECT id FROM t"), [{"id": 11}])
             self.assertEqual(json.loads(self.place(target))["token"], "100.1@binlog.000001")
 
+    def test_ends_that_have_no_status_of_their_own(self):
+        """A program that was killed, and one whose lines are none: Python's own status for that would say "log fault"."""
+        told = self.told([])
+        line = 'none,"key":[],"types":{},"timestamp":1,"token":"100.1@binlog.000001"}'
+        for script, wanted, word in (("kill -9 $$", 128 + 9, "status -9"), (f"echo '{line}'; echo; read line", 70, "Traceback")):
+            told["program"] = self.stub(f"read line\n{script}")
+            status, said = ended(self.files.new_target("shop"), "shop", **told)
+            self.assertEqual(status, wanted)
+            self.assertIn(word, said)
+
     def test_words(self):
         target = self.files.new_target("shop")
         for options in (("--convert", "a.b=float"), ("--commit-every", "0"), ("--unfit", "zero")):
