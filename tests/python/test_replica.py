@@ -88,7 +88,8 @@ class Names(Files):
         table, column = 'a "b"', 'c"d'
         types, rows = {"id": "int", column: "varchar utf8mb4"}, [{"id": 1, column: "new"}, {"id": 1, column: "changed"}]
         lines = [full_line((1, 1), table, None, rows[0], types), full_line((2, 1), table, rows[0], rows[1], types)]
-        lines += [full_line((3, 1), table, None, {"id": 2, column: ""}, types), full_line((4, 1), table, {"id": 2, column: ""}, None, types)]
+        gone = {"id": 2, column: ""}
+        lines += [full_line((3, 1), table, None, gone, types), full_line((4, 1), table, gone, None, types)]
         target = self.files.made('CREATE TABLE "a ""b""" (id INTEGER PRIMARY KEY, "c""d" TEXT)')
         self.assertEqual(ended(target, "made", **self.told(lines)), (0, ""))
         self.assertEqual(self.files.asked(target, 'SELECT * FROM "a ""b"""'), [rows[1]])
