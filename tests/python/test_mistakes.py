@@ -8,6 +8,7 @@ import tracemalloc
 import unittest
 from unittest import mock
 
+import fitting
 from binlogfeed import BinLogStreamReader, ConversionFailed, LogFault, LogLost, LogsGone, OutOfMemory, Place, XidEvent
 from binlogfeed import json_binary
 from binlogfeed import watch as watching
@@ -209,6 +210,17 @@ def array(kind, inner, count=1):
     """The bytes of a small JSON array whose elements are all one value of a type, which stands behind its entries."""
     begin = 4 + 3 * count
     return struct.pack("<HH", count, begin + len(inner)) + struct.pack("<BH", kind, begin) * count + inner
+
+
+class Hours(unittest.TestCase):
+    """A TIME for a target that has hours of a day alone."""
+
+    def test_more_than_a_hundred_hours(self):
+        """As a text it stands before 24:00:00."""
+        self.assertEqual(fitting.hour("23:59:59.5"), "23:59:59.5")
+        for value in ("24:00:00", "100:00:00", "-00:00:01", "838:59:59"):
+            with self.assertRaises(fitting.UnfitError):
+                fitting.hour(value)
 
 
 class Json(unittest.TestCase):

@@ -80,6 +80,21 @@ class Commits(Files):
             self.assertEqual(kept, [*tokens[many - 1 : -1 : many], tokens[-1]])
 
 
+class Names(Files):
+    """Names that have to be quoted."""
+
+    def test_quotes_in_names(self):
+        """MySQL allows them in names of tables and columns, and a statement would end there."""
+        table, column = 'a "b"', 'c"d'
+        types, rows = {"id": "int", column: "varchar utf8mb4"}, [{"id": 1, column: "new"}, {"id": 1, column: "changed"}]
+        lines = [full_line((1, 1), table, None, rows[0], types), full_line((2, 1), table, rows[0], rows[1], types)]
+        gone = {"id": 2, column: ""}
+        lines += [full_line((3, 1), table, None, gone, types), full_line((4, 1), table, gone, None, types)]
+        target = self.files.made('CREATE TABLE "a ""b""" (id INTEGER PRIMARY KEY, "c""d" TEXT)')
+        self.assertEqual(ended(target, "made", **self.told(lines)), (0, ""))
+        self.assertEqual(self.files.asked(target, 'SELECT * FROM "a ""b"""'), [rows[1]])
+
+
 class Misfits(Files):
     """Changes that don't fit the target: they end the run with status 7, and nothing of their transaction stands."""
 
@@ -203,6 +218,16 @@ class Ends(Files):
             self.assertEqual(ended(target, "made", *options, **told), (1, f"{fault}\n"))
             self.assertEqual(self.files.asked(target, "SELECT id FROM t"), [{"id": 11}])
             self.assertEqual(json.loads(self.place(target))["token"], "100.1@binlog.000001")
+
+    def test_ends_that_have_no_status_of_their_own(self):
+        """A program that was killed, and one whose lines are none: Python's own status for that would say "log fault"."""
+        told = self.told([])
+        line = 'none,"key":[],"types":{},"timestamp":1,"token":"100.1@binlog.000001"}'
+        for script, wanted, word in (("kill -9 $$", 128 + 9, "status -9"), (f"echo '{line}'; echo; read line", 70, "Traceback")):
+            told["program"] = self.stub(f"read line\n{script}")
+            status, said = ended(self.files.new_target("shop"), "shop", **told)
+            self.assertEqual(status, wanted)
+            self.assertIn(word, said)
 
     def test_words(self):
         target = self.files.new_target("shop")

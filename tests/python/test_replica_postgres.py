@@ -204,6 +204,27 @@ class Postgres(LinesTest):
             status, said = ended(f"psycopg:{self.server.words('postgres')}", "shop")
             self.assertEqual((status, said[:45]), (2, "replica: psycopg isn't installed: apt-get ins"))
 
+    def test_quotes_in_names(self):
+        """MySQL allows them in names of tables and columns. One row and many are put in, changed and taken away in ways of their own."""
+        table, column = 'a "b"', 'c"d'
+        types = {"id": "int", column: "varchar utf8mb4"}
+        changes = [(number, None, "new") for number in (1, *range(10, 80))]
+        changes += [(number, "new", "changed") for number in (1, *range(10, 70))]
+        changes += [(number, "changed", None) for number in (10, *range(20, 60))]
+        # One stands alone before those of its kind: it is a transaction of its own.
+        lines, transaction = [], 0
+        for place, (number, before, after) in enumerate(changes):
+            transaction += number in (1, 10, 20)
+            images = [value and {"id": number, column: value} for value in (before, after)]
+            lines.append(full_line((transaction, place + 1), table, *images, types))
+        told = self.told(lines)
+        kept = [[number, "new" if number >= 70 else "changed"] for number in (1, *range(11, 20), *range(60, 80))]
+        for target, client in self.in_clients('CREATE TABLE "a ""b""" (id integer PRIMARY KEY, "c""d" text)'):
+            self.assertEqual(ended(target, "made", **client, **told), (0, ""))
+            query = 'SELECT json_build_array(id, "c""d") FROM "a ""b""" ORDER BY id'
+            found = self.server.asked(target.replace("psycopg:", "psql:"), query)
+            self.assertEqual([json.loads(row) for row in found], kept)
+
     def test_text(self):
         """Each character comes back as it was."""
         connection = psql.Connection(self.server.words("postgres"))
