@@ -3,10 +3,11 @@ from __future__ import annotations
 
 import json
 from collections.abc import Callable, Mapping
+from decimal import Decimal
 from typing import Any, NamedTuple, Optional
 
 from binlogfeed.faults import ConversionFailed, ProgramFailed
-from binlogfeed.values import Column, Convert, Reading, Style, plain, reading_of
+from binlogfeed.values import Column, Convert, Reading, Style, is_document, plain, reading_of
 
 # It takes a line apart in half the time.
 try:
@@ -18,6 +19,20 @@ except ImportError:
     def loads(text: bytes) -> Any:
         """The value of a JSON text."""
         return scan(text.decode(), 0)[0]
+
+
+def number(text: str) -> float | Decimal:
+    """A number with a point or an exponent. One whose digits no float holds, as a DECIMAL in a document may have, is a Decimal."""
+    value = float(text)
+    return value if repr(value) == text or Decimal(repr(value)) == Decimal(text) else Decimal(text)
+
+
+scan_exactly = json.JSONDecoder(parse_float=number).scan_once
+
+
+def loads_exactly(text: bytes) -> Any:
+    """The value of a JSON text, with all digits of its numbers."""
+    return scan_exactly(text.decode(), 0)[0]
 
 
 Image = Optional[dict[str, Any]]
@@ -41,7 +56,7 @@ class Step(NamedTuple):
 class Form:
     """What many lines say alike: the table with its key and columns, and the kind of the change; with what makes Python's values."""
 
-    __slots__ = ("kind", "schema", "table", "columns", "key", "always", "with_bytes")
+    __slots__ = ("kind", "schema", "table", "columns", "key", "loads", "always", "with_bytes")
 
     def __init__(self, said: bytes, style: Style, convert: Mapping[str, Convert]) -> None:
         """The form of a part of a line. `convert` has the caller's own conversions."""
@@ -51,6 +66,8 @@ class Form:
         self.table: str = members["table"]
         self.columns = tuple(Column(name, type_) for name, type_ in members["types"].items())
         self.key: tuple[str, ...] = tuple(members["key"])
+        # Documents may have numbers that are no floats.
+        self.loads: Callable[[bytes], Any] = loads_exactly if any(map(is_document, self.columns)) else loads
         chosen: dict[str, Convert] = {}
         # What is named with its schema goes before.
         for prefix in (f"{self.table}.", f"{self.schema}.{self.table}."):
@@ -68,12 +85,12 @@ class Form:
                     self.always.append(step)
 
     def _own(self, convert: Convert, column: Column) -> Reading:
-        """The caller's conversion, which is given the value as a line has it, or bytes."""
+        """The caller's conversion, which is given the value as a line has it, or bytes where the line has them."""
 
         def converted(value: Any) -> Any:
             """What the caller makes of it."""
             try:
-                return convert(plain(value))
+                return convert(value if is_document(column) else plain(value))
             except Exception as error:
                 raise _RefusedError(f"{self.schema}.{self.table}.{column.name}") from error
 
@@ -115,7 +132,7 @@ def reader_of_lines(style: Style, convert: Mapping[str, Convert]) -> Callable[[b
             if len(forms) >= MOST_FORMS:
                 forms.clear()
             form = forms[said] = Form(said, style, convert)
-        change = Change(form, loads(line[:key] + line[behind:]))
+        change = Change(form, form.loads(line[:key] + line[behind:]))
         steps = form.always if line.find(BYTES, 0, key) < 0 else form.with_bytes
         if steps:
             try:
