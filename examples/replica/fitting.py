@@ -1,14 +1,12 @@
 """Makes of a value of the log what a column of the target takes, by the types of both."""
 from __future__ import annotations
 
-import base64
 import datetime
 import json
 from collections.abc import Callable
-from decimal import Decimal
 from typing import Any, Optional, Union
 
-from binlogfeed import floats, json_binary
+from binlogfeed import floats
 from binlogfeed.charsets import CODECS, to_text
 
 # A text of the log, bytes in a character set that the program doesn't read, or a number without a name.
@@ -224,23 +222,9 @@ def array(value: str) -> str:
     return "{" + ",".join(f'"{name}"' for name in names.split(",") if names) + "}"
 
 
-def json_text(raw: bytes) -> str:
-    """The text of a JSON document."""
-    return json.dumps(json_binary.from_raw(raw), ensure_ascii=False, default=json_value)
-
-
-def json_value(value: Any) -> float | str:
-    """What JSON has for a value that it has no type for. A DECIMAL is a number where a DOUBLE holds its digits."""
-    if isinstance(value, Decimal):
-        return float(value) if Decimal(repr(float(value))) == value else str(value)
-    if isinstance(value, datetime.timedelta):
-        size = abs(value)
-        hours, rest = divmod(size.seconds, 3600)
-        sign = "-" if value.days < 0 else ""
-        return f"{sign}{size.days * 24 + hours:02}:{rest // 60:02}:{rest % 60:02}.{size.microseconds:06}"
-    if isinstance(value, datetime.datetime):
-        return value.isoformat(" ", "microseconds")
-    return base64.b64encode(value).decode() if isinstance(value, bytes) else str(value)
+def json_text(document: Any) -> str:
+    """The text of a JSON document. A number whose digits no float holds is their text."""
+    return json.dumps(document, ensure_ascii=False, default=str)
 
 
 def or_null(convert: Callable[[Any], Any]) -> Callable[[Any], Any]:

@@ -3,10 +3,11 @@ from __future__ import annotations
 
 import json
 from collections.abc import Callable, Mapping
+from decimal import Decimal
 from typing import Any, NamedTuple, Optional
 
 from binlogfeed.faults import ConversionFailed, ProgramFailed
-from binlogfeed.values import Column, Convert, Reading, Style, plain, reading_of
+from binlogfeed.values import Column, Convert, Reading, Style, is_document, plain, reading_of
 
 # It takes a line apart somewhat faster.
 loads: Optional[Callable[[bytes], Any]]
@@ -19,11 +20,22 @@ else:
 # The C function by which `json` itself reads a text: it answers the value that begins at a place, and the place behind it.
 value_at = json.JSONDecoder().scan_once
 
+
+def number(text: str) -> float | Decimal:
+    """A number with a point or an exponent. One whose digits no float holds, as a DECIMAL in a document may have, is a Decimal."""
+    value = float(text)
+    return value if repr(value) == text or Decimal(repr(value)) == Decimal(text) else Decimal(text)
+
+
+# The same, with all digits of the numbers.
+exact_value_at = json.JSONDecoder(parse_float=number).scan_once
+
+
 Image = Optional[dict[str, Any]]
 # How long that is which stands before a line's first values.
 TO_AFTER, TO_BEFORE, TO_GTID, TO_TOKEN = map(len, ('{"after":', ',"before":', ',"gtid":', ',"token":'))
-# What stands before a line's key, and behind its table. In a text of JSON a bare quote ends the text, and nothing but the key is an
-# array. So these stand there for the last time.
+# What stands before a line's key, and behind its table. In a text of JSON a bare quote ends the text, and behind the rows nothing but
+# the key is an array. So these stand there for the last time.
 KEY, TIMESTAMP = ',"key":[', ',"timestamp":'
 KEY_BYTES, TIMESTAMP_BYTES = KEY.encode(), TIMESTAMP.encode()
 # Bytes stand so, and texts that the program doesn't read.
@@ -43,7 +55,7 @@ class Step(NamedTuple):
 class Form:
     """What many lines say alike: the table with its key and columns, and the kind of the change; with what makes Python's values."""
 
-    __slots__ = ("kind", "schema", "table", "columns", "key", "always", "with_bytes")
+    __slots__ = ("kind", "schema", "table", "columns", "key", "has_documents", "always", "with_bytes")
 
     def __init__(self, said: str, style: Style, convert: Mapping[str, Convert]) -> None:
         """The form of a part of a line. `convert` has the caller's own conversions."""
@@ -55,6 +67,8 @@ class Form:
         self.table: str = members["table"]
         self.columns = tuple(Column(name, type_) for name, type_ in members["types"].items())
         self.key: tuple[str, ...] = tuple(members["key"])
+        # Documents may have numbers that no float holds.
+        self.has_documents = any(map(is_document, self.columns))
         chosen: dict[str, Convert] = {}
         # What is named with its schema goes before.
         for prefix in (f"{self.table}.", f"{self.schema}.{self.table}."):
@@ -72,12 +86,12 @@ class Form:
                     self.always.append(step)
 
     def _own(self, convert: Convert, column: Column) -> Reading:
-        """The caller's conversion, which is given the value as a line has it, or bytes."""
+        """The caller's conversion, which is given the value as a line has it, or bytes where the line has them."""
 
         def converted(value: Any) -> Any:
             """What the caller makes of it."""
             try:
-                return convert(plain(value))
+                return convert(value if is_document(column) else plain(value))
             except Exception as error:
                 raise _RefusedError(f"{self.schema}.{self.table}.{column.name}") from error
 
@@ -99,12 +113,31 @@ class Change:
         self.form, self.before, self.after, self.timestamp, self.gtid, self.token = parts
 
 
+def loads_exactly(text: bytes) -> Any:
+    """The value of a JSON text, with all digits of its numbers."""
+    return exact_value_at(text.decode(), 0)[0]
+
+
+def exact_images(text: str) -> tuple[Image, Image]:
+    """The rows of a line, after and before, with all digits of their numbers."""
+    after, at = exact_value_at(text, TO_AFTER)
+    before, _ = exact_value_at(text, at + TO_BEFORE)
+    return after, before
+
+
 def reader_of_lines(style: Style, convert: Mapping[str, Convert]) -> Callable[[bytes], Parts]:
     """What takes a line apart, with values in this style.
 
     `convert` has the caller's own conversions, by `table.column` or `schema.table.column`.
     """
     forms: dict[str, Form] = {}
+
+    def new_form(said: str) -> Form:
+        """The form of a part of a line that wasn't met yet."""
+        if len(forms) >= MOST_FORMS:
+            forms.clear()
+        form = forms[said] = Form(said, style, convert)
+        return form
 
     def taken_apart(line: bytes) -> Parts:
         """The parts of a line's change."""
@@ -118,19 +151,19 @@ def reader_of_lines(style: Style, convert: Mapping[str, Convert]) -> Callable[[b
                 timestamp, end = value_at(text, behind + len(TIMESTAMP))
                 token, _ = value_at(text, end + TO_TOKEN)
                 said = text[at:behind]
+                form = forms.get(said) or new_form(said)
+                if form.has_documents:
+                    after, before = exact_images(text)
             else:
                 behind = line.rindex(TIMESTAMP_BYTES)
                 key = line.rindex(KEY_BYTES, 0, behind)
-                members = loads(line[:key] + line[behind:])
+                said = line[key:behind].decode()
+                form = forms.get(said) or new_form(said)
+                members = (loads_exactly if form.has_documents else loads)(line[:key] + line[behind:])
                 after, before, gtid = members["after"], members["before"], members["gtid"]
-                timestamp, token, said = members["timestamp"], members["token"], line[key:behind].decode()
+                timestamp, token = members["timestamp"], members["token"]
         except (StopIteration, ValueError, KeyError) as error:
             raise not_full() from error
-        form = forms.get(said)
-        if form is None:
-            if len(forms) >= MOST_FORMS:
-                forms.clear()
-            form = forms[said] = Form(said, style, convert)
         steps = form.always if line.find(BYTES) < 0 else form.with_bytes
         if steps:
             try:

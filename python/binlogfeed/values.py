@@ -12,7 +12,7 @@ from dataclasses import dataclass
 from decimal import Decimal
 from typing import Any, NamedTuple, Optional
 
-from binlogfeed import json_binary, times
+from binlogfeed import times
 from binlogfeed.charsets import to_text
 
 # A type in the words of a full line: `decimal(8,2) unsigned`, `varchar utf8mb4`, `time(3)`.
@@ -20,7 +20,7 @@ TYPE = re.compile(r"(\w+)(?:\((\d+)(?:,\d+)?\))?(?: (\w+))?")
 BINARY = {"binary", "varbinary", "tinyblob", "blob", "mediumblob", "longblob", "geometry"}
 TEXTS = {"char", "varchar", "tinytext", "text", "mediumtext", "longtext", "enum"}
 # Types whose values a line may have as bytes in another form than text.
-RAW = {"float", "double", "geometry", "json", "set"}
+RAW = {"float", "double", "geometry", "set"}
 
 
 class Column(NamedTuple):
@@ -55,6 +55,11 @@ class Reading(NamedTuple):
     instead: Convert
     # Whether a line has values for it only where it has bytes.
     only_bytes: bool = False
+
+
+def is_document(column: Column) -> bool:
+    """Whether a column has JSON documents, which a line has as they are. An object there is a document, whatever its members are."""
+    return column.type == "json"
 
 
 def reading_of(column: Column, style: Style) -> Reading | None:
@@ -138,11 +143,6 @@ def _float_of(code: str) -> Convert:
     return to_float
 
 
-def _to_document(value: Any) -> Any:
-    """A JSON document."""
-    return json_binary.from_raw(plain(value))
-
-
 DATES = {"date", "datetime", "timestamp", "time", "year"}
 # Those whose values need nothing but their word.
 CONVERTS: dict[str, Convert] = {
@@ -150,7 +150,6 @@ CONVERTS: dict[str, Convert] = {
     "decimal": Decimal,
     "double": _float_of("<d"),
     "float": _float_of("<f"),
-    "json": _to_document,
     "time": times.to_time,
     "year": times.to_year,
 }

@@ -20,7 +20,7 @@ KEY_NAMES = {**{table: list(names) for table, names in SHOP_KEYS.items()}, **{ta
 # What a plain line has that a full line has as it is.
 SAME = ("gtid", "kind", "schema", "table", "timestamp", "token")
 # The first words of types whose values are as in plain lines, of which YEAR is one.
-SAME_TYPES = ("decimal", "year", "date", "time", "datetime", "timestamp", "bit", "json", "geometry")
+SAME_TYPES = ("decimal", "year", "date", "time", "datetime", "timestamp", "bit", "geometry")
 
 # The texts of values that a plain line has as bytes, by the first words of their types.
 NUMBERS = {"float": float_text, "double": double_text}
@@ -68,7 +68,9 @@ def unlike_image(plain: Line | None, full: Line | None, types: dict[str, str]) -
         return [] if plain is full else ["an image is there in one of them only"]
     if list(plain) != list(full):
         return [f"the columns are {list(full)}"]
-    same = {name: plain[name] for name in full if full[name] is None or size(types[name]) in SAME_TYPES}
+    # A document may be null, too. What documents are is judged beside a server's, and in json_documents.
+    nulls = {name for name in full if plain[name] is None or (full[name] is None and size(types[name]) != "json")}
+    same = {name: plain[name] for name in full if name in nulls or size(types[name]) in SAME_TYPES}
     for name in full.keys() - same.keys():
         if size(types[name]) in NUMBERS:
             same[name] = json.loads(NUMBERS[size(types[name])](base64.b64decode(plain[name]["raw"])))

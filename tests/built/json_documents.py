@@ -1,7 +1,6 @@
-"""JSON columns in full lines: the document where the bytes are one, else the bytes. What is wanted is worked out from MySQL's description of
-the binary form, or a server showed it."""
+"""JSON columns in full lines: the document where the bytes are one, else the bytes. What is wanted is worked out from MySQL's
+description of the binary form, or a server showed it."""
 import base64
-import json
 import random
 import struct
 from collections.abc import Callable
@@ -10,8 +9,7 @@ from pathlib import Path
 
 from built.check import Check, Wanted, differs, run
 from built.json_binary import (
-    DATE, DATETIME, NEWDECIMAL, TIME, TIMESTAMP, Number, Scalar, Value, container, decimal, document, double, encoded, integer, moment,
-    opaque, parsed, shown, span,
+    DATE, DATETIME, NEWDECIMAL, TIME, TIMESTAMP, Number, Value, decimal, document, double, integer, moment, opaque, parsed, shown, span,
 )  # fmt: skip
 from built.logs import TABLE_MAP, WRITE_ROWS, field, front, put, transaction
 from built.rare_paths import KEY, LONG, Column, rows, table_map
@@ -19,10 +17,10 @@ from built.rare_paths import KEY, LONG, Column, rows, table_map
 JSON = 245
 # MySQL nests no deeper.
 DEEPEST = 100
-SEEDS = (1, 2, 3, 4)
-DOCUMENTS = 100
-# How many reasons a check gives.
-REASONS = 4
+# Each of these seeds makes so many documents.
+SEEDS, DOCUMENTS = (1, 2, 3, 4), 100
+# How many reasons a check gives, and how much of a value it shows.
+REASONS, SHOWN = 4, 300
 
 Case = tuple[str, bytes, object]
 
@@ -57,9 +55,9 @@ def judge(cases: list[Case], program: Path, folder: Path) -> list[str]:
     for number, ((name, value, wanted), line, other) in enumerate(zip(cases, full, plain)):
         after = {"doc": wanted, "id": Number(str(number))}
         if line["after"] != after or line["types"] != {"doc": "json", "id": "int"}:
-            reasons.append(f"{name}: {str(line['after'])[:300]}, wanted {str(after)[:300]}")
+            reasons.append(f"{name}: {str(line['after'])[:SHOWN]}, wanted {str(after)[:SHOWN]}")
         if other["after"]["doc"] != raw_of(value):
-            reasons.append(f"{name}: the plain line has {str(other['after'])[:300]}")
+            reasons.append(f"{name}: the plain line has {str(other['after'])[:SHOWN]}")
     return reasons[:REASONS]
 
 
@@ -101,57 +99,64 @@ def server_cases() -> list[Case]:
 
 # ---- documents by hand
 
-BY_HAND = (
+# Documents that end with their last byte.
+EXACT = {
     # {"a": 1, "b": true, "c": null}, each value in its entry: 4 + 3 * 4 + 3 * 3 + 3 = 28 bytes
-    ("00 0300 1c00 1900 0100 1a00 0100 1b00 0100 05 0100 04 0100 04 0000 616263", '{"a":1,"b":true,"c":null}'),
+    "00 0300 1c00 1900 0100 1a00 0100 1b00 0100 05 0100 04 0100 04 0000 616263": '{"a":1,"b":true,"c":null}',
     # [-2, 70000, "ab"]: the second and third stand at 13 and 17, behind three entries
-    ("02 0300 1400 05 feff 07 0d00 0c 1100 70110100 02 6162", '[-2,70000,"ab"]'),
+    "02 0300 1400 05 feff 07 0d00 0c 1100 70110100 02 6162": '[-2,70000,"ab"]',
     # {"k": [{"z": 7}]}: offsets count from the first byte of the innermost one
-    ("00 0100 1f00 0b00 0100 02 0c00 6b 0100 1300 00 0700 0100 0c00 0b00 0100 05 0700 7a", '{"k":[{"z":7}]}'),
+    "00 0100 1f00 0b00 0100 02 0c00 6b 0100 1300 00 0700 0100 0c00 0b00 0100 05 0700 7a": '{"k":[{"z":7}]}',
     # a large object and a large array, in which integers of 32 bits stand in their entries
-    ("01 02000000 23000000 1e000000 0100 1f000000 0100 07 70110100 0c 20000000 6e73 02 6162", '{"n":70000,"s":"ab"}'),
-    ("03 02000000 12000000 08 ffffffff 04 02000000", "[4294967295,false]"),
+    "01 02000000 23000000 1e000000 0100 1f000000 0100 07 70110100 0c 20000000 6e73 02 6162": '{"n":70000,"s":"ab"}',
+    "03 02000000 12000000 08 ffffffff 04 02000000": "[4294967295,false]",
+}
+BY_HAND = (
+    *EXACT.items(),
     # an empty value, as INSERT IGNORE leaves it, is shown as null
     ("", "null"),
     # a gap in front of the value, and bytes behind the document, as a partial update leaves them
     ("02 0100 0b00 07 0700 70110100", "[70000]"), ("02 0100 0c00 07 0800 ff 70110100", "[70000]"), ("05 0100 ffff", "1"),
-    ("0b 0000000000000080", "-0.0"), ("0b 0000000000004024", None), ("0b 9a9999999999b93f", "0.1"), ("0b ffffffffffffef7f", "1.7976931348623157e+308"),
-    ("0b 0100000000000000", "5e-324"), ("0b 0080e03779c34143", "1e+16"), ("0b f168e388b5f8e43e", "1e-05"),
+    ("0b 0000000000000080", "-0.0"), ("0b 0000000000002440", "10.0"), ("0b 9a9999999999b93f", "0.1"),
+    ("0b ffffffffffffef7f", "1.7976931348623157e+308"), ("0b 0100000000000000", "5e-324"), ("0b 0080e03779c34143", "1e+16"), ("0b f168e388b5f8e43e", "1e-05"),
     # decimals: 1234567890.1234 and its negative as MySQL's description of the type has them, -0.00, and one of scale 0
-    ("0f f6 09 0e04 810dfb38d204d2", "1234567890.1234"), ("0f f6 09 0e04 7ef204c72dfb2d", "-1234567890.1234"), ("0f f6 04 0402 7fff", "0.00"),
-    ("0f f6 03 0300 8001", None), ("0f f6 04 0300 8001", "1"),
+    ("0f f6 09 0e04 810dfb38d204d2", "1234567890.1234"), ("0f f6 09 0e04 7ef204c72dfb2d", "-1234567890.1234"),
+    ("0f f6 04 0402 7fff", "0.00"), ("0f f6 04 0300 8001", "1"),
+    # bytes of other types, and those that are no DECIMAL: one that is cut, and one with more digits behind the point than it has
+    ("0f ff 02 cafe", '{"base64":"yv4=","type":255}'), ("0f f6 03 0300 80", '{"base64":"AwCA","type":246}'),
+    ("0f f6 02 050a", '{"base64":"BQo=","type":246}'),
 )  # fmt: skip
 
 
 def by_hand_cases() -> list[Case]:
     """Documents whose bytes were written down by hand."""
-    cases: list[Case] = []
-    for raw, text in BY_HAND:
-        value = bytes.fromhex(raw)
-        if text is not None:
-            cases.append((raw, value, parsed(text)))
-    # A DECIMAL of a wrong length is shown as values of other types are; a DOUBLE of 10.0 by its bytes.
-    cases.append(("a DECIMAL that is cut", bytes.fromhex("0ff603030080"), {"base64": "AwCA", "type": Number("246")}))
-    cases.append(("10.0", bytes.fromhex("0b 0000000000002440"), Number("10.0")))
-    return cases
+    return [(raw, bytes.fromhex(raw), parsed(text)) for raw, text in BY_HAND]
 
 
-TEXTS = ("", "a", '"\\/\b\f\n\r\t\x00\x1f\x7f', "é", "中文", "😀", "\u2028\ufeff", "x" * 127, "x" * 128, "é" * 8191 + "x", "é" * 8192, "y" * 70_000)
+TEXTS = (
+    "", "a", '"\\/\b\f\n\r\t\x00\x1f\x7f', "é", "中文", "😀", "\u2028\ufeff", "x" * 127, "x" * 128, "é" * 8191 + "x", "é" * 8192, "y" * 70_000,
+)  # fmt: skip
+# The least and the greatest number of each type of integer.
+BOUNDS = {
+    5: (-(2**15), 2**15 - 1), 6: (0, 2**16 - 1), 7: (-(2**31), 2**31 - 1), 8: (0, 2**32 - 1), 9: (-(2**63), 2**63 - 1), 10: (0, 2**64 - 1),
+}  # fmt: skip
 
 
 def edge_values() -> list[Value]:
     """Values at the edges of their types, and arrays and objects at the edges of their sizes."""
-    bounds = {5: (-(2**15), 2**15 - 1), 6: (0, 2**16 - 1), 7: (-(2**31), 2**31 - 1), 8: (0, 2**32 - 1), 9: (-(2**63), 2**63 - 1), 10: (0, 2**64 - 1)}
-    integers: list[Value] = [integer(kind, value) for kind, ends in bounds.items() for value in (*ends, 1)]
+    integers: list[Value] = [integer(kind, value) for kind, ends in BOUNDS.items() for value in (*ends, 1)]
     integers += [integer(kind, -1) for kind in (5, 7, 9)]
-    doubles: list[Value] = [double(value) for value in (0.0, -0.0, 1.5, -1e300, 2**53 + 2.0, 123456789012345.6, 9.999e-5, 1e22, 0.1 + 0.2)]
+    doubles: list[Value] = [
+        double(value) for value in (0.0, -0.0, 1.5, -1e300, 2**53 + 2.0, 123456789012345.6, 9.999e-5, 1e22, 0.1 + 0.2)
+    ]
     others: list[Value] = [
         decimal(False, "9" * 35, "9" * 30), decimal(True, "0", "5"), decimal(True, "00000000001", ""), decimal(False, "", "05"),
-        decimal(False, "123456789" * 7, ""), decimal(True, "000000000", "000000001"), moment(DATE, (9999, 12, 31)), moment(DATE, (0, 0, 0)),
-        moment(DATETIME, (2024, 2, 29), (23, 59, 59, 999_999)), moment(TIMESTAMP, (1970, 1, 1), (0, 0, 1, 0)), moment(DATETIME, (0, 0, 0), (0, 0, 0, 5)),
-        span(False, 838, 59, 58, 7), span(True, 838, 59, 58, 7), span(True, 0, 0, 0, 1), span(False, 0, 0, 0, 0), opaque(253, b"\xff\x00"),
-        opaque(255, b""), opaque(16, bytes(range(256))), opaque(NEWDECIMAL, bytes([66, 0]) + b"\x80" * 30), opaque(DATE, bytes(7)), opaque(TIME, b""),
-        opaque(DATETIME, b"\xff" * 8),
+        decimal(False, "123456789" * 7, ""), decimal(True, "000000000", "000000001"),
+        moment(DATE, (9999, 12, 31)), moment(DATE, (0, 0, 0)), moment(DATETIME, (2024, 2, 29), (23, 59, 59, 999_999)),
+        moment(TIMESTAMP, (1970, 1, 1), (0, 0, 1, 0)), moment(DATETIME, (0, 0, 0), (0, 0, 0, 5)),
+        span(False, 838, 59, 58, 7), span(True, 838, 59, 58, 7), span(True, 0, 0, 0, 1), span(False, 0, 0, 0, 0),
+        opaque(253, b"\xff\x00"), opaque(255, b""), opaque(16, bytes(range(256))), opaque(NEWDECIMAL, bytes([66, 0]) + b"\x80" * 30),
+        opaque(DATE, bytes(7)), opaque(TIME, b""), opaque(DATETIME, b"\xff" * 8),
     ]  # fmt: skip
     wide: list[Value] = [
         [*integers, *doubles, *others, *TEXTS], {str(number): value for number, value in enumerate([*integers, *others])},
@@ -163,7 +168,8 @@ def edge_values() -> list[Value]:
 
 def edge_cases() -> list[Case]:
     """Those, in small arrays and objects where they fit, and in large ones."""
-    return [(f"{str(value)[:60]}, large: {large}", document(value, large), shown(value)) for value in edge_values() for large in (False, True)]
+    values = edge_values()
+    return [(f"{str(value)[:60]}, large: {large}", document(value, large), shown(value)) for value in values for large in (False, True)]
 
 
 # ---- documents by chance
@@ -216,9 +222,10 @@ def chance_cases(seed: int) -> list[Case]:
 # ---- bytes that are no document
 
 NO_DOCUMENTS = (
-    "0d00", "0e", "10", "ff00", "0403", "04ff", "0b 000000000000f07f", "0b 000000000000f0ff", "0b 000000000000f87f", "0c 01ff", "0c 02c328",
+    "0d00", "0e", "10", "ff00", "0403", "04ff", "0b 000000000000f07f", "0b 000000000000f0ff", "0b 000000000000f87f",
+    "0c 01ff", "0c 02c328",
     # lengths of six bytes, and of more than there is
-    "0c ffffffffff01", "0c 808080808000", "0c ff", "0ff602050a00", "0f", "0ff6", "0f0c01",
+    "0c ffffffffff01", "0c 808080808000", "0c ff", "0f", "0ff6", "0f0c01",
     # a size below that of the entries, one above the bytes, and counts above the size
     "02 0100 0600 05 0100", "02 0100 0900 05 0100", "02 ffff 0700 05 0100", "03 ffffffff 0d000000 05 01000000", "00 0100 0a00 0b00 0000 04 0000",
     # values in front of their place, behind the end, and in the entries
@@ -239,18 +246,8 @@ def no_document_cases() -> list[Case]:
 
 def cut_cases() -> list[Case]:
     """Documents that are cut at each length but 0: the empty value is null."""
-    whole = [bytes.fromhex(raw) for raw, _ in SERVER[:33] if len(raw) > 4]
-    whole += [document(value, large) for value in ([{"key": ["text", 1.5, None]}, {}, 70_000 * "z"][:2], {"a": [], "bc": "d"}) for large in (False, True) if plain_only(value)]
+    whole = [bytes.fromhex(raw) for raw in (*(raw for raw, _ in SERVER), *EXACT)]
     return [(f"{value[:end].hex()}, cut", value[:end], raw_of(value[:end])) for value in whole for end in range(1, len(value))]
-
-
-def plain_only(value: Value) -> bool:
-    """Whether a value has no numbers: those need their types."""
-    if isinstance(value, list):
-        return all(map(plain_only, value))
-    if isinstance(value, dict):
-        return all(map(plain_only, value.values()))
-    return isinstance(value, (str, bool, Scalar)) or value is None
 
 
 def nested(depth: int) -> Value:
@@ -262,20 +259,13 @@ def nested(depth: int) -> Value:
 
 
 def deep_array(depth: int) -> bytes:
-    """A document of so many arrays in one another, from the innermost one on."""
-    kind, raw = encoded([])
-    parts = [raw]
-    for _ in range(depth - 1):
-        # Only the innermost size is needed to make the next one, whose bytes stand in front.
-        size = sum(map(len, parts[-1:])) if len(parts) == 1 else size + 13
-        parts.append(struct.pack("<IIBI", 1, size + 13, kind, 13))
-        kind = 3
-    return bytes([kind]) + b"".join(reversed(parts))
+    """A document of so many arrays in one another: an empty one in large ones, each of which has 13 bytes in front of the next."""
+    heads = [struct.pack("<IIBI", 1, 4 + 13 * outer, 3 if outer > 1 else 2, 13) for outer in range(depth - 1, 0, -1)]
+    return b"\x03" + b"".join(heads) + struct.pack("<HH", 0, 4)
 
 
-def shared(levels: int, width: int = 2) -> bytes:
-    """Objects with two members that both stand at the same place, so many in one another: who reads each twice never ends."""
-    value = b"\x00\x00\x04\x00" if width == 2 else b""
+def shared(levels: int) -> bytes:
+    """Objects with two members whose value is the same one, so many in one another: who reads each of them reads 2 ** levels values."""
     value = struct.pack("<HH", 0, 4)
     for _ in range(levels):
         at = 4 + 2 * 4 + 2 * 3 + 2
@@ -293,7 +283,8 @@ def shape_cases() -> list[Case]:
     twins = [(f"{levels} objects whose members share their values", shared(levels), raw_of(shared(levels))) for levels in (1, 2, DEEPEST - 1)]
     overlapping = b"\x02" + struct.pack("<HH", 200, 604) + b"\x02\0\0" * 200
     return [
-        ("the deepest", deepest, nested(DEEPEST)), ("too deep", deeper, raw_of(deeper)), ("1 MB of nested arrays", long, raw_of(long)),
+        ("the deepest", deepest, nested(DEEPEST)), ("too deep", deeper, raw_of(deeper)),
+        ("1 MB of nested arrays", long, raw_of(long)),
         ("1 MB of flat arrays", flat, [["x" * 10] * 10] * 8_000), ("1 MB of deep arrays", document(whole), whole), *twins,
         ("an array of itself", overlapping, raw_of(overlapping)),
     ]  # fmt: skip

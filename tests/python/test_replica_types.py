@@ -30,7 +30,7 @@ ALL = [
     ("least", "tinyint", -128, "smallint", -128), ("price", "decimal(8,2)", "-0.50", "numeric(8,2)", -0.50),
     ("ratio", "float", 0.1, "real", 0.1),
     ("size", "double", 0.1, "double precision", 0.1),
-    ("doc", "json", {"raw": "AAEADAALAAEABQEAYQ=="}, "jsonb", {"a": 1}),
+    ("doc", "json", {"a": 1}, "jsonb", {"a": 1}),
     ("born", "date", "2024-02-29", "date", "2024-02-29"),
     ("at", "datetime(3)", "2024-02-29 01:02:03.500", "timestamp", "2024-02-29T01:02:03.5"),
     ("seen", "timestamp(2)", "1714982400.25", "timestamptz", "2024-05-06T08:00:00.25+00:00"),
@@ -297,19 +297,11 @@ class Fitting(LinesTest):
             self.assertEqual(found, kept.get(affinity, ["integer", "integer"]), declared)
 
     def test_json(self):
-        self.assertEqual(fitting.json_text(b"\x0c\x03abc"), '"abc"')
-        self.assertEqual(fitting.json_text(bytes.fromhex("02 0200 0a00 04 0100 05 feff")), "[true, -2]")
-        self.assertEqual(fitting.json_text(b""), "null")
-        values = [
-            (Decimal("1.10"), 1.1),
-            (Decimal("12345678901234567890.5"), "12345678901234567890.5"),
-            (datetime.timedelta(days=-1, hours=-2, microseconds=-5), "-26:00:00.000005"),
-            (datetime.timedelta(hours=838, seconds=9), "838:00:09.000000"),
-            (datetime.datetime(2024, 1, 2, 3, 4, 5), "2024-01-02 03:04:05.000000"),
-            (datetime.date(2024, 1, 2), "2024-01-02"),
-            (b"\xff", "/w=="),
-        ]
-        self.assertEqual([fitting.json_value(value) for value, _ in values], [wanted for _, wanted in values])
+        for document, text in (
+            ("abc", '"abc"'), ([True, -2, 1.5, None], "[true, -2, 1.5, null]"), ({"é": {}}, '{"é": {}}'),
+            ([Decimal("12345678901234567890.5")], '["12345678901234567890.5"]'),
+        ):  # fmt: skip
+            self.assertEqual(fitting.json_text(document), text)
 
     def test_moments(self):
         told = {

@@ -145,8 +145,9 @@ class ByHand(unittest.TestCase):
             ("binary(4)", in_base64(b"\0\xff\0\0"), b"\0\xff\0\0"),
             ("blob", in_base64(b""), b""),
             ("geometry", in_base64(b"\0\0", "raw"), b"\0\0"),
-            ("json", in_base64(bytes.fromhex("050100"), "raw"), 1),
-            ("json", in_base64(b"\xff", "raw"), b"\xff"),
+            ("json", [1, {"a": None}], [1, {"a": None}]),
+            ("json", {**in_base64(b"a"), "type": 252}, {**in_base64(b"a"), "type": 252}),
+            ("json", in_base64(b"\xff", "raw"), in_base64(b"\xff", "raw")),
             ("bit(9)", 257, "100000001"),
             ("bit(9)", 0, "000000000"),
             ("year", "2024", 2024),
@@ -191,20 +192,20 @@ class ByHand(unittest.TestCase):
             ("varchar gbk", {**in_base64(b"\xd6\xd0"), "charset": "gbk"}, b"\xd6\xd0"),
             ("float", 0.1, 0.1),
             ("float", in_base64(b"abcd", "raw"), b"abcd"),
-            ("json", in_base64(bytes.fromhex("050100"), "raw"), bytes.fromhex("050100")),
+            ("json", in_base64(b"\xff", "raw"), in_base64(b"\xff", "raw")),
             ("blob", in_base64(b"\xff"), b"\xff"),
         ):
             self.assertEqual(value_of(type_text, value, raw=True), wanted)
 
     def test_on_bad_value(self):
-        """It is asked with the column and the value, for dates that Python hasn't, and bytes that are no text or document."""
+        """It is asked with the column and the value, for dates that Python hasn't, and bytes that are no text."""
         asked = []
         bad = {"date": "2024-02-00", "datetime(3)": "0000-00-00 00:00:00.000", "timestamp": "0", "year": "0000"}
-        bad.update({"char hp8": {**in_base64(b"a"), "charset": "hp8"}, "json": in_base64(b"\xff", "raw")})
+        bad["char hp8"] = {**in_base64(b"a"), "charset": "hp8"}
         for type_text, value in bad.items():
             came = value_of(type_text, value, on_bad_value=lambda column, value: asked.append((column, value)) or "instead")
             self.assertEqual(came, "instead")
-        wanted = [*list(bad.values())[:4], b"a", b"\xff"]
+        wanted = [*list(bad.values())[:4], b"a"]
         self.assertEqual(asked, [(Column("c", type_text), value) for type_text, value in zip(bad, wanted)])
         self.assertEqual(value_of("date", "2024-02-01", on_bad_value=lambda column, value: "instead"), datetime.date(2024, 2, 1))
 
@@ -241,6 +242,29 @@ class Lines(FolderTest):
         self.assertEqual((event.after, event.key, event.timestamp), (row, tuple(line["key"]), 7))
         self.assertEqual((event.schema, event.table, event.token), (line["schema"], line["table"], line["token"]))
         self.assertEqual([column.name for column in event.columns], [*row, '],"types":{'])
+
+    def documents(self, text, **options):
+        """The value of a JSON column that a line has so."""
+        line = '{"after":{"d":%s,"f":0.1},"before":null,"gtid":null,"key":[],"types":{"d":"json","f":"float"},"kind":"insert",' \
+            '"schema":"s","table":"t","timestamp":1,"token":"4.1@f"}'  # fmt: skip
+        program = self.stub(f"cat <<'END'\n{line % text}\nEND")
+        (event,) = BinLogStreamReader("f", program=program, together=False, **options)
+        self.assertEqual(event.after["f"], 0.1 if options.get("raw_values") else 13421773 / 2**27)
+        return event.after["d"]
+
+    def test_documents(self):
+        """Whatever the members of a document are called. A number is a float where that has its digits."""
+        for text, wanted in (
+            ("null", None), ("true", True), ('"2015-01-15"', "2015-01-15"), ("18446744073709551615", 2**64 - 1),
+            ("1.5", 1.5), ("1e+22", 1e22), ("-0.0", -0.0), ("1.50", 1.5), ("12345678901234567890.5", Decimal("12345678901234567890.5")), ("9" * 65, int("9" * 65)),
+            ('{"raw":"/w=="}', {"raw": "/w=="}), ('{"base64":1}', {"base64": 1}),
+            ('{"base64":"YQ==","type":252}', {"base64": "YQ==", "type": 252}),
+            ('[{"key":[1],"types":{"timestamp":1}},{"timestamp":3}]', [{"key": [1], "types": {"timestamp": 1}}, {"timestamp": 3}]),
+        ):  # fmt: skip
+            for options in ({}, {"raw_values": True}, {"convert": {"t.d": lambda value: value}}):
+                with self.subTest(text=text, options=options):
+                    came = self.documents(text, **options)
+                    self.assertEqual((repr(came), type(came)), (repr(wanted), type(wanted)))
 
     def test_forms(self):
         """Each line has its own key and types, whatever stood before it."""

@@ -1,11 +1,11 @@
 -- Lines of a change, plain and full, and the table maps that they need.
 use Prim.Native.String.{String}
-use Rattle.std.specs.Prelude.{◌≡◌, ℕ, negsuc, List, [], ◌∷◌, Option, Some, None, Result, Ok, Err, codes}
+use Rattle.std.specs.Prelude.{◌≡◌, ℕ, pos, negsuc, List, [], ◌∷◌, Option, Some, None, Result, Ok, Err, codes}
 use Rattle.binlog_select.specs.declared.kind.ChangeKind.TheVariants.{Insert, Update}
 use Rattle.binlog_table.specs.Map.{Map, map_at, no_sections}
 use Rattle.binlog_table.specs.Rows.{Row}
 use Rattle.binlog_table.specs.Value.{Content}
-use Rattle.binlog_table.specs.Value.Content.{absent, null, int, uint, year, bytes}
+use Rattle.binlog_table.specs.Value.Content.{absent, null, int, uint, year, bytes, raw}
 use Rattle.binlog_table.specs.declared.fault.MapFault.{MapFault}
 use Rattle.binlog_feed.specs.Changes.{RowChange}
 use Rattle.binlog_json.specs.declared.style.Style.{Style}
@@ -111,3 +111,33 @@ LineWithKey =
     × Writes Plain keyed_update
     "{\"after\":{\"n\":null,\"y\":\"2025\"},\"before\":{\"b\":{\"base64\":\"AP8=\"},\"l\":{\"base64\":\"6Q==\"},\"n\":-56,\"v\":4294967291,\"y\":\"2024\"},\"gtid\":null,\"kind\":\"update\",\"schema\":\"s\",\"table\":\"t\",\"timestamp\":1,\"token\":\"4.7@binlog.000002\"}"
     × (Writes Full keyed_update "{}" → ⊥)
+
+-- ---- an update of a JSON column
+
+-- id INT, the key, and d JSON
+abbrev pub document_body : List ℕ
+document_body = body_with "02 03 f5 01 04 03 01 01 00 04 05 02 69 64 01 64 08 01 00"
+
+-- from {"a":1} to the first three of its bytes
+abbrev pub document_change : RowChange
+document_change = record {
+  file = codes "binlog.000002";
+  position = 4;
+  number = 7;
+  gtid = None;
+  kind = Update;
+  timestamp = 1;
+  table = table_in document_body;
+  row = record {
+    before = Some (int (pos 1) ∷ raw (hex "00 01 00 0c 00 0b 00 01 00 05 01 00 61") ∷ []);
+    after = Some (int (pos 1) ∷ raw (hex "00 01 00") ∷ []);
+  };
+}
+
+-- bytes that are no document stand as they do in plain lines
+abbrev pub LineWithDocument : Type 0
+LineWithDocument =
+    Writes Full document_change
+    "{\"after\":{\"d\":{\"raw\":\"AAEA\"},\"id\":1},\"before\":{\"d\":{\"a\":1},\"id\":1},\"gtid\":null,\"key\":[\"id\"],\"types\":{\"d\":\"json\",\"id\":\"int\"},\"kind\":\"update\",\"schema\":\"s\",\"table\":\"t\",\"timestamp\":1,\"token\":\"4.7@binlog.000002\"}"
+    × Writes Plain document_change
+    "{\"after\":{\"d\":{\"raw\":\"AAEA\"},\"id\":1},\"before\":{\"d\":{\"raw\":\"AAEADAALAAEABQEAYQ==\"},\"id\":1},\"gtid\":null,\"kind\":\"update\",\"schema\":\"s\",\"table\":\"t\",\"timestamp\":1,\"token\":\"4.7@binlog.000002\"}"

@@ -1,6 +1,6 @@
 -- FLOAT and DOUBLE in full lines, and values that full lines have as plain lines do.
 use Prim.Native.String.{String}
-use Rattle.std.specs.Prelude.{◌≡◌, ℕ, ◌-◌, true, false, List, map, None, codes}
+use Rattle.std.specs.Prelude.{◌≡◌, ℕ, ◌-◌, true, false, List, [], map, None, codes}
 use Rattle.binlog_json.specs.Json.{compact_text}
 use Rattle.binlog_table.specs.Value as cell
 use Rattle.binlog_table.specs.Value.{Content}
@@ -54,7 +54,23 @@ NoNumbers =
     × Both 5 (cell.raw (hex "00 00 00 00 00 00 f0 7f")) "{\"raw\":\"AAAAAAAA8H8=\"}"
     × Both 5 (cell.raw (hex "01 00 00 00 00 00 f0 ff")) "{\"raw\":\"AQAAAAAA8P8=\"}"
 
--- BIT(9), the JSON {"a":1}, and null
+-- {"a":1}, [null,"x"], a DECIMAL, a DATE, a VAR_STRING, null, and the empty value
+abbrev pub Documents : Type 0
+Documents =
+    Each 245 (cell.raw (hex "00 01 00 0c 00 0b 00 01 00 05 01 00 61")) "{\"a\":1}" "{\"raw\":\"AAEADAALAAEABQEAYQ==\"}"
+    × Each 245 (cell.raw (hex "02 02 00 0c 00 04 00 00 0c 0a 00 01 78")) "[null,\"x\"]" "{\"raw\":\"AgIADAAEAAAMCgABeA==\"}"
+    × Each 245 (cell.raw (hex "0f f6 04 04 02 80 05")) "0.05" "{\"raw\":\"D/YEBAKABQ==\"}"
+    × Each 245 (cell.raw (hex "0f 0a 08 00 00 00 00 00 1e 95 19")) "\"2015-01-15\"" "{\"raw\":\"DwoIAAAAAAAelRk=\"}"
+    × Each 245 (cell.raw (hex "0f fd 01 ff")) "{\"base64\":\"/w==\",\"type\":253}" "{\"raw\":\"D/0B/w==\"}"
+    × Each 245 (cell.raw (hex "04 00")) "null" "{\"raw\":\"BAA=\"}" × Each 245 (cell.raw []) "null" "{\"raw\":\"\"}"
+
+-- a number that is cut, a literal that is none, and {"a":1} whose one value lies in front of its key
+abbrev pub NoDocuments : Type 0
+NoDocuments =
+    Both 245 (cell.raw (hex "05 01")) "{\"raw\":\"BQE=\"}" × Both 245 (cell.raw (hex "04 03")) "{\"raw\":\"BAM=\"}"
+    × Both 245 (cell.raw (hex "00 01 00 0c 00 0b 00 01 00 0c 04 00 61")) "{\"raw\":\"AAEADAALAAEADAQAYQ==\"}"
+
+-- BIT(9), the bytes of {"a":1} in a GEOMETRY, and null
 abbrev pub RawValues : Type 0
 RawValues =
-    Both 16 (cell.bits 257) "257" × Both 245 (cell.raw (hex "00 01 00 0c 00 0b 00 01 00 05 01 00 61")) "{\"raw\":\"AAEADAALAAEABQEAYQ==\"}" × Both 15 cell.null "null"
+    Both 16 (cell.bits 257) "257" × Both 255 (cell.raw (hex "00 01 00 0c 00 0b 00 01 00 05 01 00 61")) "{\"raw\":\"AAEADAALAAEABQEAYQ==\"}" × Both 15 cell.null "null"

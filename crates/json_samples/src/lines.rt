@@ -1,5 +1,5 @@
 //! The definitions of lines, keys and histories in both styles.
-ghost use Rattle.json_samples.specs.Lines.{LineWithYear, LineWithCharsets, LineWithKey};
+ghost use Rattle.json_samples.specs.Lines.{LineWithYear, LineWithCharsets, LineWithKey, LineWithDocument};
 ghost use Rattle.json_samples.specs.Keys.{FourColumns, MissingColumns, KeysOfUpdate};
 ghost use Rattle.json_samples.specs.Histories.{FullKey, PlainKey, OtherStyle};
 
@@ -9,6 +9,7 @@ pub fn sample_lines()
     ensures line_with_year { LineWithYear }
     ensures line_with_charsets { LineWithCharsets }
     ensures line_with_key { LineWithKey }
+    ensures line_with_document { LineWithDocument }
     ensures four_columns { FourColumns }
     ensures missing_columns { MissingColumns }
     ensures keys_of_update { KeysOfUpdate }

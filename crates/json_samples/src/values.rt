@@ -2,7 +2,7 @@
 ghost use Rattle.json_samples.specs.Integers.{Tiny, Small, Medium, Long, LongLong};
 ghost use Rattle.json_samples.specs.Texts.{Latin1Texts, Windows1252, Utf8Texts, NoUtf8, Utf16Texts, NoUtf16, Utf32Texts, NoUtf32, OtherCharsets, Binaries, NoCharset};
 ghost use Rattle.json_samples.specs.Names.{Unnamed, Enums, EnumBytes, Sets, WideSets, MalformedSets, SetBytes};
-ghost use Rattle.json_samples.specs.Others.{Times, Decimals, Floats, NoNumbers, RawValues};
+ghost use Rattle.json_samples.specs.Others.{Times, Decimals, Floats, NoNumbers, Documents, NoDocuments, RawValues};
 
 /// Integers by the server's sign, texts by their character sets, values of ENUM and SET, FLOAT and DOUBLE, and those that plain lines have, too.
 pub fn sample_full_values()
@@ -33,5 +33,7 @@ pub fn sample_full_values()
     ensures decimals { Decimals }
     ensures floats { Floats }
     ensures no_numbers { NoNumbers }
+    ensures documents { Documents }
+    ensures no_documents { NoDocuments }
     ensures raw_values { RawValues }
 {}
