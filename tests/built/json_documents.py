@@ -118,7 +118,8 @@ BY_HAND = (
     # a gap in front of the value, and bytes behind the document, as a partial update leaves them
     ("02 0100 0b00 07 0700 70110100", "[70000]"), ("02 0100 0c00 07 0800 ff 70110100", "[70000]"), ("05 0100 ffff", "1"),
     ("0b 0000000000000080", "-0.0"), ("0b 0000000000002440", "10.0"), ("0b 9a9999999999b93f", "0.1"),
-    ("0b ffffffffffffef7f", "1.7976931348623157e+308"), ("0b 0100000000000000", "5e-324"), ("0b 0080e03779c34143", "1e+16"), ("0b f168e388b5f8e43e", "1e-05"),
+    ("0b ffffffffffffef7f", "1.7976931348623157e+308"), ("0b 0100000000000000", "5e-324"),
+    ("0b 0080e03779c34143", "1e+16"), ("0b f168e388b5f8e43e", "1e-05"),
     # decimals: 1234567890.1234 and its negative as MySQL's description of the type has them, -0.00, and one of scale 0
     ("0f f6 09 0e04 810dfb38d204d2", "1234567890.1234"), ("0f f6 09 0e04 7ef204c72dfb2d", "-1234567890.1234"),
     ("0f f6 04 0402 7fff", "0.00"), ("0f f6 04 0300 8001", "1"),
@@ -227,9 +228,11 @@ NO_DOCUMENTS = (
     # lengths of six bytes, and of more than there is
     "0c ffffffffff01", "0c 808080808000", "0c ff", "0f", "0ff6", "0f0c01",
     # a size below that of the entries, one above the bytes, and counts above the size
-    "02 0100 0600 05 0100", "02 0100 0900 05 0100", "02 ffff 0700 05 0100", "03 ffffffff 0d000000 05 01000000", "00 0100 0a00 0b00 0000 04 0000",
+    "02 0100 0600 05 0100", "02 0100 0900 05 0100", "02 ffff 0700 05 0100",
+    "03 ffffffff 0d000000 05 01000000", "00 0100 0a00 0b00 0000 04 0000",
     # values in front of their place, behind the end, and in the entries
-    "02 0100 0700 02 0000", "02 0100 0700 0c 0800", "02 0100 0900 0c ffff 0161", "02 0100 0900 0c 0500 0161", "02 0100 0b00 07 0600 00000000",
+    "02 0100 0700 02 0000", "02 0100 0700 0c 0800", "02 0100 0900 0c ffff 0161",
+    "02 0100 0900 0c 0500 0161", "02 0100 0b00 07 0600 00000000",
     # keys behind the end, in the entries, in the values and in the wrong order
     "00 0100 0c00 0c00 0100 05 0100 61", "00 0100 0c00 0b00 0200 05 0100 61", "00 0100 0c00 0a00 0100 05 0100 61",
     "00 0200 1400 1300 0100 1200 0100 05 0100 05 0200 6162", "00 0100 0c00 0b00 0100 05 0100 ff",
@@ -280,7 +283,7 @@ def shape_cases() -> list[Case]:
     long = deep_array(80_000)
     flat = document([["x" * 10] * 10] * 8_000)
     whole = 2_000 * [nested(DEEPEST - 1)]
-    twins = [(f"{levels} objects whose members share their values", shared(levels), raw_of(shared(levels))) for levels in (1, 2, DEEPEST - 1)]
+    twins = [(f"{levels} objects, each with one value twice", shared(levels), raw_of(shared(levels))) for levels in (1, 2, DEEPEST - 1)]
     overlapping = b"\x02" + struct.pack("<HH", 200, 604) + b"\x02\0\0" * 200
     return [
         ("the deepest", deepest, nested(DEEPEST)), ("too deep", deeper, raw_of(deeper)),
@@ -303,7 +306,8 @@ def judge_by(cases: Callable[[], list[Case]], program: Path, folder: Path) -> li
 def checks() -> list[Check]:
     """The checks of JSON columns."""
     parts = (
-        ("JSON documents of a server", server_cases), ("JSON documents by hand", by_hand_cases), ("JSON documents at the edges", edge_cases),
+        ("JSON documents of a server", server_cases), ("JSON documents by hand", by_hand_cases),
+        ("JSON documents at the edges", edge_cases),
         ("bytes that are no JSON document", no_document_cases), ("JSON documents that are cut", cut_cases),
     )  # fmt: skip
     return [

@@ -256,7 +256,8 @@ class Lines(FolderTest):
         """Whatever the members of a document are called. A number is a float where that has its digits."""
         for text, wanted in (
             ("null", None), ("true", True), ('"2015-01-15"', "2015-01-15"), ("18446744073709551615", 2**64 - 1),
-            ("1.5", 1.5), ("1e+22", 1e22), ("-0.0", -0.0), ("1.50", 1.5), ("12345678901234567890.5", Decimal("12345678901234567890.5")), ("9" * 65, int("9" * 65)),
+            ("1.5", 1.5), ("1e+22", 1e22), ("-0.0", -0.0), ("1.50", 1.5),
+            ("12345678901234567890.5", Decimal("12345678901234567890.5")), ("9" * 65, int("9" * 65)),
             ('{"raw":"/w=="}', {"raw": "/w=="}), ('{"base64":1}', {"base64": 1}),
             ('{"base64":"YQ==","type":252}', {"base64": "YQ==", "type": 252}),
             ('[{"key":[1],"types":{"timestamp":1}},{"timestamp":3}]', [{"key": [1], "types": {"timestamp": 1}}, {"timestamp": 3}]),
