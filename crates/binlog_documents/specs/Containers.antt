@@ -31,14 +31,18 @@ container_at entry_len width bytes =
 abbrev pub is_inlined : ℕ → ℕ → Bool
 is_inlined width kind = (kind == 4) || ((kind == 5) || ((kind == 6) || ((width == 4) && ((kind == 7) || (kind == 8)))))
 
+-- where the value of the entry at a place stands, in the bytes and not in front of a place
+unfoldable pub value_place : ℕ → List ℕ → ℕ → ℕ → Option ℕ
+value_place width bytes entry from =
+    let place = little_number width (drop (entry + 1) bytes) in if nat_le from place && nat_le place (length bytes) then Some place else None
+
 -- The value of the entry at a place, and where the next value may begin: values stand in the order of their entries, with or without
 -- gaps, from a place on.
 unfoldable pub value_in : (ℕ → List ℕ → Reading) → ℕ → List ℕ → ℕ → ℕ → Reading
 value_in value width bytes entry from =
     let kind = slice_index bytes entry in
     if is_inlined width kind then option_map (λ x. (x.0, from)) (scalar_at kind (drop (entry + 1) bytes))
-    else (let place = little_number width (drop (entry + 1) bytes) in
-    if nat_le from place && nat_le place (length bytes) then option_map (λ x. (x.0, place + x.1)) (value kind (drop place bytes)) else None)
+    else (value_place width bytes entry from >>= λ place. option_map (λ x. (x.0, place + x.1)) (value kind (drop place bytes)))
 
 -- where a key stands, by its entry, and its length
 abbrev pub key_entry : ℕ → List ℕ → ℕ → ℕ × ℕ

@@ -1,7 +1,7 @@
 //! Arrays and objects: how many elements or members they have, and the bytes that these lie in.
 ghost use Rattle.std.specs.Prelude.{◌≡◌, ◌<◌, ◌≤◌, ◌+◌, ◌*◌, ◌^◌, length, option_map, IfSome};
 ghost use Rattle.byteorder.specs.Endian.{little_number};
-ghost use Rattle.binlog_documents.specs.Containers.{container_at, is_inlined, key_entry, keys_end, member_entries};
+ghost use Rattle.binlog_documents.specs.Containers.{container_at, element_entry, is_inlined, key_entry, keys_end, member_entries, value_place};
 ghost use Rattle.binlog_documents.specs.Widths.{bytes_of, container_view};
 
 use byteorder::{ByteOrder, LittleEndian};
@@ -77,6 +77,20 @@ pub(crate) fn is_inlined(width: Width, kind: u8) -> bool
         Width::Two => matches!(kind, 4 | 5 | 6),
         Width::Four => matches!(kind, 4 | 5 | 6 | 7 | 8),
     }
+}
+
+/// Where the value of the entry at a place stands: in the bytes, and not in front of `from`.
+#[tactic(auto, unfolding(crate::specs::Containers::value_place))]
+pub(crate) fn value_place(bytes: &[u8], width: Width, entry: usize, from: usize) -> Option<usize>
+    requires { entry + element_entry (bytes_of width) ≤ length bytes.now }
+    ensures value { result ≡ value_place (bytes_of width) bytes.now entry from }
+    ensures within { IfSome result (λ place. place ≤ length bytes.now) }
+{
+    let place = number(&bytes[entry + 1..], width);
+    if place < from || place > bytes.len() {
+        return None;
+    }
+    Some(place)
 }
 
 /// Where a key stands, by its entry, and its length.

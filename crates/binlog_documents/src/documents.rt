@@ -9,7 +9,9 @@ ghost use Rattle.binlog_documents.specs.Appended.{IsAppended, IsKeyAppended, IsR
 
 use crate::append::{append_comma, append_quoted, append_scalar};
 use crate::bytes::utf8_text;
-use crate::container::{Container, Width, container_at, is_inlined, key_entry, keys_end, number};
+use crate::container::{
+    Container, Width, container_at, is_inlined, key_entry, keys_end, value_place,
+};
 use crate::read::scalar_at;
 use std::alloc::AllocError;
 
@@ -110,7 +112,8 @@ fn append_elements(
 ) -> Result<bool, AllocError>
     requires room { 2 * bytes_of width + array.count * element_entry (bytes_of width) ≤ length array.bytes.now }
     requires few { array.count < 2 ^ 32 }
-    ensures text { IfOk result (IsRead out.old.items out.new.items (option_map (elements_text false) (elements_of (value_at depth) (bytes_of width) (container_view array.entry)))) }
+    ensures text { IfOk result (IsRead out.old.items out.new.items
+        (option_map (elements_text false) (elements_of (value_at depth) (bytes_of width) (container_view array.entry)))) }
 {
     let step = width.bytes() + 1;
     let mut entry = 2 * width.bytes();
@@ -160,7 +163,8 @@ fn append_members(
 ) -> Result<bool, AllocError>
     requires room { 2 * bytes_of width + object.count * member_entries (bytes_of width) ≤ length object.bytes.now }
     requires few { object.count < 2 ^ 32 }
-    ensures text { IfOk result (IsRead out.old.items out.new.items (option_map (members_text false) (members_of (value_at depth) (bytes_of width) (container_view object.entry)))) }
+    ensures text { IfOk result (IsRead out.old.items out.new.items
+        (option_map (members_text false) (members_of (value_at depth) (bytes_of width) (container_view object.entry)))) }
 {
     let key_step = width.bytes() + 2;
     let step = width.bytes() + 1;
@@ -199,17 +203,15 @@ fn append_value_in(
     ensures text { IfOk result (IsAppended out.old.items out.new.items (value_in (value_at depth) (bytes_of width) bytes.now entry from)) }
 {
     let kind = bytes[entry];
-    let field = &bytes[entry + 1..];
     if is_inlined(width, kind) {
-        return match append_scalar_at(out, kind, field)? {
+        return match append_scalar_at(out, kind, &bytes[entry + 1..])? {
             None => Ok(None),
             Some(_) => Ok(Some(from)),
         };
     }
-    let place = number(field, width);
-    if place < from || place > bytes.len() {
+    let Some(place) = value_place(bytes, width, entry, from) else {
         return Ok(None);
-    }
+    };
     match append_value(out, kind, &bytes[place..], depth)? {
         None => Ok(None),
         Some(len) => Ok(Some(place + len)),

@@ -13,6 +13,4 @@ mod scalar;
 mod time;
 mod writer;
 
-pub use read::scalar_at;
-pub use scalar::{Finite, Scalar};
 pub use writer::DocumentWriter;

@@ -91,7 +91,7 @@ fn opaque_at(bytes: &[u8]) -> Option<(Scalar<'_>, usize)>
 
 /// The value at the front of the bytes, by its type.
 #[tactic(auto, unfolding(crate::specs::Scalars::scalar_at))]
-pub fn scalar_at(kind: u8, bytes: &[u8]) -> Option<(Scalar<'_>, usize)>
+pub(crate) fn scalar_at(kind: u8, bytes: &[u8]) -> Option<(Scalar<'_>, usize)>
     ensures value { reading_view result ≡ scalar_at kind bytes.now }
     ensures within { IfSome result (λ x. x.1 ≤ length bytes.now) }
 {

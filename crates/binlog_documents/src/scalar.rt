@@ -4,14 +4,14 @@ ghost use Rattle.binlog_documents.specs.Scalars.{is_finite};
 
 /// The bits of a double that is neither infinite nor NaN.
 #[derive(Clone, Copy)]
-pub struct Finite {
-    pub bits: u64,
+pub(crate) struct Finite {
+    pub(crate) bits: u64,
     ghost finite: { is_finite bits ≡ true },
 }
 
 /// A value that has no parts.
 #[derive(Clone, Copy)]
-pub enum Scalar<'a> {
+pub(crate) enum Scalar<'a> {
     Null,
     Boolean(bool),
     Signed(i64),
