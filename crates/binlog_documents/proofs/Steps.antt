@@ -1,9 +1,9 @@
 -- Going over the elements of an array and the members of an object, as a loop does: what stands there and what is still to come are
 -- together the whole.
-use Rattle.std.proofs.Common.{◌≡◌, ℕ, zero, suc, ◌+◌, ◌-◌, ◌*◌, ◌<◌, ◌≤◌, Bool, true, false, List, [], ◌∷◌, ◌++◌, length, Option, Some, None, option_map, option_and_then, unwrap_or, nat_lt, refl, sym, ap, append_assoc, append-nil, ◌∙◌, arith}
+use Rattle.std.proofs.Common.{◌≡◌, ℕ, zero, suc, ◌+◌, ◌-◌, ◌*◌, ◌<◌, ◌≤◌, Bool, true, false, List, [], ◌∷◌, ◌++◌, Option, Some, None, option_map, unwrap_or, nat_lt, refl, sym, ap, append_assoc, append-nil, ◌∙◌, arith}
 use Rattle.std.proofs.lemmas.Bool.Decides.{nat_tests}
 use Rattle.json.specs.Print.{quoted}
-use Rattle.binlog_documents.specs.Document.{Document, Elements, no_elements, element, Members, no_members, member}
+use Rattle.binlog_documents.specs.Document.{Document, Elements, element, Members, member}
 use Rattle.binlog_documents.specs.Scalars.{◌>>=◌, Reading}
 use Rattle.binlog_documents.specs.Containers.{value_in, key_in, elements_in, members_in}
 use Rattle.binlog_documents.specs.Texts.{comma_if, document_text, elements_text, members_text}

@@ -1,5 +1,5 @@
 -- Dates and times, and what is none.
-use Rattle.std.proofs.Common.{◌≡◌, ◌≢◌, ℕ, ◌+◌, ◌-◌, ◌^◌, ◌<◌, ◌≤◌, Bool, true, false, ◌&&◌, ◌==◌, List, ◌∷◌, ◌++◌, length, nat_lt, Option, Some, None, refl, ne_eqb, eq-eqb, arith}
+use Rattle.std.proofs.Common.{◌≡◌, ℕ, ◌-◌, ◌^◌, ◌≤◌, true, false, List, ◌∷◌, ◌++◌, length, nat_lt, Option, Some, None, refl, ne_eqb, eq-eqb, arith}
 use Rattle.std.proofs.lemmas.Bool.Decides.{nat_tests}
 use Rattle.byteorder.specs.Endian.{little_number}
 use Rattle.binlog_documents.specs.Opaques.{in_quotes, is_shown, shown_text, span_text, time_opaque, time_text}

@@ -2,7 +2,7 @@
 -- Places in a container count from its first byte:
 --   count, size, then for an object a key entry (place, length of two bytes) for each member, then for each element or member a
 --   value entry (type, and the value or its place), then keys, then values.
-use Rattle.std.specs.Prelude.{ℕ, zero, suc, ◌+◌, ◌*◌, List, [], ◌∷◌, length, take, drop, slice_index, ◌-◌, Bool, true, false, ◌==◌, ◌&&◌, ◌||◌, nat_le, if◌then◌else◌, Option, Some, None, option_map}
+use Rattle.std.specs.Prelude.{ℕ, zero, suc, ◌+◌, ◌*◌, List, [], ◌∷◌, length, take, drop, slice_index, ◌-◌, Bool, ◌==◌, ◌&&◌, ◌||◌, nat_le, if◌then◌else◌, Option, Some, None, option_map}
 use Rattle.byteorder.specs.Endian.{little_number}
 use Rattle.binlog_documents.specs.Document.{Document, null, array, object, Elements, no_elements, element, Members, no_members, member}
 use Rattle.binlog_documents.specs.Scalars.{◌>>=◌, Reading, utf8_text, scalar_at}

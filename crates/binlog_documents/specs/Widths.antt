@@ -1,5 +1,5 @@
 -- How many bytes the numbers of a container have.
-use Rattle.std.specs.Prelude.{ℕ, Option, option_map}
+use Rattle.std.specs.Prelude.{ℕ}
 use Rattle.binlog_documents.specs.declared.container.Width.{Width}
 use Rattle.binlog_documents.specs.declared.container.Width.TheVariants.{Two, Four}
 use Rattle.binlog_documents.specs.declared.container.Container as stored

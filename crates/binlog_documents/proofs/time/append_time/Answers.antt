@@ -1,6 +1,5 @@
 use Rattle.std.proofs.Common.{arith}
 use Rattle.std.proofs.lemmas.Grind.{common_steps}
-use Rattle.binlog_documents.specs.Opaques.{in_quotes, shown_text, time_opaque}
 use Rattle.binlog_documents.proofs.Times.{appends-none, appends-some, is_time, no_time-by_length, no_time-by_sign}
 use Rattle.binlog_documents.proofs.time.append_time.Goals as goal
 
