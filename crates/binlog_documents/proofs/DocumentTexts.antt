@@ -13,7 +13,7 @@ use Rattle.binlog_documents.specs.Document.{Document, null, boolean, integer, do
 use Rattle.binlog_documents.specs.Scalars.{◌>>=◌, Reading, literal_at, number_at, signed, unsigned, is_finite, double_at, counted_at, utf8_text, text_at, opaque_at, scalar_at}
 use Rattle.binlog_documents.specs.Opaques.{encoded_text, time_opaque, decimal_opaque, opaque_text}
 use Rattle.binlog_documents.specs.Texts.{comma_if, document_text, elements_text, members_text}
-use Rattle.binlog_documents.specs.Containers.{value_place, Container, element_entry, member_entries, container_at, is_inlined, value_in, key_entry, key_in, elements_in, members_in, elements_of, members_of, array_at, object_at, value_at, greatest_depth, document_at}
+use Rattle.binlog_documents.specs.Containers.{Container, element_entry, member_entries, container_at, is_inlined, value_place, value_in, key_entry, key_in, elements_in, members_in, elements_of, members_of, array_at, object_at, value_at, greatest_depth, document_at}
 use Rattle.binlog_documents.specs.Values.{value_text}
 use Rattle.binlog_documents.proofs.Ascii as ascii
 use Rattle.binlog_documents.proofs.Ascii.{IsAsciiText}
@@ -211,16 +211,17 @@ key_sound width bytes entry from = key_chosen _ _ None (utf8_sound _ _) (record 
 record AllSound (value : ℕ → List ℕ → Reading) : Type 0 where
   each : (kind : ℕ) (bytes : List ℕ) → Sound (value kind bytes)
 
+placed : (o : Option ℕ) (read : ℕ → Reading) → ((place : ℕ) → Sound (read place)) → Sound (o >>= read)
+placed None read p = nothing
+placed (Some place) read p = p place
+
 value_in_sound : (value : ℕ → List ℕ → Reading) → AllSound value → (width : ℕ) (bytes : List ℕ) (entry from : ℕ) → Sound (value_in value width bytes entry from)
 unfolding value_in
 value_in_sound value sound width bytes entry from =
     let kind = slice_index bytes entry in
     chosen (is_inlined width kind) _ _ (moved (λ _. from) (scalar_at kind (drop (entry + 1) bytes)) (scalar_sound kind (drop (entry + 1) bytes)))
-    (at kind (value_place width bytes entry from))
-  where
-    at : (kind : ℕ) (o : Option ℕ) → Sound (o >>= λ place. option_map (λ x. (x.0, place + x.1)) (value kind (drop place bytes)))
-    at kind None = nothing
-    at kind (Some place) = moved (λ len. place + len) (value kind (drop place bytes)) (sound.each kind (drop place bytes))
+    (placed (value_place width bytes entry from) (λ place. option_map (λ x. (x.0, place + x.1)) (value kind (drop place bytes)))
+      (λ place. moved (λ len. place + len) (value kind (drop place bytes)) (sound.each kind (drop place bytes))))
 
 element_behind : (d : Document) (o : Option Elements) → IsSound d → SoundElements o → SoundElements (option_map (element d) o)
 element_behind d None h p = record { has = tt }

@@ -1,5 +1,5 @@
 -- What documents are, apart from their text, and how deep they may be.
-use Rattle.std.specs.Prelude.{◌≡◌, ℕ, zero, suc, ◌+◌, ◌/◌, ◌%◌, ℤ, pos, negsuc, List, [], ◌∷◌, ◌++◌, length, codes, Bool, Some, None}
+use Rattle.std.specs.Prelude.{◌≡◌, ℕ, zero, suc, ◌+◌, ◌/◌, ◌%◌, pos, negsuc, List, [], ◌∷◌, length, codes, Bool, Some, None}
 use Rattle.binlog_documents.specs.Document.{Document, null, boolean, integer, double, text, opaque, array, object, no_elements, element, no_members, member}
 use Rattle.binlog_documents.specs.Containers.{document_at}
 use Rattle.document_samples.specs.Bytes.{hex}
