@@ -116,9 +116,10 @@ def _forked(work: Callable[[], None]) -> int:
 
 def _do(work: Callable[[], None], parent: int) -> NoReturn:
     """Does the work, and ends the process."""
-    threading.Thread(target=_end_with, args=(parent,), daemon=True).start()
     status = 1
     try:
+        # Within this, so that no interrupt goes on into what the other process was about to do.
+        threading.Thread(target=_end_with, args=(parent,), daemon=True).start()
         work()
         status = 0
     finally:
