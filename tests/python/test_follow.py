@@ -13,7 +13,7 @@ import time
 from pathlib import Path
 from unittest import mock
 
-from binlogfeed import BinlogfeedError, FileFault, LogFault, LogLost, LogsGone, Place, TokenRefused, listed
+from binlogfeed import BinlogfeedError, FileFault, LogFault, LogLost, LogsGone, Place, TokenRefused
 from binlogfeed import follow as following
 from binlogfeed import watch as watching
 from binlogfeed.follow import Follower, read_state, write_state
@@ -555,40 +555,6 @@ class States(ServerTest):
         self.assertIn("another process uses", caught.exception.line)
         first.close()
         self.assertEqual(len(self.followed().splitlines()), 2)
-
-
-class Listing(ServerTest):
-    """Where logs are."""
-
-    def names(self, place):
-        """The names of the logs at a place."""
-        return [path.name for path in listed(place)]
-
-    def test_index(self):
-        (self.data / "binlog.index").write_text(f"./binlog.000009\n{self.data}/binlog.000010\nbinlog.0000")
-        self.assertEqual(listed(self.data), [self.data / "binlog.000009", self.data / "binlog.000010"])
-        self.assertEqual(listed(self.data / "binlog.index"), listed(self.data))
-
-    def test_pattern(self):
-        for name in ("binlog.000002", "binlog.999999", "binlog.1000000", "binlog.index", "binlog.000003.gz", "binlog.~rec~"):
-            self.log(name, b"")
-        self.assertEqual(self.names(f"{self.data}/binlog.*"), ["binlog.000002", "binlog.999999", "binlog.1000000"])
-
-    def test_pattern_of_two_servers(self):
-        self.log("binlog.000001", log(1))
-        self.log("relay.000002", log(2))
-        with self.assertRaises(LogsGone):
-            self.followed(place=f"{self.data}/*.00000?")
-
-    def test_refused(self):
-        self.log("binlog.000001", log(1))
-        for place in (self.data, self.data / "none", self.data / "binlog.000001"):
-            with self.assertRaises(FileFault):
-                listed(place)
-        self.index("binlog.000001")
-        (self.data / "relay.index").write_text("")
-        with self.assertRaises(FileFault):
-            listed(self.data)
 
 
 class CommandLine(ServerTest):
