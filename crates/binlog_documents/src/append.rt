@@ -11,7 +11,6 @@ use float_text::push_number;
 use itoa::Buffer;
 use json::Writer;
 use std::alloc::AllocError;
-use std::mem;
 
 /// A comma, where something stands before it.
 pub(crate) fn append_comma(out: &mut Vec<u8>, later: bool) -> Result<(), AllocError>
@@ -48,11 +47,10 @@ fn append_double(out: &mut Vec<u8>, double: Finite) -> Result<(), AllocError>
 pub(crate) fn append_quoted(out: &mut Vec<u8>, text: &str) -> Result<(), AllocError>
     ensures { OnOk result (out.new.items ≡ out.old.items ++ quoted text.now) }
 {
-    let alloc = *out.allocator();
-    let mut writer = Writer::new(mem::replace(out, Vec::new(alloc)));
-    let written = writer.string(text);
-    *out = writer.into_inner();
-    written
+    // A writer makes room ahead, up to 16 KiB behind a long text: so it has a text of its own.
+    let mut writer = Writer::new(Vec::new(*out.allocator()));
+    writer.string(text)?;
+    out.extend_from_slice(&writer.into_inner())
 }
 
 /// A value that has no parts.
