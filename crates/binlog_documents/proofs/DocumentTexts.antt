@@ -221,7 +221,7 @@ value_in_sound value sound width bytes entry from =
     let kind = slice_index bytes entry in
     chosen (is_inlined width kind) _ _ (moved (λ _. from) (scalar_at kind (drop (entry + 1) bytes)) (scalar_sound kind (drop (entry + 1) bytes)))
     (placed (value_place width bytes entry from) (λ place. option_map (λ x. (x.0, place + x.1)) (value kind (drop place bytes)))
-      (λ place. moved (λ len. place + len) (value kind (drop place bytes)) (sound.each kind (drop place bytes))))
+    (λ place. moved (λ len. place + len) (value kind (drop place bytes)) (sound.each kind (drop place bytes))))
 
 element_behind : (d : Document) (o : Option Elements) → IsSound d → SoundElements o → SoundElements (option_map (element d) o)
 element_behind d None h p = record { has = tt }
