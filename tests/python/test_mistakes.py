@@ -1,7 +1,6 @@
 """Mistakes that somebody made in the package on purpose, and that no other test saw. Each test here refuses one of them."""
 import fcntl
 import os
-import struct
 import threading
 import time
 import tracemalloc
@@ -10,7 +9,6 @@ from unittest import mock
 
 import fitting
 from binlogfeed import BinLogStreamReader, ConversionFailed, LogFault, LogLost, LogsGone, OutOfMemory, Place, XidEvent
-from binlogfeed import json_binary
 from binlogfeed import watch as watching
 from binlogfeed.follow import read_state
 from binlogfeed.logs import beginning, listed
@@ -206,12 +204,6 @@ class Looks(ReaderTest):
         self.assertLess(peak, 1_000_000)
 
 
-def array(kind, inner, count=1):
-    """The bytes of a small JSON array whose elements are all one value of a type, which stands behind its entries."""
-    begin = 4 + 3 * count
-    return struct.pack("<HH", count, begin + len(inner)) + struct.pack("<BH", kind, begin) * count + inner
-
-
 class Hours(unittest.TestCase):
     """A TIME for a target that has hours of a day alone."""
 
@@ -221,27 +213,3 @@ class Hours(unittest.TestCase):
         for value in ("24:00:00", "100:00:00", "-00:00:01", "838:59:59"):
             with self.assertRaises(fitting.UnfitError):
                 fitting.hour(value)
-
-
-class Json(unittest.TestCase):
-    """Documents at the bounds of what MySQL accepts."""
-
-    def test_the_deepest(self):
-        """A hundred arrays, the innermost with a text. One more is too many."""
-        raw = array(json_binary.STRING, b"\x01x")
-        for _ in range(99):
-            raw = array(json_binary.SMALL_ARRAY, raw)
-        found = json_binary.from_raw(b"\x02" + raw)
-        for _ in range(100):
-            (found,) = found
-        self.assertEqual(found, "x")
-        with self.assertRaises(ValueError):
-            json_binary.from_raw(b"\x02" + array(json_binary.SMALL_ARRAY, raw))
-
-    def test_elements_that_share_their_bytes(self):
-        """They would stand for ever more values: here 60 times 60 times 60 of them in 555 bytes."""
-        raw = array(json_binary.SMALL_ARRAY, bytes.fromhex("00000400"), 60)
-        for _ in range(2):
-            raw = array(json_binary.SMALL_ARRAY, raw, 60)
-        with self.assertRaises(ValueError):
-            json_binary.from_raw(b"\x02" + raw)

@@ -223,7 +223,7 @@ class Ends(Files):
         """A program that was killed, and one whose lines are none: Python's own status for that would say "log fault"."""
         told = self.told([])
         line = 'none,"key":[],"types":{},"timestamp":1,"token":"100.1@binlog.000001"}'
-        for script, wanted, word in (("kill -9 $$", 128 + 9, "status -9"), (f"echo '{line}'; echo; read line", 70, "Traceback")):
+        for script, wanted, word in (("kill -9 $$", 128 + 9, "status -9"), (f"echo '{line}'; echo; read line", 70, "no full lines")):
             told["program"] = self.stub(f"read line\n{script}")
             status, said = ended(self.files.new_target("shop"), "shop", **told)
             self.assertEqual(status, wanted)

@@ -435,7 +435,9 @@ class Faults(FolderTest):
         os.truncate(path, 1 << 24)
         program = self.stub(f"echo $$ >> {self.folder}/started\nexec sleep 60")
         options = {"stdout": subprocess.PIPE, "stderr": subprocess.PIPE, "env": ENVIRONMENT, "start_new_session": True}
-        with running(command(path, program=program), **options) as process:
+        # Where these tests run in the background of a shell, SIGINT is ignored, and the command would take that over.
+        heeded = {"preexec_fn": lambda: signal.signal(signal.SIGINT, signal.SIG_DFL)}
+        with running(command(path, program=program), **options, **heeded) as process:
             started = self.folder / "started"
             while not started.exists() or started.read_text().count("\n") < 2:
                 time.sleep(0.01)
