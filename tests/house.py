@@ -4,7 +4,7 @@
 usage: tests/house.py [--list NAME]
 
 The figures are of what a reader meets: definitions that share a name, long clauses, calls with many of them, long functions and files,
-lines of proofs and documents. --list prints what a figure counts. The last line is `N passed, M failed`.
+lines of proofs and documents, words of the glossary. --list prints what a figure counts. The last line is `N passed, M failed`.
 """
 import argparse
 import re
@@ -16,6 +16,7 @@ from typing import NamedTuple
 
 TOP = Path(__file__).resolve().parent.parent
 MOST = Path(__file__).resolve().parent / "house.txt"
+GLOSSARY = TOP / "docs" / "GLOSSARY.md"
 CRATES = sorted(path for path in (TOP / "crates").iterdir() if (path / "src").is_dir())
 
 LONG_CLAUSE, LONGEST_CLAUSE = 100, 140
@@ -58,6 +59,11 @@ def lines_of(path: Path) -> list[str]:
 def sources() -> Iterator[Path]:
     """The files of code."""
     return (path for crate in CRATES for path in sorted(crate.glob("src/**/*.rt")))
+
+
+def documents() -> list[Path]:
+    """The documents of the repository, but for those of its examples."""
+    return [*TOP.glob("docs/*.md"), TOP / "README.md", TOP / "tests/README.md", TOP / "bench/README.md"]
 
 
 def clauses_of(head: list[str]) -> list[str]:
@@ -140,6 +146,39 @@ def flat_wrong_bodies() -> Iterator[Item]:
     return (Item(short(path)) for path in sorted(TOP.glob("crates/*/wrong-bodies/*.edit")))
 
 
+def glossary_words() -> list[str]:
+    """The words that the glossary's tables define, in their order."""
+    rows = (line for line in lines_of(GLOSSARY) if line.startswith("| ") and not line.startswith("| Word |"))
+    return [word.strip() for row in rows for word in row.split("|")[1].split(",")]
+
+
+def words_in(text: str) -> str:
+    """The words of a text in small letters, a blank round each. Names of code are taken apart: `UnitState` has two words."""
+    parted = re.sub(r"(?<=[a-z])(?=[A-Z])", " ", text)
+    return f" {' '.join(re.findall(r'[a-z]+', parted.lower()))} "
+
+
+def forms_of(word: str) -> set[str]:
+    """A word as it stands in a text: of one, or of several."""
+    word = words_in(word).strip()
+    return {word, f"{word}s", f"{word}es", re.sub("y$", "ies", word), word.replace(" ", "s ", 1)}
+
+
+def unused_words() -> Iterator[Item]:
+    """Words of the glossary that stand in no code, definition or other document."""
+    paths = {*sources(), *TOP.glob("crates/*/specs/**/*.antt"), *documents()} - {GLOSSARY}
+    texts = [words_in(path.read_text(encoding="utf-8")) for path in paths]
+    for word in glossary_words():
+        if not any(f" {form} " in text for form in forms_of(word) for text in texts):
+            yield Item(word)
+
+
+def words_defined_again() -> Iterator[Item]:
+    """Words that the glossary defines more than once."""
+    counts = Counter(glossary_words())
+    return (Item(word, counts[word] - 1) for word in counts if counts[word] > 1)
+
+
 def lines_in(paths: Iterable[Path]) -> Iterator[Item]:
     """The lines of these files."""
     return (Item(short(path), len(lines_of(path))) for path in sorted(paths))
@@ -161,7 +200,9 @@ FIGURES = {
     "flat_wrong_bodies": flat_wrong_bodies,
     "lines_of_proofs": proof_lines,
     "lines_of_rows": lambda: lines_in([TOP / "tests/rows.jsonl"]),
-    "lines_of_documents": lambda: lines_in([*TOP.glob("docs/*.md"), TOP / "README.md", TOP / "tests/README.md", TOP / "bench/README.md"]),
+    "lines_of_documents": lambda: lines_in(documents()),
+    "glossary_words_unused": unused_words,
+    "glossary_words_defined_again": words_defined_again,
 }
 
 

@@ -43,11 +43,11 @@ def quotes() -> list[Quote]:
 
 
 def judge_quotes(_program: Path, _folder: Path) -> list[str]:
-    """Each quote stands in its file, and the example is quoted whole."""
+    """Each quote stands in its file, and some are of the example."""
     quoted = quotes()
     reasons = [f"{quote.path} hasn't: {quote.text.splitlines()[0]} .." for quote in quoted if not quote.stands_there()]
-    whole = Quote(EXAMPLE, (TOP / EXAMPLE).read_text(encoding="utf-8")) in quoted
-    return reasons + ([] if whole else [f"{EXAMPLE} isn't quoted whole"])
+    is_shown = any(quote.path == EXAMPLE for quote in quoted)
+    return reasons + ([] if is_shown else [f"nothing of {EXAMPLE} is quoted"])
 
 
 def judge_stories(table: str, program: Path, folder: Path) -> list[str]:

@@ -529,12 +529,13 @@ class Telling(FolderTest):
     """The text and the page."""
 
     def test_text(self):
-        """The text of the documents, and all of it fits."""
-        used, text = blocks("docs/USAGE.md", "A summary of logs")
+        """The text of the shop's logs, and the part of it that the documents show."""
+        used, part = blocks("docs/USAGE.md", "A summary of logs")
         words = re.search(r"summary --program ./binlogfeed (.*)\n", used)[1].split()
         ended = ran(*(TOP / word for word in words))
         self.assertEqual((ended.returncode, ended.stderr), (0, ""))
-        self.assertEqual(ended.stdout, text)
+        self.assertEqual(ended.stdout, (TOP / "examples/shop/summary.txt").read_text(encoding="utf-8"))
+        self.assertIn(part, ended.stdout)
 
     def test_widths(self):
         found = summed_up(BANK, (), PROGRAM)

@@ -9,7 +9,7 @@ use Rattle.binlog_feed.specs.Parsing.{LogFile}
 use Rattle.binlog_feed.specs.declared.fault.FeedFault.TheVariants as reading
 use Rattle.binlog_feed.specs.declared.fault.GoOnFault.TheVariants as going
 use Rattle.binlog_feed.specs.declared.start.Start.TheVariants.{Beginning, After}
-use Rattle.binlogfeed.specs.Follow.{WritesText, EndsAs, blank_text, follow_status_of, input_text, list_status_of, refusal_status_of, refusal_text}
+use Rattle.binlogfeed.specs.Follow.{WritesText, EndsAs, blank_text, follow_status_of, input_text, list_status_of, refusal_status_of, list_refusal_text}
 use Rattle.binlogfeed.specs.Lists.{BeginsWithList, HasNoLineFeed, HasNoList, line_text, list_text}
 use Rattle.binlogfeed.specs.Looks.{AreParts, BeginsFollowing, Look, first_look, gone_by, joined_parts, looks_text}
 use Rattle.binlogfeed.specs.Turns.{Turns, lists_text}
@@ -120,12 +120,12 @@ EmptyLooks = ((style : Style) → looks_text style ([] ∷ [] ∷ []) ≡ 10 ∷
 
 abbrev pub TextsOfRefusals : Type 0
 TextsOfRefusals =
-    (refusal_text two_names (first_name ∷ []) going.FileGone ≡ codes "binlogfeed: file gone: binlog.000002")
-    × (refusal_text two_names two_names going.FileShorter ≡ codes "binlogfeed: file shorter: binlog.000002")
-    × (refusal_text (first_name ∷ []) two_names (going.DuplicateFile 1) ≡ codes "binlogfeed: duplicate file binlog.000002")
-    × (refusal_text two_names (third_name ∷ []) (going.Earlier (reading.Read 0)) ≡ codes "binlogfeed: read fault: binlog.000001")
-    × (refusal_text two_names (third_name ∷ []) (going.Later (reading.Read 0)) ≡ codes "binlogfeed: read fault: binlog.000003")
-    × (refusal_text two_names two_names (going.Later (reading.WindowTooSmall 99)) ≡ codes "binlogfeed: out of memory")
+    (list_refusal_text two_names (first_name ∷ []) going.FileGone ≡ codes "binlogfeed: file gone: binlog.000002")
+    × (list_refusal_text two_names two_names going.FileShorter ≡ codes "binlogfeed: file shorter: binlog.000002")
+    × (list_refusal_text (first_name ∷ []) two_names (going.DuplicateFile 1) ≡ codes "binlogfeed: duplicate file binlog.000002")
+    × (list_refusal_text two_names (third_name ∷ []) (going.Earlier (reading.Read 0)) ≡ codes "binlogfeed: read fault: binlog.000001")
+    × (list_refusal_text two_names (third_name ∷ []) (going.Later (reading.Read 0)) ≡ codes "binlogfeed: read fault: binlog.000003")
+    × (list_refusal_text two_names two_names (going.Later (reading.WindowTooSmall 99)) ≡ codes "binlogfeed: out of memory")
     × (input_text lists.Unreadable ≡ codes "binlogfeed: cannot read the list of files") × (input_text lists.OutOfMemory ≡ codes "binlogfeed: out of memory")
 
 abbrev pub StatusesOfRefusals : Type 0

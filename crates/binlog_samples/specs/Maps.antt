@@ -82,8 +82,8 @@ NoMapOfTwo =
 -- ---- many columns
 
 -- so many TINY, with the bytes behind the types: metadata, bits of null, signs, and names from a on
-abbrev pub of_tiny : String → ℕ → String → Result Map MapFault
-of_tiny count columns text = map_with (hex count ++ replicate columns 1 ++ hex text)
+abbrev pub map_of_tiny : String → ℕ → String → Result Map MapFault
+map_of_tiny count columns text = map_with (hex count ++ replicate columns 1 ++ hex text)
 
 abbrev pub letters : List ℕ → List (List ℕ)
 letters = map (λ (letter : ℕ). letter ∷ [])
@@ -94,21 +94,21 @@ nones n = replicate n None
 -- a bit of null for each column
 abbrev pub EightColumns : Type 0
 EightColumns =
-    (of_tiny "08" 8 "00 ff 01 01 01 04 10 01 61 01 62 01 63 01 64 01 65 01 66 01 67 01 68"
+    (map_of_tiny "08" 8 "00 ff 01 01 01 04 10 01 61 01 62 01 63 01 64 01 65 01 66 01 67 01 68"
     ≡ Ok (table_of (replicate 7 (signed (Integer 1)) ++ unsigned (Integer 1) ∷ []) (letters (codes "abcdefgh")) [] (nones 8)))
-    × (of_tiny "08" 8 "00 ff ff 01 01 01 04 10 01 61 01 62 01 63 01 64 01 65 01 66 01 67 01 68" ≡ Err BadMap)
+    × (map_of_tiny "08" 8 "00 ff ff 01 01 01 04 10 01 61 01 62 01 63 01 64 01 65 01 66 01 67 01 68" ≡ Err BadMap)
 
 -- the ninth alone is unsigned, and is the key; nine columns have no room in eight bits
 abbrev pub NineColumns : Type 0
 NineColumns =
-    (of_tiny "09" 9 "00 ff 01 01 02 00 80 04 12 01 61 01 62 01 63 01 64 01 65 01 66 01 67 01 68 01 69 08 01 08"
+    (map_of_tiny "09" 9 "00 ff 01 01 02 00 80 04 12 01 61 01 62 01 63 01 64 01 65 01 66 01 67 01 68 01 69 08 01 08"
     ≡ Ok (table_of (replicate 8 (signed (Integer 1)) ++ unsigned (Integer 1) ∷ []) (letters (codes "abcdefghi")) (8 ∷ []) (nones 9)))
-    × (of_tiny "09" 9 "00 ff 01 01 01 00 04 12 01 61 01 62 01 63 01 64 01 65 01 66 01 67 01 68 01 69" ≡ Err BadMap)
+    × (map_of_tiny "09" 9 "00 ff 01 01 01 00 04 12 01 61 01 62 01 63 01 64 01 65 01 66 01 67 01 68 01 69" ≡ Err BadMap)
 
 -- the first, the tenth and the last are unsigned
 abbrev pub SeventeenColumns : Type 0
 SeventeenColumns =
-    of_tiny "11" 17 "00 ff ff 01 01 03 80 40 80 04 22 01 61 01 62 01 63 01 64 01 65 01 66 01 67 01 68 01 69 01 6a 01 6b 01 6c 01 6d 01 6e 01 6f 01 70 01 71"
+    map_of_tiny "11" 17 "00 ff ff 01 01 03 80 40 80 04 22 01 61 01 62 01 63 01 64 01 65 01 66 01 67 01 68 01 69 01 6a 01 6b 01 6c 01 6d 01 6e 01 6f 01 70 01 71"
     ≡ Ok (table_of
     (unsigned (Integer 1) ∷ replicate 8 (signed (Integer 1)) ++ unsigned (Integer 1) ∷ replicate 6 (signed (Integer 1)) ++ unsigned (Integer 1) ∷ [])
     (letters (codes "abcdefghijklmnopq")) [] (nones 17))

@@ -35,8 +35,8 @@ rows_by kind types metadata signs text =
 abbrev pub of_tiny : ℕ → ℕ → String → Option (List Row)
 of_tiny kind count text = rows_by kind (replicate count types.tiny) "" "ff ff ff" text
 
-abbrev pub Has : Option (List Row) → List Row → Type 0
-Has read rows = read ≡ Some rows
+abbrev pub HasRows : Option (List Row) → List Row → Type 0
+HasRows read rows = read ≡ Some rows
 
 abbrev pub HasNone : Option (List Row) → Type 0
 HasNone read = read ≡ None
@@ -62,48 +62,48 @@ two_to_seven = uint 2 ∷ uint 3 ∷ uint 4 ∷ uint 5 ∷ uint 6 ∷ uint 7 ∷
 -- no null; the first and the last are; the first and the last aren't there, and the last of the others is null; a byte is wanting, or left
 abbrev pub RowsOfEight : Type 0
 RowsOfEight =
-    Has (of_tiny write 8 "08 ff 00 01 02 03 04 05 06 07 08") (new (uint 1 ∷ two_to_seven ++ uint 8 ∷ []) ∷ [])
-    × Has (of_tiny write 8 "08 ff 81 02 03 04 05 06 07") (new (null ∷ two_to_seven ++ null ∷ []) ∷ [])
-    × Has (of_tiny delete 8 "08 7e 20 02 03 04 05 06") (old (absent ∷ uint 2 ∷ uint 3 ∷ uint 4 ∷ uint 5 ∷ uint 6 ∷ null ∷ absent ∷ []) ∷ [])
+    HasRows (of_tiny write 8 "08 ff 00 01 02 03 04 05 06 07 08") (new (uint 1 ∷ two_to_seven ++ uint 8 ∷ []) ∷ [])
+    × HasRows (of_tiny write 8 "08 ff 81 02 03 04 05 06 07") (new (null ∷ two_to_seven ++ null ∷ []) ∷ [])
+    × HasRows (of_tiny delete 8 "08 7e 20 02 03 04 05 06") (old (absent ∷ uint 2 ∷ uint 3 ∷ uint 4 ∷ uint 5 ∷ uint 6 ∷ null ∷ absent ∷ []) ∷ [])
     × HasNone (of_tiny write 8 "08 ff 00 01 02 03 04 05 06 07") × HasNone (of_tiny write 8 "08 ff 00 01 02 03 04 05 06 07 08 00")
 
 -- no null; the ninth is; the first isn't there, and the ninth, the eighth of those that are, is null; a byte is wanting; another width
 abbrev pub RowsOfNine : Type 0
 RowsOfNine =
-    Has (of_tiny write 9 "09 ff 01 00 00 01 02 03 04 05 06 07 08 09") (new (uint 1 ∷ two_to_seven ++ uint 8 ∷ uint 9 ∷ []) ∷ [])
-    × Has (of_tiny write 9 "09 ff 01 00 01 01 02 03 04 05 06 07 08") (new (uint 1 ∷ two_to_seven ++ uint 8 ∷ null ∷ []) ∷ [])
-    × Has (of_tiny write 9 "09 fe 01 80 02 03 04 05 06 07 08") (new (absent ∷ two_to_seven ++ uint 8 ∷ null ∷ []) ∷ [])
+    HasRows (of_tiny write 9 "09 ff 01 00 00 01 02 03 04 05 06 07 08 09") (new (uint 1 ∷ two_to_seven ++ uint 8 ∷ uint 9 ∷ []) ∷ [])
+    × HasRows (of_tiny write 9 "09 ff 01 00 01 01 02 03 04 05 06 07 08") (new (uint 1 ∷ two_to_seven ++ uint 8 ∷ null ∷ []) ∷ [])
+    × HasRows (of_tiny write 9 "09 fe 01 80 02 03 04 05 06 07 08") (new (absent ∷ two_to_seven ++ uint 8 ∷ null ∷ []) ∷ [])
     × HasNone (of_tiny write 9 "09 ff 01 00 00 01 02 03 04 05 06 07 08") × HasNone (of_tiny write 9 "08 ff 01 00 00 01 02 03 04 05 06 07 08 09")
 
 -- two rows of the first and the ninth; an update from the ninth to the first
 abbrev pub FewOfNine : Type 0
 FewOfNine =
-    Has (of_tiny write 9 "09 01 01 00 01 09 02 01") (new (uint 1 ∷ absents 7 ++ uint 9 ∷ []) ∷ new (uint 1 ∷ absents 7 ++ null ∷ []) ∷ [])
-    × Has (of_tiny update 9 "09 00 01 01 00 00 09 00 01") (changed (absents 8 ++ uint 9 ∷ []) (uint 1 ∷ absents 8) ∷ [])
+    HasRows (of_tiny write 9 "09 01 01 00 01 09 02 01") (new (uint 1 ∷ absents 7 ++ uint 9 ∷ []) ∷ new (uint 1 ∷ absents 7 ++ null ∷ []) ∷ [])
+    × HasRows (of_tiny update 9 "09 00 01 01 00 00 09 00 01") (changed (absents 8 ++ uint 9 ∷ []) (uint 1 ∷ absents 8) ∷ [])
 
 -- the first, the tenth and the last are null; few are there; an update from the 9th, 10th and 17th to the first, the 16th and the 17th
 abbrev pub RowsOfSeventeen : Type 0
 RowsOfSeventeen =
-    Has (of_tiny write 17 "11 ff ff 01 01 02 01 02 03 04 05 06 07 08 09 0b 0c 0d 0e 0f 10")
+    HasRows (of_tiny write 17 "11 ff ff 01 01 02 01 02 03 04 05 06 07 08 09 0b 0c 0d 0e 0f 10")
     (new (null ∷ two_to_seven ++ uint 8 ∷ uint 9 ∷ null ∷ uint 11 ∷ uint 12 ∷ uint 13 ∷ uint 14 ∷ uint 15 ∷ uint 16 ∷ null ∷ []) ∷ [])
-    × Has (of_tiny write 17 "11 01 80 01 02 01 11") (new (uint 1 ∷ absents 14 ++ null ∷ uint 17 ∷ []) ∷ [])
-    × Has (of_tiny update 17 "11 00 03 01 01 80 01 04 09 0a 01 10 11")
+    × HasRows (of_tiny write 17 "11 01 80 01 02 01 11") (new (uint 1 ∷ absents 14 ++ null ∷ uint 17 ∷ []) ∷ [])
+    × HasRows (of_tiny update 17 "11 00 03 01 01 80 01 04 09 0a 01 10 11")
     (changed (absents 8 ++ uint 9 ∷ uint 10 ∷ absents 6 ++ null ∷ []) (null ∷ absents 14 ++ uint 16 ∷ uint 17 ∷ []) ∷ [])
 
 -- bits above the last column's say nothing
 abbrev pub UnusedBits : Type 0
 UnusedBits =
-    Has (of_tiny write 9 "09 ff ff 00 fe 01 02 03 04 05 06 07 08 09") (new (uint 1 ∷ two_to_seven ++ uint 8 ∷ uint 9 ∷ []) ∷ [])
-    × Has (of_tiny write 1 "01 ff fe 01") (new (uint 1 ∷ []) ∷ [])
+    HasRows (of_tiny write 9 "09 ff ff 00 fe 01 02 03 04 05 06 07 08 09") (new (uint 1 ∷ two_to_seven ++ uint 8 ∷ uint 9 ∷ []) ∷ [])
+    × HasRows (of_tiny write 1 "01 ff fe 01") (new (uint 1 ∷ []) ∷ [])
 
 -- where no column is there, there is no row, and no byte for one
 abbrev pub NoColumns : Type 0
-NoColumns = Has (of_tiny write 9 "09 00 00") [] × HasNone (of_tiny write 9 "09 00 00 00") × Has (of_tiny write 9 "09 00 fe") []
+NoColumns = HasRows (of_tiny write 9 "09 00 00") [] × HasNone (of_tiny write 9 "09 00 00 00") × HasRows (of_tiny write 9 "09 00 fe") []
 
 -- extra data, whose length counts its own two bytes
 abbrev pub ExtraData : Type 0
 ExtraData =
-    Has (under write (columns_at (types.tiny ∷ []) [] (hex "80") 0) (hex "64 00 00 00 00 00 01 00 05 00 aa bb cc 01 ff 00 07")) (new (uint 7 ∷ []) ∷ [])
+    HasRows (under write (columns_at (types.tiny ∷ []) [] (hex "80") 0) (hex "64 00 00 00 00 00 01 00 05 00 aa bb cc 01 ff 00 07")) (new (uint 7 ∷ []) ∷ [])
     × HasNone (under write (columns_at (types.tiny ∷ []) [] (hex "80") 0) (hex "64 00 00 00 00 00 01 00 01 00 01 ff 00 07"))
 
 -- ---- signedness
@@ -111,27 +111,27 @@ ExtraData =
 -- nine of TINY, of which the ninth alone is unsigned; and of which the eighth alone is
 abbrev pub NinthUnsigned : Type 0
 NinthUnsigned =
-    Has (rows_by write (replicate 9 types.tiny) "" "00 80" "09 ff 01 00 00 80 81 82 83 84 85 86 87 88")
+    HasRows (rows_by write (replicate 9 types.tiny) "" "00 80" "09 ff 01 00 00 80 81 82 83 84 85 86 87 88")
     (new (map int (negsuc 127 ∷ negsuc 126 ∷ negsuc 125 ∷ negsuc 124 ∷ negsuc 123 ∷ negsuc 122 ∷ negsuc 121 ∷ negsuc 120 ∷ []) ++ uint 136 ∷ []) ∷ [])
-    × Has (rows_by write (replicate 9 types.tiny) "" "01 00" "09 80 01 00 ff ff") (new (absents 7 ++ uint 255 ∷ int (negsuc 0) ∷ []) ∷ [])
+    × HasRows (rows_by write (replicate 9 types.tiny) "" "01 00" "09 80 01 00 ff ff") (new (absents 7 ++ uint 255 ∷ int (negsuc 0) ∷ []) ∷ [])
 
 -- FLOAT, DOUBLE and DECIMAL have a bit
 abbrev pub SignsBehindOthers : Type 0
 SignsBehindOthers =
-    Has (rows_by write (types.float ∷ types.long ∷ []) "04" "40" "02 ff 00 00 00 c0 3f ff ff ff ff") (new (raw (hex "00 00 c0 3f") ∷ uint 4294967295 ∷ []) ∷ [])
-    × Has (rows_by write (types.double ∷ types.long ∷ []) "08" "80" "02 02 00 ff ff ff ff") (new (absent ∷ int (negsuc 0) ∷ []) ∷ [])
-    × Has (rows_by write (types.newdecimal ∷ types.tiny ∷ []) "01 00" "40" "02 ff 00 89 ff") (new (digits "9" 0 ∷ uint 255 ∷ []) ∷ [])
+    HasRows (rows_by write (types.float ∷ types.long ∷ []) "04" "40" "02 ff 00 00 00 c0 3f ff ff ff ff") (new (raw (hex "00 00 c0 3f") ∷ uint 4294967295 ∷ []) ∷ [])
+    × HasRows (rows_by write (types.double ∷ types.long ∷ []) "08" "80" "02 02 00 ff ff ff ff") (new (absent ∷ int (negsuc 0) ∷ []) ∷ [])
+    × HasRows (rows_by write (types.newdecimal ∷ types.tiny ∷ []) "01 00" "40" "02 ff 00 89 ff") (new (digits "9" 0 ∷ uint 255 ∷ []) ∷ [])
 
 -- YEAR, DATE, VARCHAR, BIT and ENUM have none
 abbrev pub SignsBehindNone : Type 0
 SignsBehindNone =
-    Has (rows_by write (types.long ∷ types.year ∷ types.long ∷ []) "" "40" "03 ff f8 ff ff ff ff 7c ff ff ff ff")
+    HasRows (rows_by write (types.long ∷ types.year ∷ types.long ∷ []) "" "40" "03 ff f8 ff ff ff ff 7c ff ff ff ff")
     (new (int (negsuc 0) ∷ year 2024 ∷ uint 4294967295 ∷ []) ∷ [])
-    × Has (rows_by write (types.date ∷ types.varchar ∷ types.bit ∷ types.string ∷ types.tiny ∷ []) "50 00 01 00 f7 01" "80" "05 10 00 ff") (new (absents 4 ++ uint 255 ∷ []) ∷ [])
-    × Has (rows_by write (types.date ∷ types.varchar ∷ types.bit ∷ types.string ∷ types.tiny ∷ []) "50 00 01 00 f7 01" "40" "05 10 00 ff") (new (absents 4 ++ int (negsuc 0) ∷ []) ∷ [])
+    × HasRows (rows_by write (types.date ∷ types.varchar ∷ types.bit ∷ types.string ∷ types.tiny ∷ []) "50 00 01 00 f7 01" "80" "05 10 00 ff") (new (absents 4 ++ uint 255 ∷ []) ∷ [])
+    × HasRows (rows_by write (types.date ∷ types.varchar ∷ types.bit ∷ types.string ∷ types.tiny ∷ []) "50 00 01 00 f7 01" "40" "05 10 00 ff") (new (absents 4 ++ int (negsuc 0) ∷ []) ∷ [])
 
 -- two rows of a DECIMAL(7,0) and what stands behind it
 abbrev pub BehindDecimal : Type 0
 BehindDecimal =
-    Has (rows_by write (types.newdecimal ∷ types.tiny ∷ []) "07 00" "00" "02 ff 00 80 12 d6 87 01 00 80 00 00 05 02")
+    HasRows (rows_by write (types.newdecimal ∷ types.tiny ∷ []) "07 00" "00" "02 ff 00 80 12 d6 87 01 00 80 00 00 05 02")
     (new (digits "1234567" 0 ∷ int (pos 1) ∷ []) ∷ new (digits "0000005" 0 ∷ int (pos 2) ∷ []) ∷ [])

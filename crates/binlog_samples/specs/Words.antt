@@ -24,13 +24,13 @@ followed_in words = option_map (λ found. is_followed found.1) (subcommand_of pr
 
 -- ---- words
 
-abbrev pub two_files : List Text
-two_files = codes "b" ∷ codes "transactions" ∷ codes "x" ∷ codes "dir/y" ∷ []
+abbrev pub two_paths : List Text
+two_paths = codes "b" ∷ codes "transactions" ∷ codes "x" ∷ codes "dir/y" ∷ []
 
 abbrev pub Files : Type 0
 Files =
-    (mistakes_in two_files ≡ []) × (subcommand_in two_files ≡ Some (codes "transactions"))
-    × (files_in two_files ≡ Some (codes "x" ∷ codes "dir/y" ∷ []))
+    (mistakes_in two_paths ≡ []) × (subcommand_in two_paths ≡ Some (codes "transactions"))
+    × (files_in two_paths ≡ Some (codes "x" ∷ codes "dir/y" ∷ []))
     × (subcommand_of program_app (codes "b" ∷ []) ≡ None)
 
 -- an option and its value, before a file or behind it

@@ -7,7 +7,7 @@ use Rattle.std.proofs.lemmas.List.{length-append, drop-set}
 use Rattle.std.proofs.lemmas.List.Elements.{All-cons}
 use native.Mathlib.Nat.{div-div-eq-div-mul, pow-suc}
 use Rattle.byteorder.specs.Endian.{big_number}
-use Rattle.binlog_table.specs.Decimal.{◌>>=◌, digits_of, group_len, group_at, nines_at, digits_at, appended}
+use Rattle.binlog_table.specs.Decimal.{◌and_then◌, digits_of, group_len, group_at, nines_at, digits_at, appended}
 use Rattle.binlog_table.proofs.Extents.{guarded, some_is}
 
 -- ---- how many digits
@@ -16,7 +16,7 @@ pub digits_of-length : (d n : ℕ) → length (digits_of d n) ≡ d
 digits_of-length zero n = refl
 digits_of-length (suc d) n = ap suc (digits_of-length d n)
 
-then_some : {A B : Type 0} (o : Option A) (f : A → Option B) (y : B) → (o >>= f) ≡ Some y → (x : A) × (o ≡ Some x) × (f x ≡ Some y)
+then_some : {A B : Type 0} (o : Option A) (f : A → Option B) (y : B) → (o and_then f) ≡ Some y → (x : A) × (o ≡ Some x) × (f x ≡ Some y)
 then_some None f y e = absurd cc
 then_some (Some x) f y e = (x, refl, e)
 
@@ -32,7 +32,7 @@ nines_at-length : (n : ℕ) (bytes : List ℕ) (g : List ℕ × List ℕ) → ni
 unfolding nines_at
 nines_at-length zero bytes g e = ap (λ (x : List ℕ × List ℕ). length x.0) (sym (some_is ([], bytes) g e))
 nines_at-length (suc n) bytes g e =
-    let a = then_some (group_at 9 bytes) (λ x. nines_at n x.1 >>= λ r. Some (x.0 ++ r.0, r.1)) g e in
+    let a = then_some (group_at 9 bytes) (λ x. nines_at n x.1 and_then λ r. Some (x.0 ++ r.0, r.1)) g e in
     let b = then_some (nines_at n a.0.1) (λ r. Some (a.0.0 ++ r.0, r.1)) g a.2 in
     let one = group_at-length 9 bytes a.0 a.1 in
     let others = nines_at-length n a.0.1 b.0 b.1 in
@@ -41,9 +41,9 @@ nines_at-length (suc n) bytes g e =
 pub digits_at-length : (p s : ℕ) (bytes ds : List ℕ) → s ≤ p → digits_at p s bytes ≡ Some ds → length ds ≡ p
 unfolding digits_at
 digits_at-length p s bytes ds le e =
-    let a = then_some (group_at ((p - s) % 9) bytes) (λ x. nines_at ((p - s) / 9) x.1 >>= λ b. nines_at (s / 9) b.1 >>= λ c. group_at (s % 9) c.1 >>= λ d. Some (x.0 ++ b.0 ++ c.0 ++ d.0)) ds e in
-    let b = then_some (nines_at ((p - s) / 9) a.0.1) (λ x. nines_at (s / 9) x.1 >>= λ c. group_at (s % 9) c.1 >>= λ d. Some (a.0.0 ++ x.0 ++ c.0 ++ d.0)) ds a.2 in
-    let c = then_some (nines_at (s / 9) b.0.1) (λ x. group_at (s % 9) x.1 >>= λ d. Some (a.0.0 ++ b.0.0 ++ x.0 ++ d.0)) ds b.2 in
+    let a = then_some (group_at ((p - s) % 9) bytes) (λ x. nines_at ((p - s) / 9) x.1 and_then λ b. nines_at (s / 9) b.1 and_then λ c. group_at (s % 9) c.1 and_then λ d. Some (x.0 ++ b.0 ++ c.0 ++ d.0)) ds e in
+    let b = then_some (nines_at ((p - s) / 9) a.0.1) (λ x. nines_at (s / 9) x.1 and_then λ c. group_at (s % 9) c.1 and_then λ d. Some (a.0.0 ++ x.0 ++ c.0 ++ d.0)) ds a.2 in
+    let c = then_some (nines_at (s / 9) b.0.1) (λ x. group_at (s % 9) x.1 and_then λ d. Some (a.0.0 ++ b.0.0 ++ x.0 ++ d.0)) ds b.2 in
     let d = then_some (group_at (s % 9) c.0.1) (λ x. Some (a.0.0 ++ b.0.0 ++ c.0.0 ++ x.0)) ds c.2 in
     let all = some_is (a.0.0 ++ b.0.0 ++ c.0.0 ++ d.0.0) ds d.2 in
     omega (
@@ -100,20 +100,20 @@ digits_of-small (suc d) n = All-cons (λ x. x < 10) (n / 10 ^ d % 10) (digits_of
 abbrev nines_then : ℕ → List ℕ → List ℕ × List ℕ → Option (List ℕ × List ℕ)
 nines_then n front g = appended (front ++ g.0) (nines_at n g.1)
 
-nines-pushed : (n : ℕ) (front bytes : List ℕ) → appended front (nines_at (suc n) bytes) ≡ (group_at 9 bytes >>= nines_then n front)
+nines-pushed : (n : ℕ) (front bytes : List ℕ) → appended front (nines_at (suc n) bytes) ≡ (group_at 9 bytes and_then nines_then n front)
 unfolding nines_at
 nines-pushed n front bytes = by_group (group_at 9 bytes)
   where
-    by_nines : (a : List ℕ) (r : Option (List ℕ × List ℕ)) → appended front (r >>= λ x. Some (a ++ x.0, x.1)) ≡ appended (front ++ a) r
+    by_nines : (a : List ℕ) (r : Option (List ℕ × List ℕ)) → appended front (r and_then λ x. Some (a ++ x.0, x.1)) ≡ appended (front ++ a) r
     by_nines a None = refl
     by_nines a (Some x) = ap (λ (t : List ℕ). Some (t, x.1)) (sym (append_assoc front a x.0))
 
-    by_group : (g : Option (List ℕ × List ℕ)) → appended front (g >>= λ x. nines_at n x.1 >>= λ r. Some (x.0 ++ r.0, r.1)) ≡ (g >>= nines_then n front)
+    by_group : (g : Option (List ℕ × List ℕ)) → appended front (g and_then λ x. nines_at n x.1 and_then λ r. Some (x.0 ++ r.0, r.1)) ≡ (g and_then nines_then n front)
     by_group None = refl
     by_group (Some g) = by_nines g.0 (nines_at n g.1)
 
 module _ (count i : ℕ) (front rest : List ℕ) (total : Option (List ℕ × List ℕ)) (lt : i < count) (so_far : appended front (nines_at (count - i) rest) ≡ total) where
-  pushed-step : (group_at 9 rest >>= nines_then (count - (i + 1)) front) ≡ total
+  pushed-step : (group_at 9 rest and_then nines_then (count - (i + 1)) front) ≡ total
   pushed-step =
       let k : count - i ≡ suc (count - (i + 1)) = omega arith in
       sym (nines-pushed (count - (i + 1)) front rest) ∙ ap (λ (n : ℕ). appended front (nines_at n rest)) (sym k) ∙ so_far
@@ -121,14 +121,14 @@ module _ (count i : ℕ) (front rest : List ℕ) (total : Option (List ℕ × Li
   pub pushed-stop : None ≡ appended front (group_at 9 rest) → None ≡ total
   pushed-stop none = by_group (group_at 9 rest) none pushed-step
     where
-      by_group : (g : Option (List ℕ × List ℕ)) → None ≡ appended front g → (g >>= nines_then (count - (i + 1)) front) ≡ total → None ≡ total
+      by_group : (g : Option (List ℕ × List ℕ)) → None ≡ appended front g → (g and_then nines_then (count - (i + 1)) front) ≡ total → None ≡ total
       by_group None h e = e
       by_group (Some g) h e = absurd cc
 
   pub pushed-more : (digits after : List ℕ) → Some (digits, after) ≡ appended front (group_at 9 rest) → appended digits (nines_at (count - (i + 1)) after) ≡ total
   pushed-more digits after some = by_group (group_at 9 rest) some pushed-step
     where
-      by_group : (g : Option (List ℕ × List ℕ)) → Some (digits, after) ≡ appended front g → (g >>= nines_then (count - (i + 1)) front) ≡ total → appended digits (nines_at (count - (i + 1)) after) ≡ total
+      by_group : (g : Option (List ℕ × List ℕ)) → Some (digits, after) ≡ appended front g → (g and_then nines_then (count - (i + 1)) front) ≡ total → appended digits (nines_at (count - (i + 1)) after) ≡ total
       by_group None h e = absurd cc
       by_group (Some g) h e =
           let same = some_is (digits, after) (front ++ g.0, g.1) h in

@@ -3,7 +3,7 @@ use Rattle.std.proofs.Common.{◌≡◌, ℕ, zero, suc, ◌+◌, ◌-◌, ◌*�
 use Rattle.std.specs.Prelude.{unwrap_or}
 use Rattle.std.proofs.Math.Nat.{div-div-eq-div-mul, mul-add-div_right, one-le-pow, pow-suc}
 use Rattle.std.proofs.lemmas.Nat.{pow-add, div-mul-add, mul-add-lt}
-use Rattle.binlog_table.specs.Decimal.{◌>>=◌, digits_of, group_at, nines_at, digits_at}
+use Rattle.binlog_table.specs.Decimal.{◌and_then◌, digits_of, group_at, nines_at, digits_at}
 use Rattle.binlog_table.specs.DecimalParts.{IsSplit, front_at, behind_at}
 
 -- ---- the digits of a sum
@@ -77,14 +77,14 @@ unfolding behind_at nines_at
 behind-short d bytes rest read few is =
     let len : d % 9 ≡ d = omega arith in
     let none : d / 9 ≡ 0 = omega arith in
-    let whole : behind_at d bytes ≡ (group_at (d % 9) bytes >>= λ b. Some b.0) = rw none refl in
+    let whole : behind_at d bytes ≡ (group_at (d % 9) bytes and_then λ b. Some b.0) = rw none refl in
     by_read read is whole
   where
-    by_read : (r : Option ℕ) → option_map (λ (n : ℕ). (digits_of (d % 9) n, rest)) r ≡ group_at (d % 9) bytes → behind_at d bytes ≡ (group_at (d % 9) bytes >>= λ b. Some b.0) → option_map (digits_of d) r ≡ behind_at d bytes
-    by_read None is whole = sym (whole ∙ ap (λ (o : Option (List ℕ × List ℕ)). o >>= λ b. Some b.0) (sym is))
+    by_read : (r : Option ℕ) → option_map (λ (n : ℕ). (digits_of (d % 9) n, rest)) r ≡ group_at (d % 9) bytes → behind_at d bytes ≡ (group_at (d % 9) bytes and_then λ b. Some b.0) → option_map (digits_of d) r ≡ behind_at d bytes
+    by_read None is whole = sym (whole ∙ ap (λ (o : Option (List ℕ × List ℕ)). o and_then λ b. Some b.0) (sym is))
     by_read (Some n) is whole =
         let len : d % 9 ≡ d = omega arith in
-        sym (whole ∙ ap (λ (o : Option (List ℕ × List ℕ)). o >>= λ b. Some b.0) (sym is) ∙ ap (λ (k : ℕ). Some (digits_of k n)) len)
+        sym (whole ∙ ap (λ (o : Option (List ℕ × List ℕ)). o and_then λ b. Some b.0) (sym is) ∙ ap (λ (k : ℕ). Some (digits_of k n)) len)
 
 pub behind-none : (d : ℕ) (bytes : List ℕ) → 9 ≤ d → d ≤ 17 → None ≡ group_at 9 bytes → None ≡ behind_at d bytes
 unfolding behind_at nines_at
@@ -113,12 +113,12 @@ behind-long d x y bytes middle rest many few small first last =
 
 -- ---- all digits
 
-parts-last : (a b c : List ℕ) (read : Option (List ℕ × List ℕ)) → (read >>= λ d. Some (a ++ b ++ c ++ d.0)) ≡ ((read >>= λ d. Some (c ++ d.0)) >>= λ e. Some ((a ++ b) ++ e))
+parts-last : (a b c : List ℕ) (read : Option (List ℕ × List ℕ)) → (read and_then λ d. Some (a ++ b ++ c ++ d.0)) ≡ ((read and_then λ d. Some (c ++ d.0)) and_then λ e. Some ((a ++ b) ++ e))
 parts-last a b c None = refl
 parts-last a b c (Some d) = ap (λ (ds : List ℕ). Some ds) (append_assoc (a ++ b) c d.0)
 
 parts-nines : (k : ℕ) (a b : List ℕ) (read : Option (List ℕ × List ℕ))
-    → (read >>= λ c. group_at k c.1 >>= λ d. Some (a ++ b ++ c.0 ++ d.0)) ≡ ((read >>= λ c. group_at k c.1 >>= λ d. Some (c.0 ++ d.0)) >>= λ e. Some ((a ++ b) ++ e))
+    → (read and_then λ c. group_at k c.1 and_then λ d. Some (a ++ b ++ c.0 ++ d.0)) ≡ ((read and_then λ c. group_at k c.1 and_then λ d. Some (c.0 ++ d.0)) and_then λ e. Some ((a ++ b) ++ e))
 parts-nines k a b None = refl
 parts-nines k a b (Some c) = parts-last a b c.0 (group_at k c.1)
 
@@ -126,34 +126,34 @@ abbrev behind_front : List ℕ → List ℕ × List ℕ → Option (List ℕ × 
 behind_front front read = Some (front ++ read.0, read.1)
 
 parts-front : (n k : ℕ) (a : List ℕ) (read : Option (List ℕ × List ℕ))
-    → (read >>= λ b. nines_at n b.1 >>= λ c. group_at k c.1 >>= λ d. Some (a ++ b.0 ++ c.0 ++ d.0))
-    ≡ ((read >>= behind_front a) >>= λ f. (nines_at n f.1 >>= λ c. group_at k c.1 >>= λ d. Some (c.0 ++ d.0)) >>= λ e. Some (f.0 ++ e))
+    → (read and_then λ b. nines_at n b.1 and_then λ c. group_at k c.1 and_then λ d. Some (a ++ b.0 ++ c.0 ++ d.0))
+    ≡ ((read and_then behind_front a) and_then λ f. (nines_at n f.1 and_then λ c. group_at k c.1 and_then λ d. Some (c.0 ++ d.0)) and_then λ e. Some (f.0 ++ e))
 parts-front n k a None = refl
 parts-front n k a (Some b) = parts-nines k a b.0 (nines_at n b.1)
 
 parts-first : (m n k : ℕ) (read : Option (List ℕ × List ℕ))
-    → (read >>= λ a. nines_at m a.1 >>= λ b. nines_at n b.1 >>= λ c. group_at k c.1 >>= λ d. Some (a.0 ++ b.0 ++ c.0 ++ d.0))
-    ≡ ((read >>= λ a. nines_at m a.1 >>= behind_front a.0) >>= λ f. (nines_at n f.1 >>= λ c. group_at k c.1 >>= λ d. Some (c.0 ++ d.0)) >>= λ e. Some (f.0 ++ e))
+    → (read and_then λ a. nines_at m a.1 and_then λ b. nines_at n b.1 and_then λ c. group_at k c.1 and_then λ d. Some (a.0 ++ b.0 ++ c.0 ++ d.0))
+    ≡ ((read and_then λ a. nines_at m a.1 and_then behind_front a.0) and_then λ f. (nines_at n f.1 and_then λ c. group_at k c.1 and_then λ d. Some (c.0 ++ d.0)) and_then λ e. Some (f.0 ++ e))
 parts-first m n k None = refl
 parts-first m n k (Some a) = parts-front n k a.0 (nines_at m a.1)
 
 abbrev with_behind : ℕ → List ℕ × List ℕ → Option (List ℕ)
-with_behind s f = behind_at s f.1 >>= λ e. Some (f.0 ++ e)
+with_behind s f = behind_at s f.1 and_then λ e. Some (f.0 ++ e)
 
-parts-all : (p s : ℕ) (bytes : List ℕ) → digits_at p s bytes ≡ (front_at (p - s) bytes >>= with_behind s)
+parts-all : (p s : ℕ) (bytes : List ℕ) → digits_at p s bytes ≡ (front_at (p - s) bytes and_then with_behind s)
 unfolding digits_at front_at behind_at
 parts-all p s bytes = parts-first ((p - s) / 9) (s / 9) (s % 9) (group_at ((p - s) % 9) bytes)
 
 pub parts-none : (p s : ℕ) (bytes : List ℕ) → None ≡ front_at (p - s) bytes → None ≡ digits_at p s bytes
-parts-none p s bytes none = sym (parts-all p s bytes ∙ ap (λ (o : Option (List ℕ × List ℕ)). o >>= with_behind s) (sym none))
+parts-none p s bytes none = sym (parts-all p s bytes ∙ ap (λ (o : Option (List ℕ × List ℕ)). o and_then with_behind s) (sym none))
 
 pub parts-cut : (p s : ℕ) (bytes front rest : List ℕ) → Some (front, rest) ≡ front_at (p - s) bytes → None ≡ behind_at s rest → None ≡ digits_at p s bytes
 parts-cut p s bytes front rest some none =
-    sym (parts-all p s bytes ∙ ap (λ (o : Option (List ℕ × List ℕ)). o >>= with_behind s) (sym some) ∙ ap (λ (o : Option (List ℕ)). o >>= λ e. Some (front ++ e)) (sym none))
+    sym (parts-all p s bytes ∙ ap (λ (o : Option (List ℕ × List ℕ)). o and_then with_behind s) (sym some) ∙ ap (λ (o : Option (List ℕ)). o and_then λ e. Some (front ++ e)) (sym none))
 
 pub parts-whole : (p s : ℕ) (bytes front rest behind : List ℕ) → Some (front, rest) ≡ front_at (p - s) bytes → Some behind ≡ behind_at s rest → Some (front ++ behind) ≡ digits_at p s bytes
 parts-whole p s bytes front rest behind some last =
-    sym (parts-all p s bytes ∙ ap (λ (o : Option (List ℕ × List ℕ)). o >>= with_behind s) (sym some) ∙ ap (λ (o : Option (List ℕ)). o >>= λ e. Some (front ++ e)) (sym last))
+    sym (parts-all p s bytes ∙ ap (λ (o : Option (List ℕ × List ℕ)). o and_then with_behind s) (sym some) ∙ ap (λ (o : Option (List ℕ)). o and_then λ e. Some (front ++ e)) (sym last))
 
 -- ---- the whole decimal
 

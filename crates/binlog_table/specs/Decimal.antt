@@ -29,9 +29,9 @@ abbrev pub digits_of : ℕ → ℕ → List ℕ
 digits_of zero n = []
 digits_of (suc d) n = n / 10 ^ d % 10 ∷ digits_of d n
 
-infixl 10 ◌>>=◌
-abbrev pub ◌>>=◌ : {A B : Type 0} → Option A → (A → Option B) → Option B
-o >>= f = option_and_then f o
+infixl 10 ◌and_then◌
+abbrev pub ◌and_then◌ : {A B : Type 0} → Option A → (A → Option B) → Option B
+o and_then f = option_and_then f o
 
 -- the digits of the group at the front, and the bytes after it; a number with more digits is no group
 unfoldable pub group_at : ℕ → List ℕ → Option (List ℕ × List ℕ)
@@ -43,12 +43,12 @@ group_at d bytes =
 -- the digits of so many groups of nine
 unfoldable pub nines_at : ℕ → List ℕ → Option (List ℕ × List ℕ)
 nines_at zero bytes = Some ([], bytes)
-nines_at (suc n) bytes = group_at 9 bytes >>= λ g. nines_at n g.1 >>= λ r. Some (g.0 ++ r.0, r.1)
+nines_at (suc n) bytes = group_at 9 bytes and_then λ g. nines_at n g.1 and_then λ r. Some (g.0 ++ r.0, r.1)
 
 -- all digits of plain bytes
 unfoldable pub digits_at : ℕ → ℕ → List ℕ → Option (List ℕ)
 digits_at precision scale bytes =
-    group_at ((precision - scale) % 9) bytes >>= λ a. nines_at ((precision - scale) / 9) a.1 >>= λ b. nines_at (scale / 9) b.1 >>= λ c. group_at (scale % 9) c.1 >>= λ d.
+    group_at ((precision - scale) % 9) bytes and_then λ a. nines_at ((precision - scale) / 9) a.1 and_then λ b. nines_at (scale / 9) b.1 and_then λ c. group_at (scale % 9) c.1 and_then λ d.
     Some (a.0 ++ b.0 ++ c.0 ++ d.0)
 
 -- A number: its sign as it is stored, its digits, the highest first, and how many of them stand after the point.
@@ -79,4 +79,4 @@ after_nines n bytes = option_map (λ x. x.1) (nines_at n bytes)
 
 unfoldable pub after_digits : ℕ → ℕ → List ℕ → Option (List ℕ)
 after_digits precision scale bytes =
-    after_group ((precision - scale) % 9) bytes >>= λ a. after_nines ((precision - scale) / 9) a >>= λ b. after_nines (scale / 9) b >>= λ c. after_group (scale % 9) c
+    after_group ((precision - scale) % 9) bytes and_then λ a. after_nines ((precision - scale) / 9) a and_then λ b. after_nines (scale / 9) b and_then λ c. after_group (scale % 9) c

@@ -1,6 +1,6 @@
 -- A decimal as two numbers, the one in front of the point and the one behind it.
 use Rattle.std.specs.Prelude.{ℕ, ◌≡◌, ◌<◌, ◌-◌, ◌/◌, ◌%◌, ◌^◌, List, ◌++◌, length, Option, Some}
-use Rattle.binlog_table.specs.Decimal.{Decimal, ◌>>=◌, digits_of, group_at, nines_at}
+use Rattle.binlog_table.specs.Decimal.{Decimal, ◌and_then◌, digits_of, group_at, nines_at}
 
 -- how many digits stand in front of the point
 abbrev pub front_len : Decimal → ℕ
@@ -14,8 +14,8 @@ pub record IsSplit (d : Decimal) (whole fraction : ℕ) : Type 0 where
 
 -- the digits in front of the point, and the bytes after them
 unfoldable pub front_at : ℕ → List ℕ → Option (List ℕ × List ℕ)
-front_at d bytes = group_at (d % 9) bytes >>= λ a. nines_at (d / 9) a.1 >>= λ b. Some (a.0 ++ b.0, b.1)
+front_at d bytes = group_at (d % 9) bytes and_then λ a. nines_at (d / 9) a.1 and_then λ b. Some (a.0 ++ b.0, b.1)
 
 -- the digits behind the point
 unfoldable pub behind_at : ℕ → List ℕ → Option (List ℕ)
-behind_at d bytes = nines_at (d / 9) bytes >>= λ a. group_at (d % 9) a.1 >>= λ b. Some (a.0 ++ b.0)
+behind_at d bytes = nines_at (d / 9) bytes and_then λ a. group_at (d % 9) a.1 and_then λ b. Some (a.0 ++ b.0)

@@ -25,3 +25,6 @@ pub mod MapShown
 pub mod MapLists
 pub mod NameOrder
 pub mod ValueNamesShown
+pub mod Walks
+pub mod DecimalReads
+pub mod MapReads

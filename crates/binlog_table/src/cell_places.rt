@@ -1,5 +1,6 @@
 //! Where the cells of an image lie, found in one walk, so that they can be read in any order.
 ghost use Rattle.std.specs.Prelude.{◌≡◌, ◌≤◌, ◌<◌, ◌+◌, ℕ, length, drop, slice_index_or, Some, IsSome, IfSome, OnOk};
+ghost use Rattle.binlog_table.specs.Walks.{IsLengthOf, FitFrom, image_of_row};
 ghost use Rattle.binlog_table.specs.Value.{Content, view};
 ghost use Rattle.binlog_table.specs.Image.{cell_at, cells_at, IsRead};
 ghost use Rattle.binlog_table.specs.CellPlaces.{Fits, IsPlace, read_from, content_in};
@@ -29,7 +30,7 @@ pub struct CellPlace {
 /// How many bytes a cell takes that can be read.
 #[tactic(auto, unfolding(crate::specs::Image::cell_at, crate::specs::Image::value_at))]
 fn len_of(column: &Column, is_present: bool, is_null: bool, bytes: &[u8]) -> Option<usize>
-    ensures value { (cell : Content) → (len : ℕ) → cell_at column.now is_present is_null bytes.now ≡ Some (cell, len) → result ≡ Some len }
+    ensures value { IsLengthOf column.now is_present is_null bytes.now result }
     ensures within { IfSome result (λ len. len ≤ length bytes.now) }
 {
     if !is_present {
@@ -52,7 +53,7 @@ pub(crate) fn find_places(
 ) -> Result<(), AllocError>
     requires within { from ≤ length values.now }
     requires read { IsRead (cells_at columns.now present.now nulls.now 0 0 (drop from values.now)) }
-    ensures { OnOk result (Fits columns.now present.now nulls.now 0 0 from values.now places.new.items) }
+    ensures { OnOk result (FitFrom columns.now present.now nulls.now from values.now places.new.items) }
 {
     places.clear();
     let mut start = from;
@@ -159,7 +160,7 @@ impl<'a> PlacedRow<'a> {
     ) -> Option<PlacedRow<'a>>
         requires span { IsSpan head.now map.now.columns body.now span }
         requires places { HavePlaces head.now map.now.columns body.now span places.now }
-        ensures { result ≡ option_map (λ cells. record { table = map.now; cells = cells }) (image_on side (row_of head.now map.now.columns body.now span)) }
+        ensures { result ≡ image_of_row map.now side (row_of head.now map.now.columns body.now span) }
     {
         match side {
             Side::Before => match head.before {

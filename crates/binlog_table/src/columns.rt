@@ -1,5 +1,6 @@
 //! The columns of a table map, by their types, metadata and bits of signedness.
 ghost use Rattle.std.specs.Prelude.{◌≡◌, ◌≤◌, ◌<◌, ◌^◌, ◌&&◌, ◌+◌, length, vec_len, option_map, is_some, true, IfOk};
+ghost use Rattle.binlog_table.specs.MapReads.{bytes_if};
 ghost use Rattle.binlog_table.specs.MapResult.{Gives, GivesExactly};
 ghost use Rattle.binlog_table.specs.Columns.{is_numeric, high_bit, next_numeric, columns_at};
 ghost use Rattle.binlog_table.specs.Map.{columns_in, columns_stand};
@@ -78,7 +79,7 @@ fn columns_stand(
     signs: &[u8],
     numeric: usize,
 ) -> Result<(), MapFault>
-    ensures stand { GivesExactly (λ _. numeric) result (columns_stand left.now (option_map (λ x. x.now) names.entry) signs.now numeric) }
+    ensures stand { GivesExactly (λ _. numeric) result (columns_stand left.now (bytes_if names.entry) signs.now numeric) }
     ensures named { IfOk result (λ _. is_some names.entry ≡ true) }
 {
     if !left.is_empty() {

@@ -1,5 +1,6 @@
 //! Decimals: groups of digits, the highest first.
 ghost use Rattle.std.specs.Prelude.{◌≡◌, ◌≤◌, ◌<◌, ◌^◌, ◌+◌, ◌-◌, ◌*◌, ◌++◌, length, drop, option_map, is_some, true, false, [], Some, None, IfSome};
+ghost use Rattle.binlog_table.specs.DecimalReads.{plain_from, left_behind, read_group, read_digits, read_front, read_numbers};
 ghost use Rattle.byteorder.specs.Endian.{big_number};
 ghost use Rattle.binlog_table.specs.DecimalShown.{decimal_view};
 ghost use Rattle.binlog_table.specs.DecimalParts.{front_at, behind_at};
@@ -75,7 +76,7 @@ fn number_at(text: &[u8], at: usize, width: usize) -> u64
     requires some { 1 ≤ width }
     requires few { width ≤ 4 }
     requires room { at + width ≤ length text.now }
-    ensures { result ≡ big_number width (drop at (plain text.now)) }
+    ensures { result ≡ big_number width (plain_from text.now at) }
 {
     let count = spelled(width);
     let stored = big(&text[at..], width);
@@ -93,7 +94,7 @@ fn number_at(text: &[u8], at: usize, width: usize) -> u64
 fn group_at(text: &[u8], at: usize, len: usize) -> Option<u64>
     requires few { len ≤ 9 }
     requires place { at ≤ length text.now }
-    ensures value { option_map (λ n. (digits_of len n, drop (at + group_len len) (plain text.now))) result ≡ group_at len (drop at (plain text.now)) }
+    ensures value { read_group len at text.now result ≡ group_at len (plain_from text.now at) }
     ensures small { IfSome result (λ n. n < 10 ^ len) }
     ensures within { IfSome result (λ _. at + group_len len ≤ length text.now) }
 {
@@ -118,7 +119,7 @@ fn group_at(text: &[u8], at: usize, len: usize) -> Option<u64>
 fn after_group(text: &[u8], at: usize, len: usize) -> Option<usize>
     requires few { len ≤ 9 }
     requires place { at ≤ length text.now }
-    ensures value { option_map (λ end. drop end (plain text.now)) result ≡ after_group len (drop at (plain text.now)) }
+    ensures value { left_behind text.now result ≡ after_group len (plain_from text.now at) }
     ensures within { IfSome result (λ end. end ≤ length text.now) }
 {
     let _number = group_at(text, at, len)?;
@@ -129,7 +130,7 @@ fn after_group(text: &[u8], at: usize, len: usize) -> Option<usize>
 #[inline(always)]
 fn after_nines(text: &[u8], start: usize, count: usize) -> Option<usize>
     requires { start ≤ length text.now }
-    ensures value { option_map (λ end. drop end (plain text.now)) result ≡ after_nines count (drop start (plain text.now)) }
+    ensures value { left_behind text.now result ≡ after_nines count (plain_from text.now start) }
     ensures within { IfSome result (λ end. end ≤ length text.now) }
 {
     let mut at = start;
@@ -142,7 +143,7 @@ fn after_nines(text: &[u8], start: usize, count: usize) -> Option<usize>
 /// The place after all groups.
 #[tactic(auto, unfolding(crate::specs::Decimal::after_digits))]
 fn after_digits(size: DecimalSize, text: &[u8]) -> Option<usize>
-    ensures { option_map (λ end. drop end (plain text.now)) result ≡ after_digits size.precision size.scale (plain text.now) }
+    ensures { left_behind text.now result ≡ after_digits size.precision size.scale (plain text.now) }
 {
     let scale = usize::from(size.scale);
     let whole = usize::from(size.precision) - scale;
@@ -202,7 +203,7 @@ fn push_group(digits: &mut Digits, text: &[u8], at: usize, len: usize) -> Option
     requires few { len ≤ 9 }
     requires room { length digits.old + len ≤ 65 }
     requires place { at ≤ length text.now }
-    ensures digits { option_map (λ end. both digits.new (drop end (plain text.now))) result ≡ appended digits.old (group_at len (drop at (plain text.now))) }
+    ensures digits { read_digits digits.new text.now result ≡ appended digits.old (group_at len (plain_from text.now at)) }
     ensures len { IfSome result (λ _. length digits.new ≡ length digits.old + len) }
     ensures within { IfSome result (λ end. end ≤ length text.now) }
 {
@@ -216,7 +217,7 @@ fn push_group(digits: &mut Digits, text: &[u8], at: usize, len: usize) -> Option
 fn push_nines(digits: &mut Digits, text: &[u8], start: usize, count: usize) -> Option<usize>
     requires room { length digits.old + 9 * count ≤ 65 }
     requires place { start ≤ length text.now }
-    ensures digits { option_map (λ end. both digits.new (drop end (plain text.now))) result ≡ appended digits.old (nines_at count (drop start (plain text.now))) }
+    ensures digits { read_digits digits.new text.now result ≡ appended digits.old (nines_at count (plain_from text.now start)) }
     ensures len { IfSome result (λ _. length digits.new ≡ length digits.old + 9 * count) }
     ensures within { IfSome result (λ end. end ≤ length text.now) }
 {
@@ -264,7 +265,7 @@ fn joined(first: u64, last: u64, len: usize) -> u64
 #[inline(always)]
 fn number_in_front(text: &[u8], digits: usize) -> Option<(u64, usize)>
     requires few { digits ≤ 17 }
-    ensures value { option_map (λ r. both (digits_of digits r.0) (drop r.1 (plain text.now))) result ≡ front_at digits (plain text.now) }
+    ensures value { read_front digits text.now result ≡ front_at digits (plain text.now) }
     ensures small { IfSome result (λ r. r.0 < 10 ^ digits) }
     ensures within { IfSome result (λ r. r.1 ≤ length text.now) }
 {
@@ -283,7 +284,7 @@ fn number_in_front(text: &[u8], digits: usize) -> Option<(u64, usize)>
 fn number_behind(text: &[u8], at: usize, digits: usize) -> Option<u64>
     requires few { digits ≤ 17 }
     requires place { at ≤ length text.now }
-    ensures value { option_map (digits_of digits) result ≡ behind_at digits (drop at (plain text.now)) }
+    ensures value { option_map (digits_of digits) result ≡ behind_at digits (plain_from text.now at) }
     ensures small { IfSome result (λ n. n < 10 ^ digits) }
 {
     let len = digits % 9;
@@ -298,7 +299,7 @@ fn number_behind(text: &[u8], at: usize, digits: usize) -> Option<u64>
 /// The numbers in front of the point and behind it of a text of few digits, where it has all of them.
 pub(crate) fn numbers_of(size: DecimalSize, text: &[u8]) -> Option<(u64, u64)>
     requires { size.precision ≤ 17 }
-    ensures digits { option_map (λ n. digits_of (size.precision - size.scale) n.0 ++ digits_of size.scale n.1) result ≡ digits_at size.precision size.scale (plain text.now) }
+    ensures digits { read_numbers size result ≡ digits_at size.precision size.scale (plain text.now) }
     ensures front { IfSome result (λ n. n.0 < 10 ^ (size.precision - size.scale)) }
     ensures behind { IfSome result (λ n. n.1 < 10 ^ size.scale) }
 {

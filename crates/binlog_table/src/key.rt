@@ -1,5 +1,6 @@
 //! The key of a table map: which columns it has, in its own order.
 ghost use Rattle.std.specs.Prelude.{◌≡◌, ◌≤◌, ◌<◌, [], length, option_map, IfOk, Ok, Err, true, slice_index_or, if◌then◌else◌};
+ghost use Rattle.binlog_table.specs.MapReads.{bytes_if, if_unseen};
 ghost use Rattle.std.specs.List.{All};
 ghost use Rattle.binlog_table.specs.MapResult.{Gives, GivesExactly};
 ghost use Rattle.binlog_table.specs.declared.fault.MapFault.TheVariants.{BadMap};
@@ -24,7 +25,7 @@ fn index_at(prefixed: bool, bytes: &[u8]) -> Result<(u64, &[u8]), MapFault>
 
 /// The index of a column that wasn't seen yet; `seen` has a mark for each column.
 fn unseen(seen: &[bool], index: u64) -> Result<usize, MapFault>
-    ensures value { GivesExactly (λ i. i) result (if slice_index_or seen.now index true then Err BadMap else Ok index) }
+    ensures value { GivesExactly (λ i. i) result (if_unseen seen.now index) }
     ensures below { IfOk result (λ i. i < length seen.now) }
 {
     if index >= seen.len() as u64 {
@@ -67,7 +68,7 @@ pub(crate) fn key_in(
     plain: Option<&[u8]>,
     prefixed: Option<&[u8]>,
 ) -> Result<Vec<usize>, MapFault>
-    ensures key { Gives (λ v. v.items) result (key_in count (option_map (λ x. x.now) plain.entry) (option_map (λ x. x.now) prefixed.entry)) }
+    ensures key { Gives (λ v. v.items) result (key_in count (bytes_if plain.entry) (bytes_if prefixed.entry)) }
     ensures below { IfOk result (λ v. All (λ i. i < count) v.items) }
 {
     if let Some(bytes) = plain {

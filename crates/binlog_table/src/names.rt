@@ -1,5 +1,6 @@
 //! The names of columns, and the columns in the order of their names.
 ghost use Rattle.std.specs.Prelude.{◌≡◌, ◌≤◌, ◌<◌, ◌+◌, ◌-◌, true, false, ℕ, List, length, map, option_map, is_some, IfOk, vec_len};
+ghost use Rattle.binlog_table.specs.MapReads.{bytes_if, RepeatsAt, RepeatsNotAt, RepeatsNowhere, AreRepeated};
 ghost use Rattle.std.specs.String.{string_bytes};
 ghost use Rattle.binlog_table.specs.MapResult.{Gives};
 ghost use Rattle.binlog_table.specs.Names.{names_at, column_names, names_in, distinct_names, are_distinct, used_up};
@@ -62,16 +63,16 @@ fn sorted_names<'a>(alloc: Global, names: &'a [String]) -> Result<Vec<(&'a str, 
 /// Whether the name at a place is that in front of it.
 fn is_repeated(sorted: &[(&str, usize)], place: usize) -> bool
     requires { place < length sorted.now }
-    ensures yes { result ≡ true → (0 < place) × (name_of (map name_in sorted.now) (place - 1) ≡ name_of (map name_in sorted.now) place) }
-    ensures no { result ≡ false → 0 < place → name_of (map name_in sorted.now) (place - 1) ≡ name_of (map name_in sorted.now) place → ⊥ }
+    ensures yes { result ≡ true → RepeatsAt sorted.now place }
+    ensures no { result ≡ false → RepeatsNotAt sorted.now place }
 {
     place > 0 && sorted[place - 1].0 == sorted[place].0
 }
 
 /// Whether a name stands twice.
 fn has_repeated(sorted: &[(&str, usize)]) -> bool
-    ensures yes { result ≡ true → (names : List (List ℕ)) → AreSorted names sorted.now → are_distinct names ≡ false }
-    ensures no { result ≡ false → (k : ℕ) → k + 1 < length (map name_in sorted.now) → name_of (map name_in sorted.now) k ≡ name_of (map name_in sorted.now) (k + 1) → ⊥ }
+    ensures yes { result ≡ true → AreRepeated sorted.now }
+    ensures no { result ≡ false → RepeatsNowhere sorted.now }
 {
     for place in 0..sorted.len() {
         if is_repeated(sorted, place) {
@@ -111,7 +112,7 @@ pub(crate) fn column_names(
     count: usize,
     field: Option<&[u8]>,
 ) -> Result<ColumnNames, MapFault>
-    ensures names { Gives (λ n. map string_bytes n.names.items) result (names_in count (option_map (λ x. x.now) field.entry)) }
+    ensures names { Gives (λ n. map string_bytes n.names.items) result (names_in count (bytes_if field.entry)) }
     ensures count { IfOk result (λ n. is_some field.entry ≡ true → vec_len n.names ≡ count) }
     ensures order { IfOk result (λ n. IsNameOrder (map string_bytes n.names.items) n.order.items) }
 {

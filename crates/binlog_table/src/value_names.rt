@@ -1,5 +1,6 @@
 //! The names of the values of ENUM and SET columns.
 ghost use Rattle.std.specs.Prelude.{◌≡◌, ◌≤◌, ◌+◌, ◌==◌, [], length, map, option_map, unwrap_or, IfOk, vec_len};
+ghost use Rattle.binlog_table.specs.MapReads.{bytes_if};
 ghost use Rattle.binlog_table.specs.MapResult.{Gives};
 ghost use Rattle.binlog_table.specs.Names.{strings_at, list_in, value_names_of, value_names_at, value_names, used_up};
 ghost use Rattle.binlog_table.specs.ValueNamesShown.{names_view};
@@ -33,7 +34,7 @@ fn list_in<'a>(
     alloc: Global,
     field: Option<&'a [u8]>,
 ) -> Result<(Option<Vec<Vec<u8>>>, Option<&'a [u8]>), MapFault>
-    ensures { Gives (λ x. (names_view x.0, option_map (λ b. b.now) x.1)) result (list_in (option_map (λ b. b.now) field.entry)) }
+    ensures { Gives (λ x. (names_view x.0, bytes_if x.1)) result (list_in (bytes_if field.entry)) }
 {
     let Some(bytes) = field else {
         return Ok((None, None));
@@ -59,8 +60,7 @@ fn value_names_of<'a>(
     sets: Option<&'a [u8]>,
     enums: Option<&'a [u8]>,
 ) -> Result<Named<'a>, MapFault>
-    ensures { Gives (λ x. (names_view x.names, (option_map (λ b. b.now) x.sets, option_map (λ b. b.now) x.enums))) result
-        (value_names_of layout.now (option_map (λ b. b.now) sets.entry) (option_map (λ b. b.now) enums.entry)) }
+    ensures { Gives (λ x. (names_view x.names, (bytes_if x.sets, bytes_if x.enums))) result (value_names_of layout.now (bytes_if sets.entry) (bytes_if enums.entry)) }
 {
     match layout {
         Layout::Set(_) => {
@@ -81,7 +81,7 @@ fn value_names_of<'a>(
 
 /// Whether nothing is left of a field.
 fn is_used_up(field: Option<&[u8]>) -> bool
-    ensures { result ≡ (length (unwrap_or (option_map (λ b. b.now) field.entry) []) == 0) }
+    ensures { result ≡ (length (unwrap_or (bytes_if field.entry) []) == 0) }
 {
     match field {
         None => true,
@@ -96,8 +96,7 @@ pub(crate) fn value_names(
     sets: Option<&[u8]>,
     enums: Option<&[u8]>,
 ) -> Result<Vec<Option<Vec<Vec<u8>>>>, MapFault>
-    ensures names { Gives (λ v. map names_view v.items) result
-        (value_names columns.now (option_map (λ b. b.now) sets.entry) (option_map (λ b. b.now) enums.entry)) }
+    ensures names { Gives (λ v. map names_view v.items) result (value_names columns.now (bytes_if sets.entry) (bytes_if enums.entry)) }
     ensures count { IfOk result (λ v. vec_len v ≡ length columns.now) }
 {
     let mut all = Vec::with_capacity(alloc, columns.len())?;

@@ -2,7 +2,7 @@
 ghost use Rattle.std.specs.Prelude.{◌≡◌, ◌++◌, ◌<◌, OnOk, length, string_bytes};
 ghost use Rattle.binlogfeed.specs.Coming.{fault_of_reading};
 ghost use Rattle.binlogfeed.specs.Faults.{name_of, status_of};
-ghost use Rattle.binlogfeed.specs.Follow.{follow_status_of, input_text, refusal_status_of, refusal_text, NamesFiles};
+ghost use Rattle.binlogfeed.specs.Follow.{follow_status_of, input_text, refusal_status_of, list_refusal_text, NamesFiles};
 ghost use Rattle.binlogfeed.specs.Statuses.{open_status_of};
 ghost use Rattle.binlog_feed.specs.Growing.{last_file};
 
@@ -66,7 +66,7 @@ pub(crate) fn refusal_line<L: Logs>(
     line: &mut String,
 ) -> Result<(), AllocError>
     requires { NamesFiles (L.names earlier.now) (L.names logs.now) fault.now }
-    ensures { OnOk result (string_bytes line.new ≡ string_bytes line.old ++ refusal_text (L.names earlier.now) (L.names logs.now) fault.now) }
+    ensures { OnOk result (string_bytes line.new ≡ string_bytes line.old ++ list_refusal_text (L.names earlier.now) (L.names logs.now) fault.now) }
 {
     match fault {
         GoOnFault::NotAtEnd => Ok(()),

@@ -61,7 +61,7 @@ nine_columns =
     numbers "09 01 01 01 01 01 01 01 01 01 00 00 00 01 02 00 00 04 12 01 61 01 62 01 63 01 64 01 65 01 66 01 67 01 68 01 69 08 09 08 00 01 02 03 04 05 06 07"
     (cell.int (pos 1) ∷ cell.int (pos 2) ∷ cell.int (pos 3) ∷ cell.int (pos 4) ∷ cell.int (pos 5) ∷ cell.int (pos 6) ∷ cell.int (pos 7) ∷ cell.int (pos 8) ∷ cell.null ∷ [])
 
--- a key has all its columns' values, however many they are
+-- a key has_plain all its columns' values, however many they are
 abbrev pub KeysOfManyColumns : Type 0
 KeysOfManyColumns =
     (key_text_of keyed_update Before ≡ Some (utf8 "[{\"base64\":\"6Q==\"},4294967291,{\"base64\":\"AP8=\"},\"2024\"]"))
@@ -69,11 +69,11 @@ KeysOfManyColumns =
     × (key_text_of five_from_the_last After ≡ Some (utf8 "[15,14,13,12,11]"))
     × (key_text_of nine_columns After ≡ Some (utf8 "[null,1,2,3,4,5,6,7,8]"))
 
-abbrev pub has : String → RowChange → Bool
-has key change = has_key (codes "s") (codes "t") (utf8 key) change
+abbrev pub has_plain : String → RowChange → Bool
+has_plain key change = has_key (codes "s") (codes "t") (utf8 key) change
 
 -- and is found by all of them
 abbrev pub ManyColumnsFound : Type 0
 ManyColumnsFound =
-    (has "[11,12,13,14,15]" five_columns ≡ true) × (has "[11,12,13,14]" five_columns ≡ false) × (has "[11,12,13,14,16]" five_columns ≡ false)
-    × (has "[null,1,2,3,4,5,6,7,8]" nine_columns ≡ true) × (has "[null,1,2,3,4,5,6,7,9]" nine_columns ≡ false)
+    (has_plain "[11,12,13,14,15]" five_columns ≡ true) × (has_plain "[11,12,13,14]" five_columns ≡ false) × (has_plain "[11,12,13,14,16]" five_columns ≡ false)
+    × (has_plain "[null,1,2,3,4,5,6,7,8]" nine_columns ≡ true) × (has_plain "[null,1,2,3,4,5,6,7,9]" nine_columns ≡ false)

@@ -18,12 +18,12 @@ abbrev pub Reads : Charset → String → String → Type 0
 Reads charset bytes text = full_data (text_type 15 80 (Some charset)) None (cell.bytes (hex bytes)) ≡ string (utf8 text)
 
 -- bytes in a column have this JSON
-abbrev pub Writes : ColumnType → String → String → Type 0
-Writes t bytes json = compact_text (full_data t None (cell.bytes (hex bytes))) ≡ utf8 json
+abbrev pub WritesValue : ColumnType → String → String → Type 0
+WritesValue t bytes json = compact_text (full_data t None (cell.bytes (hex bytes))) ≡ utf8 json
 
 -- bytes in a VARCHAR stay bytes
 abbrev pub Keeps : Charset → String → String → Type 0
-Keeps charset bytes json = Writes (text_type 15 80 (Some charset)) bytes json
+Keeps charset bytes json = WritesValue (text_type 15 80 (Some charset)) bytes json
 
 -- ---- latin1
 
@@ -31,7 +31,7 @@ Keeps charset bytes json = Writes (text_type 15 80 (Some charset)) bytes json
 abbrev pub Latin1Texts : Type 0
 Latin1Texts =
     Reads Latin1 "" "" × Reads Latin1 "61 7f" "a\u{7f}" × Reads Latin1 "e9 20 80" "é €" × Reads Latin1 "c3 a9" "Ã©" × Reads Latin1 "a0 ff" "\u{a0}ÿ"
-    × Writes (text_type 252 2 (Some Latin1)) "22 e9" "\"\\\"é\"" × Writes (text_type 254 4 (Some Latin1)) "e9" "\"é\""
+    × WritesValue (text_type 252 2 (Some Latin1)) "22 e9" "\"\\\"é\"" × WritesValue (text_type 254 4 (Some Latin1)) "e9" "\"é\""
 
 -- the bytes 80 to 9f by Windows-1252, and its five gaps
 abbrev pub Windows1252 : Type 0
@@ -44,7 +44,7 @@ Windows1252 =
 abbrev pub Utf8Texts : Type 0
 Utf8Texts =
     Reads Utf8mb4 "" "" × Reads Utf8mb4 "f0 9f 98 80 c3 a9" "😀é" × Reads Utf8mb3 "c3 a9" "é" × Reads Ascii "61 62" "ab"
-    × Writes (text_type 254 4 (Some Utf8mb4)) "61 62" "\"ab\""
+    × WritesValue (text_type 254 4 (Some Utf8mb4)) "61 62" "\"ab\""
 
 -- no UTF-8 at all; a cut character; a surrogate; a long spelling; beyond the last character; one bad byte among good ones
 abbrev pub NoUtf8 : Type 0
@@ -96,12 +96,12 @@ OtherCharsets =
 -- BINARY(4) with its zeros, whole, and empty; VARBINARY and BLOB as they stand
 abbrev pub Binaries : Type 0
 Binaries =
-    Writes (text_type 254 4 (Some Binary)) "00 ff" "{\"base64\":\"AP8AAA==\"}" × Writes (text_type 254 4 (Some Binary)) "61 62 63 64" "{\"base64\":\"YWJjZA==\"}"
-    × Writes (text_type 254 4 (Some Binary)) "" "{\"base64\":\"AAAAAA==\"}" × Writes (text_type 15 10 (Some Binary)) "00 ff 00" "{\"base64\":\"AP8A\"}"
-    × Writes (text_type 15 10 (Some Binary)) "61 62" "{\"base64\":\"YWI=\"}" × Writes (text_type 252 2 (Some Binary)) "c3 a9" "{\"base64\":\"w6k=\"}"
+    WritesValue (text_type 254 4 (Some Binary)) "00 ff" "{\"base64\":\"AP8AAA==\"}" × WritesValue (text_type 254 4 (Some Binary)) "61 62 63 64" "{\"base64\":\"YWJjZA==\"}"
+    × WritesValue (text_type 254 4 (Some Binary)) "" "{\"base64\":\"AAAAAA==\"}" × WritesValue (text_type 15 10 (Some Binary)) "00 ff 00" "{\"base64\":\"AP8A\"}"
+    × WritesValue (text_type 15 10 (Some Binary)) "61 62" "{\"base64\":\"YWI=\"}" × WritesValue (text_type 252 2 (Some Binary)) "c3 a9" "{\"base64\":\"w6k=\"}"
 
 -- no character set, so that nothing is known of zeros either
 abbrev pub NoCharset : Type 0
 NoCharset =
-    Writes (text_type 15 80 None) "61" "{\"base64\":\"YQ==\"}" × Writes (text_type 254 4 None) "61" "{\"base64\":\"YQ==\"}"
-    × Writes (text_type 252 2 None) "" "{\"base64\":\"\"}"
+    WritesValue (text_type 15 80 None) "61" "{\"base64\":\"YQ==\"}" × WritesValue (text_type 254 4 None) "61" "{\"base64\":\"YQ==\"}"
+    × WritesValue (text_type 252 2 None) "" "{\"base64\":\"\"}"

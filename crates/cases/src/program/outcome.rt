@@ -1,6 +1,6 @@
 //! How one run over a case's files comes out.
 ghost use Rattle.std.specs.Prelude.{IfErr};
-ghost use Rattle.binlog_frame.specs.Memory.{names_of};
+ghost use Rattle.binlog_frame.specs.Memory.{names_in_memory};
 ghost use Rattle.binlogfeed.specs.Faults.{IsNamed};
 
 use crate::language::{Case, Named, Page, Reads, Refused, Room, SMALL_WINDOW, source};
@@ -103,7 +103,7 @@ fn outcome_of(
     out: Narrow,
     answer: Result<u64, RunFault>,
 ) -> Result<Outcome, Refused>
-    requires { IfErr answer (IsNamed (names_of logs.now)) }
+    requires { IfErr answer (IsNamed (names_in_memory logs.now)) }
 {
     let (status, end) = ended(alloc, logs, answer)?;
     Ok(Outcome {
@@ -127,7 +127,7 @@ fn ended(
     logs: &MemoryLogs,
     answer: Result<u64, RunFault>,
 ) -> Result<(u8, String), Refused>
-    requires { IfErr answer (IsNamed (names_of logs.now)) }
+    requires { IfErr answer (IsNamed (names_in_memory logs.now)) }
 {
     let mut end = Page::new(alloc);
     let status = push_end(&mut end, logs, answer);
@@ -136,7 +136,7 @@ fn ended(
 
 /// The line of a run's end on standard error or the number of its lines, and its status.
 fn push_end(end: &mut Page, logs: &MemoryLogs, answer: Result<u64, RunFault>) -> u8
-    requires { IfErr answer (IsNamed (names_of logs.now)) }
+    requires { IfErr answer (IsNamed (names_in_memory logs.now)) }
 {
     match answer {
         Ok(count) => {

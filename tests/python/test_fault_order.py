@@ -1,0 +1,139 @@
+"""docs/FORMAT.md tells the faults in the order in which the definitions of specs/ look for them."""
+import re
+import unittest
+from functools import cache
+from typing import NamedTuple
+
+from support import TOP
+
+PAGE = TOP / "docs/FORMAT.md"
+
+# A word of a definition. One that is behind a point isn't a name of its file.
+WORD = re.compile(r"(?<![\w.])[A-Za-z_]\w*(?!\.\w)")
+USED = re.compile(r"^use Rattle\.(\w+)\.specs\.([\w.]+)\.\{(.*)\}$", re.MULTILINE)
+EQUATION = re.compile(r"^([a-zA-Z_]\w*)\b(.*?) =(?: |$)(.*(?:\n .*)*)", re.MULTILINE)
+
+
+class Equation(NamedTuple):
+    """One line of a definition: what stands on the left behind its name, and its right side."""
+
+    left: str
+    right: str
+
+
+class Module(NamedTuple):
+    """A file of specs/: the equations of each name, and the names that it uses, with their module."""
+
+    crate: str
+    equations: dict[str, list[Equation]]
+    used: dict[str, str]
+
+    def right(self, name: str) -> str:
+        """The right sides of a definition."""
+        return "\n".join(equation.right for equation in self.equations[name])
+
+
+@cache
+def module(crate: str, path: str) -> Module:
+    """A file of specs/, by its crate and its name."""
+    text = (TOP / f"crates/{crate}/specs/{path}.antt").read_text(encoding="utf-8")
+    equations: dict[str, list[Equation]] = {}
+    for name, left, right in EQUATION.findall(text):
+        equations.setdefault(name, []).append(Equation(left, right))
+    used = {name: f"{of}.{where}" for of, where, names in USED.findall(text) for name in names.split(", ")}
+    return Module(crate, equations, used)
+
+
+def faults_in(text: str, where: Module, variants: str, seen: set[str] | None = None) -> list[str]:
+    """The variants of an enum that the words of a text come to, by the definitions of its crate, each once."""
+    seen = set() if seen is None else seen
+    found: list[str] = []
+    for word in WORD.findall(text):
+        of, _, path = where.used.get(word, "").partition(".")
+        if path == variants:
+            found.append(word)
+            continue
+        home = where if word in where.equations else module(of, path) if of == where.crate and "." not in path else None
+        if home and word in home.equations and word not in seen:
+            seen.add(word)
+            found += faults_in(home.right(word), home, variants, seen)
+    return list(dict.fromkeys(found))
+
+
+def listed(name: str, where: Module) -> list[tuple[Module, str]]:
+    """The faults in the list of a definition, in its order; a list in a list is taken apart."""
+    inner = re.search(r"first_of \((.*)∷ \[\]\)", where.right(name), re.DOTALL)
+    if not inner:
+        return [(where, name)]
+    found = []
+    for call in inner[1].split("∷"):
+        called = call.split()[0]
+        home = where if called in where.equations else module(*where.used[called].split("."))
+        found += listed(called, home)
+    return found
+
+
+def framing() -> list[str]:
+    """What can be wrong with a file's framing: with the magic, with the first event, with the length of a later one."""
+    cutting = module("binlog_frame", "Cutting")
+    names = []
+    for name in ("LacksMagic", "IsNoFormat", "Stops"):
+        held = [equation.left for equation in cutting.equations[name] if equation.right.strip() != "⊥"]
+        names += [word for left in held for word in WORD.findall(left) if cutting.used.get(word, "").endswith("Malformed.TheVariants")]
+    return names
+
+
+def marks(where: Module, name: str) -> list[str]:
+    """What a definition says in letters and numbers, and its row has to say too: texts, and the least length of a body."""
+    return re.findall(r'codes "(.*?)"', where.right(name)) + re.findall(r"length event\.body\) (\d+)", where.right(name))
+
+
+def row_names(row: str) -> list[str]:
+    """The faults that a row names, without what they carry."""
+    return re.findall(r"`([A-Z]\w+)(?:\(\w\))?`", row)
+
+
+def table_rows() -> list[tuple[list[str], str]]:
+    """The rows of the page's table of faults: the names, and where they hold."""
+    part = PAGE.read_text(encoding="utf-8").partition("**The fault** of a list of files")[2].partition("\n## ")[0]
+    rows = [line.strip("|").split(" | ") for line in part.splitlines() if line.startswith("| `")]
+    return [(row_names(names), where) for names, where in rows]
+
+
+def page_steps() -> list[set[str]]:
+    """What each step of reading a table map may answer, by the page's list."""
+    part = PAGE.read_text(encoding="utf-8").partition("\n## Table maps")[2].partition("The answer is the first of these")[2].partition("\n|")[0]
+    steps = re.findall(r"^\d\. (.*(?:\n   .*)*)", part, re.MULTILINE)
+    return [set(row_names(half)) for step in steps for half in step.split("; then ")]
+
+
+def defined_steps() -> list[set[str]]:
+    """The same by the definitions. Steps behind one another that answer the same count as one."""
+    maps = module("binlog_table", "Map")
+    calls = ["sections_at", *re.findall(r"← (.*)", maps.right("map_of"))]
+    answers = [set(faults_in(call, maps, "declared.fault.MapFault.TheVariants")) for call in calls]
+    return [answer for before, answer in zip([None, *answers], answers, strict=False) if answer != before]
+
+
+class FaultOrder(unittest.TestCase):
+    """The faults of a log, and those of a table map."""
+
+    def test_faults_of_a_log(self) -> None:
+        """The table has a row for each fault of `any_fault`, in its order, behind one for the framing."""
+        found = listed("any_fault", module("binlog_feed", "AllFaults"))
+        defined = [framing(), *(faults_in(name, where, "declared.what.What.TheVariants") for where, name in found)]
+        rows = table_rows()
+        self.assertEqual([names for names, _ in rows], defined)
+        for (_, says), (where, name) in zip(rows[1:], found, strict=True):
+            for mark in marks(where, name):
+                self.assertIn(mark, says, name)
+        # Of the two that share a name, only the first has a least length.
+        self.assertEqual([says for names, says in rows if names == ["BadRows"] and " 10 " in says], [rows[-3][1]])
+
+    def test_faults_of_a_table_map(self) -> None:
+        """The list of steps has the faults of `map_at`, in its order."""
+        self.assertEqual(page_steps(), defined_steps())
+
+
+if __name__ == "__main__":
+    unittest.main()
