@@ -2,7 +2,7 @@
 #![tactic(auto, unfolding(crate::proofs::OnDocuments::on_documents))]
 
 ghost use Rattle.document_samples.specs.Containers.{Arrays, Objects, Gaps, NoContainers, Overlaps, NoKeys};
-ghost use Rattle.document_samples.specs.Opaques.{Decimals, NoDecimals, DatesAndTimes, OtherTypes};
+ghost use Rattle.document_samples.specs.Opaques.{Decimals, LongDecimals, NoDecimals, DatesAndTimes, OtherTypes};
 ghost use Rattle.document_samples.specs.Scalars.{Literals, Integers, Doubles, Lengths, Texts, NoTypes};
 ghost use Rattle.document_samples.specs.Shapes.{Shapes, Depths};
 
@@ -29,6 +29,7 @@ pub fn sample_containers()
 /// Values of MySQL's other types.
 pub fn sample_opaques()
     ensures decimals { Decimals }
+    ensures long_decimals { LongDecimals }
     ensures no_decimals { NoDecimals }
     ensures dates_and_times { DatesAndTimes }
     ensures other_types { OtherTypes }
