@@ -15,9 +15,9 @@ pub opening-preserved : goal.opening-preserved
 opening-preserved g c =
     let back = c.in-Err.ensures in
     record {
-      source = source_kept_further _ _ _ _ _ _ _ _ c.opening.invariant.source back.source_back;
-      filter = back.filter_back ∙ c.opening.invariant.filter;
-      start = back.start_back ∙ c.opening.invariant.start;
+      source = source_kept_further _ _ _ _ _ _ _ _ c.opening.invariant.source back.handed_back.source_back;
+      filter = back.handed_back.filter_back ∙ c.opening.invariant.filter;
+      start = back.handed_back.start_back ∙ c.opening.invariant.start;
     }
 
 pub opening-smaller : goal.opening-smaller
@@ -35,12 +35,12 @@ returns-in-Ok g c =
       fits = λ h. rw (kept.same_names, kept.same_contents, c.opening.invariant.start) at (given.begins h).0;
       begins = λ h. rw (kept.same_names, kept.same_contents, c.opening.invariant.start, c.opening.invariant.filter) at (given.begins h).1;
       sound = given.sound;
-      differ = rw kept.same_names at given.differ;
-      names = given.names ∙ kept.same_names;
-      contents = given.contents ∙ kept.same_contents;
-      lengths = given.lengths ∙ kept.same_lengths;
-      was_honest = λ h. kept.was_honest (given.was_honest h);
-      no_fewer = no_fewer_still _ _ _ kept.no_fewer given.no_fewer;
+      differ = rw kept.same_names at given.source.differ;
+      names = given.source.names ∙ kept.same_names;
+      contents = given.source.contents ∙ kept.same_contents;
+      lengths = given.source.lengths ∙ kept.same_lengths;
+      was_honest = λ h. kept.was_honest (given.source.was_honest h);
+      no_fewer = no_fewer_still _ _ _ kept.no_fewer given.source.no_fewer;
       refused = tt;
       source_back = tt;
       filter_back = tt;
@@ -71,9 +71,9 @@ returns-in-Err-larger_window g c =
       was_honest = tt;
       no_fewer = tt;
       refused = λ h. rw (kept.same_names, kept.same_contents, c.opening.invariant.start) at (still_refused names (g.L.Logs.contents c.opening.logs) c.opening.start fault why (back.refused h) ends);
-      source_back = source_kept_further _ _ _ _ _ _ _ _ kept back.source_back;
-      filter_back = back.filter_back ∙ c.opening.invariant.filter;
-      start_back = back.start_back ∙ c.opening.invariant.start;
+      source_back = source_kept_further _ _ _ _ _ _ _ _ kept back.handed_back.source_back;
+      filter_back = back.handed_back.filter_back ∙ c.opening.invariant.filter;
+      start_back = back.handed_back.start_back ∙ c.opening.invariant.start;
       named = subst (λ (list : List (List ℕ)). IsNamed list (fault_of_opening why)) kept.same_names (still_named names window before after fault why back.reason ends);
       failed = reads_failed_since (g.L.Logs.failures c.args.logs) before after (fault_of_opening why) kept.no_fewer (still_failed names window before after fault why back.reason ends);
     }
