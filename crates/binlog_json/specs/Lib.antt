@@ -8,7 +8,6 @@ pub mod Joining
 pub mod Listed
 pub mod Labels
 pub mod Written
-pub mod PlainText
 pub mod Keys
 pub mod Histories
 pub mod Index
