@@ -1,3 +1,4 @@
+pub mod PlainText
 pub mod Quoting
 pub mod Texts
 pub mod Lengths

@@ -6,11 +6,15 @@ mod bytes;
 mod container;
 mod decimal;
 mod documents;
+mod draft;
 mod opaque;
 mod padded;
+mod plain;
+mod quote;
 mod read;
 mod scalar;
 mod time;
 mod writer;
 
+pub use plain::is_plain;
 pub use writer::DocumentWriter;

@@ -1,6 +1,6 @@
 use Rattle.std.proofs.Common.{◌-◌, ◌≤◌, length}
-use Rattle.binlog_json.specs.PlainText.{PlainBetween}
-use Rattle.binlog_json.proofs.plain.is_plain_long.Given as goal
+use Rattle.binlog_documents.specs.PlainText.{PlainBetween}
+use Rattle.binlog_documents.proofs.plain.is_plain_long.Given as goal
 
 abbrev pub invariant-loop-at : goal.invariant-loop-at
 invariant-loop-at g l = (l.at ≤ length l.text) × PlainBetween g.row.LIMIT l.text 0 l.at

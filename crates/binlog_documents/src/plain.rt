@@ -1,13 +1,13 @@
 //! Whether a text stands in a string as it is: up to sixteen bytes at a time, where two loads that overlap cover the last ones.
 ghost use Rattle.std.specs.Prelude.{◌≡◌, ◌+◌, ◌≤◌, length};
 ghost use Rattle.std.specs.Bool.{OnTrue};
-ghost use Rattle.binlog_json.specs.PlainText.{PlainBetween, IsPlainBelow};
+ghost use Rattle.binlog_documents.specs.PlainText.{PlainBetween, IsPlainBelow};
 
 use std::simd::prelude::*;
 
 /// Whether no byte of a text needs an escape, and each is below the limit: 0x80 for ASCII characters, 0xff for any.
 #[inline(always)]
-pub(crate) fn is_plain<const LIMIT: u8>(text: &[u8]) -> bool
+pub fn is_plain<const LIMIT: u8>(text: &[u8]) -> bool
     ensures { OnTrue result (IsPlainBelow LIMIT text.now) }
 {
     let len = text.len();

@@ -11,7 +11,7 @@ use Rattle.std.specs.Str.{IsUtf8, is_utf8}
 use lib.Lanes.{chunk, mask_l, zip2, top}
 use Rattle.json.specs.Print.{escape}
 use Rattle.json.proofs.Printed.Plain.{escape_on_plain}
-use Rattle.binlog_json.specs.PlainText.{needs_care, PlainBetween, IsPlainBelow, IsPlain}
+use Rattle.binlog_documents.specs.PlainText.{needs_care, PlainBetween, IsPlainBelow, IsPlain}
 
 one_more : (p : Bool) (n l : ℕ) → n ≤ l → cond p (1 + n) 0 ≡ suc l → (p ≡ true) × (n ≡ l)
 one_more true n l h e = (refl, omega arith)
