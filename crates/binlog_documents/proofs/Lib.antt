@@ -6,3 +6,9 @@ pub mod Times
 pub mod Ascii
 pub mod OpaqueTexts
 pub mod DocumentTexts
+pub mod Digits
+pub mod NumberTexts
+pub mod PrintedDocuments
+pub mod FloatNumbers
+pub mod ReadDocuments
+pub mod JsonTexts

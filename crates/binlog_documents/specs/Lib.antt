@@ -7,3 +7,4 @@ pub mod ScalarShown
 pub mod Widths
 pub mod Appended
 pub mod Values
+pub mod AsJson

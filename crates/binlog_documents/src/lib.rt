@@ -6,6 +6,7 @@ mod bytes;
 mod container;
 mod decimal;
 mod documents;
+mod laws;
 mod opaque;
 mod padded;
 mod read;
@@ -13,4 +14,5 @@ mod scalar;
 mod time;
 mod writer;
 
+pub use laws::documents_are_json;
 pub use writer::DocumentWriter;
