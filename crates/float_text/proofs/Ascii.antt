@@ -1,5 +1,5 @@
 -- The texts are ASCII.
-use Rattle.std.proofs.Common.{◌≡◌, ℕ, ◌+◌, ◌-◌, ◌^◌, ◌<◌, ◌≤◌, ◌&&◌, ◌++◌, Bool, true, false, cond, ltb, T, List, [], ◌∷◌, length, take, drop, codes, decimal, IsAscii, arith, subst, sym, ap}
+use Rattle.std.proofs.Common.{◌≡◌, ℕ, ◌+◌, ◌-◌, ◌^◌, ◌<◌, ◌&&◌, ◌++◌, Bool, true, false, cond, ltb, T, List, [], ◌∷◌, length, take, drop, codes, decimal, IsAscii, arith, subst, sym}
 use lib.Dec.{lit<}
 use lib.Ieee.Fits.{and_l, and_r}
 use Rattle.std.proofs.lemmas.Str.{IsAscii-append, IsAscii-take, IsAscii-drop}

@@ -7,3 +7,4 @@ pub mod Generated
 pub mod Sign
 pub mod Join
 pub mod Ascii
+pub mod Json

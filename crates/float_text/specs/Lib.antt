@@ -1,3 +1,5 @@
+pub mod Closest
+pub mod JsonSizes
 pub mod Layout
 pub mod Limbs
 pub mod Search

@@ -1,7 +1,10 @@
 //! The text of a finite float, by its bits.
-ghost use Rattle.std.specs.Prelude.{◌≡◌, ℕ, ◌+◌, ◌*◌, ◌%◌, ◌^◌, ◌<◌, ◌≤◌, ◌++◌, true, IfOk, IsAscii};
+ghost use Rattle.std.specs.Prelude.{◌≡◌, ◌*◌, ◌%◌, ◌<◌, ◌≤◌, ◌++◌, true, IfOk, IsAscii};
 ghost use Rattle.std.specs.Float.Ieee.{top, ones, hid};
-ghost use Rattle.float_text.specs.Shortest.{IsFinite, reads_as, scaled_num, scaled_den, shortest};
+ghost use Rattle.json.specs.Print.{IsNumber};
+ghost use Rattle.float_text.specs.JsonSizes.{IsJsonSize};
+ghost use Rattle.float_text.specs.Closest.{IsCoarsest, HasFewestDigits, IsClosestAbove, IsClosestBelow};
+ghost use Rattle.float_text.specs.Shortest.{IsFinite, reads_as, shortest};
 ghost use Rattle.float_text.specs.Layout.{size_text, number_text};
 
 use crate::candidate::candidate;
@@ -17,12 +20,10 @@ pub fn shortest_decimal<F: Float>(bits: u64) -> (u64, u64)
     requires { IsFinite F.format bits }
     ensures same { result ≡ shortest F.format bits }
     ensures reads { reads_as F.format bits result.0 result.1 ≡ true }
-    ensures coarsest { (x i : ℕ) → reads_as F.format bits x i ≡ true → i ≤ result.1 }
-    ensures closest_above { (x : ℕ) → result.0 < x → reads_as F.format bits x result.1 ≡ true
-        → 2 * scaled_num F.format bits ≤ (result.0 + x) * scaled_den F.format result.1 }
-    ensures closest_below { (x : ℕ) → x < result.0 → reads_as F.format bits x result.1 ≡ true
-        → (result.0 + x) * scaled_den F.format result.1 ≤ 2 * scaled_num F.format bits }
-    ensures fewest { (x i n : ℕ) → reads_as F.format bits x i ≡ true → 0 < n → x < 10 ^ n → result.0 < 10 ^ n }
+    ensures coarsest { IsCoarsest F.format bits result.1 }
+    ensures closest_above { IsClosestAbove F.format bits result.0 result.1 }
+    ensures closest_below { IsClosestBelow F.format bits result.0 result.1 }
+    ensures fewest { HasFewestDigits F.format bits result.0 }
     ensures power { result.1 ≤ 708 }
 {
     let (digits, power) = candidate::<F>(bits);
@@ -34,6 +35,7 @@ pub fn push_number<F: Float>(out: &mut Vec<u8, Global>, bits: u64) -> Result<(),
     requires width { bits < 2 * top F.format }
     requires finite { bits % top F.format < ones F.format * hid F.format }
     ensures text { IfOk result (λ _. out.new.items ≡ out.old.items ++ number_text F.format bits) }
+    ensures json { IfOk result (λ _. IsNumber (number_text F.format bits)) }
     ensures ascii { IfOk result (λ _. IsAscii out.old.items → IsAscii out.new.items) }
 {
     if bits >= F::SIGN_BIT {
@@ -49,6 +51,7 @@ pub fn push_number<F: Float>(out: &mut Vec<u8, Global>, bits: u64) -> Result<(),
 fn push_size<F: Float>(out: &mut Vec<u8, Global>, bits: u64) -> Result<(), AllocError>
     requires finite { bits < ones F.format * hid F.format }
     ensures text { IfOk result (λ _. out.new.items ≡ out.old.items ++ size_text F.format bits) }
+    ensures json { IfOk result (λ _. IsJsonSize (size_text F.format bits)) }
     ensures ascii { IfOk result (λ _. IsAscii out.old.items → IsAscii out.new.items) }
 {
     if bits == 0 {

@@ -1,7 +1,8 @@
 //! The search for the shortest decimal, from one that reads back. A decimal is digits * 10 ^ power / 10 ^ 400.
-ghost use Rattle.std.specs.Prelude.{◌≡◌, ℕ, ◌+◌, ◌-◌, ◌*◌, ◌/◌, ◌^◌, ◌<◌, ◌≤◌, true, false, IsTrue, IsFalse};
+ghost use Rattle.std.specs.Prelude.{◌≡◌, ◌+◌, ◌-◌, ◌*◌, ◌/◌, ◌^◌, ◌<◌, ◌≤◌, true, false, IsTrue, IsFalse};
 ghost use Rattle.std.specs.Ordering.{nat_cmp};
 ghost use Rattle.std.specs.Float.Ieee.{ones};
+ghost use Rattle.float_text.specs.Closest.{IsCoarsest, IsClosestAbove, IsClosestBelow};
 ghost use Rattle.float_text.specs.Shortest.{IsFinite, reads_as, size_in_units, scaled_num, scaled_den, shortest};
 ghost use Rattle.float_text.specs.Search.{IsBestUp, IsBestDown};
 
@@ -146,11 +147,9 @@ pub(crate) fn shortest_from<F: FastFloat>(bits: u64, digits: u64, power: u64) ->
     requires reads { reads_as F.format bits digits power ≡ true }
     ensures same { result ≡ shortest F.format bits }
     ensures reads { reads_as F.format bits result.0 result.1 ≡ true }
-    ensures closest_above { (x : ℕ) → result.0 < x → reads_as F.format bits x result.1 ≡ true
-        → 2 * scaled_num F.format bits ≤ (result.0 + x) * scaled_den F.format result.1 }
-    ensures closest_below { (x : ℕ) → x < result.0 → reads_as F.format bits x result.1 ≡ true
-        → (result.0 + x) * scaled_den F.format result.1 ≤ 2 * scaled_num F.format bits }
-    ensures coarsest { (x i : ℕ) → reads_as F.format bits x i ≡ true → i ≤ result.1 }
+    ensures closest_above { IsClosestAbove F.format bits result.0 result.1 }
+    ensures closest_below { IsClosestBelow F.format bits result.0 result.1 }
+    ensures coarsest { IsCoarsest F.format bits result.1 }
     ensures power { result.1 ≤ 708 }
 {
     let (whole, least) = without_zeros::<F>(bits, digits, power);

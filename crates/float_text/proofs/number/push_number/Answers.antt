@@ -15,3 +15,12 @@ returns-in_ok-push_size-2-clause-text g c = rw (positive_is g.F.RawFloat.format 
 
 pub returns-in_ok-push_size-clause-ascii : goal.returns-in_ok-push_size-clause-ascii
 returns-in_ok-push_size-clause-ascii g c before = c.in_ok-push_size.ensures.ascii (longer _ _ (45 ∷ []) c.in_ok-extend_from_slice.ensures.items (ascii_of (45 ∷ []) tt) before)
+
+pub returns-in_ok-push_size-clause-json : goal.returns-in_ok-push_size-clause-json
+returns-in_ok-push_size-clause-json g c =
+    let s = c.SIGN_BIT-then-bits-SIGN_BIT.ensures ∙ g.met.F.Float.sign_is in
+    rw (negative_is g.F.RawFloat.format c.args.bits _ s (omega (arith, c.if-bits-SIGN_BIT.true)) c.requires.width) c.in_ok-push_size.ensures.json.negative
+
+pub returns-in_ok-push_size-2-clause-json : goal.returns-in_ok-push_size-2-clause-json
+returns-in_ok-push_size-2-clause-json g c =
+    rw (positive_is g.F.RawFloat.format c.args.bits _ (c.SIGN_BIT.ensures ∙ g.met.F.Float.sign_is) (omega (arith, c.if-bits-SIGN_BIT.false))) c.in_ok-push_size-2.ensures.json.alone
