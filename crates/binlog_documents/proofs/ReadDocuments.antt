@@ -30,6 +30,10 @@ use Rattle.binlog_documents.proofs.FloatNumbers.{double_number}
 abbrev pub AreBytes : List ℕ → Type 0
 AreBytes bytes = AllByRecursion (λ b. b < 2 ^ 8) bytes
 
+pub bytes_by_index : (bytes : List ℕ) → ((place : ℕ) → get_or bytes place 0 < 256) → AreBytes bytes
+bytes_by_index [] each = tt
+bytes_by_index (b ∷ bytes) each = (each 0, bytes_by_index bytes (λ place. each (suc place)))
+
 front_bytes : (n : ℕ) (bytes : List ℕ) → AreBytes bytes → AreBytes (take n bytes)
 front_bytes zero bytes p = tt
 front_bytes (suc n) [] p = tt
