@@ -1,16 +1,15 @@
 -- The texts of documents are JSON.
-use Rattle.std.proofs.Common.{◌≡◌, ℕ, Bool, true, false, cond, List, [], ◌∷◌, ◌++◌, Option, Some, None, option_map, refl, sym, ap, ◌∙◌, subst, arith}
-use Rattle.std.specs.Str.{IsUtf8, is_utf8}
+use Rattle.std.proofs.Common.{◌≡◌, ℕ, Bool, false, cond, List, [], ◌∷◌, Option, Some, None, option_map, sym, ap, ◌∙◌, subst, arith}
+use Rattle.std.specs.Str.{IsUtf8}
 use Rattle.std.proofs.lemmas.List.Elements.{recursion_from_All}
 use Rattle.std.proofs.lemmas.Str.{IsUtf8-append, IsUtf8-nil, is_utf8-from_IsUtf8}
 use Rattle.json.specs.Token.{Token}
 use Rattle.json.specs.Json as json
-use Rattle.json.specs.Json.{Json}
-use Rattle.json.specs.Print.{token_text, ends, print_from}
+use Rattle.json.specs.Print.{ends, print_from}
 use Rattle.json.specs.Tree.{json_tokens}
 use Rattle.json.proofs.Printed.Trees.{document-print}
 use Rattle.json.proofs.Printed.Utf8.{IsUtf8-separator}
-use Rattle.binlog_documents.specs.Document.{Document, null}
+use Rattle.binlog_documents.specs.Document.{Document}
 use Rattle.binlog_documents.specs.Scalars.{Reading}
 use Rattle.binlog_documents.specs.Containers.{value_at, greatest_depth, document_at}
 use Rattle.binlog_documents.specs.Texts.{document_text}

@@ -7,13 +7,13 @@ use Rattle.byteorder.specs.Endian.{little_number}
 use Rattle.json.specs.Token.{Token}
 use Rattle.json.specs.Json as json
 use Rattle.json.specs.Json.{Json}
-use Rattle.json.specs.Print.{escape, escape_byte, quoted, token_text, begins, ends, print_from, print}
+use Rattle.json.specs.Print.{escape_byte, quoted, token_text, begins, ends, print_from, print}
 use Rattle.json.specs.Tree.{json_tokens, items_tokens, members_tokens}
 use Rattle.binlog_documents.specs.Document.{Document, null, boolean, integer, double, text, opaque, array, object, Elements, no_elements, element, Members, no_members, member}
 use Rattle.binlog_documents.specs.Opaques.{padded, encoded_text, above_micros, day_text, clock_text, in_quotes, span_text, time_text, moment_text, shown_text, is_shown, time_opaque, decimal_opaque, opaque_text}
 use Rattle.binlog_documents.specs.Texts.{comma_if, double_text, document_text, elements_text, members_text}
 use Rattle.binlog_documents.specs.AsJson.{as_json, elements_json, members_json, encoded_json, decimal_json, time_json, opaque_json}
-use Rattle.binlog_documents.proofs.Digits.{IsPlainText, byte, join, nothing, plain_digits, padded_digits}
+use Rattle.binlog_documents.proofs.Digits.{IsPlainText, byte, join, plain_digits, padded_digits}
 
 begun : (later : Bool) (t : Token) (others : List Token) → begins t ≡ true → print_from later (t ∷ others) ≡ comma_if later ++ (token_text t ++ print_from (ends t) others)
 unfolding print_from

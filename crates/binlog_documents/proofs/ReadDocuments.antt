@@ -1,12 +1,11 @@
 -- What bytes spell has a JSON value whose numbers are numbers and whose texts are UTF-8, and that isn't deep.
-use Rattle.std.proofs.Common.{◌≡◌, ℕ, zero, suc, pos, ◌+◌, ◌*◌, ◌-◌, ◌^◌, ◌<◌, ◌≤◌, ◌==◌, ◌&&◌, ◌||◌, Bool, true, false, cond, List, [], ◌∷◌, ◌++◌, length, take, drop, get_or, codes, decimal, nat_lt, nat_le, Option, Some, None, option_map, unwrap_or, refl, arith}
-use Rattle.std.specs.Prelude.{slice_index, All}
+use Rattle.std.proofs.Common.{◌≡◌, ℕ, zero, suc, ◌+◌, ◌*◌, ◌-◌, ◌^◌, ◌<◌, ◌≤◌, ◌==◌, ◌&&◌, ◌||◌, Bool, true, false, cond, List, [], ◌∷◌, ◌++◌, length, take, drop, get_or, codes, nat_le, Option, Some, None, option_map, unwrap_or, refl, arith}
+use Rattle.std.specs.Prelude.{slice_index}
 use Rattle.std.specs.List.{AllByRecursion}
 use Rattle.std.specs.Str.{IsUtf8, is_utf8}
 use Rattle.std.proofs.lemmas.Str.{IsUtf8-from_ascii, IsUtf8-from_is_utf8}
 use Rattle.byteorder.specs.Endian.{little_number, little_from, big_number}
 use Rattle.base64.specs.Engines.{standard}
-use Rattle.base64.specs.GeneralPurpose.{encode_of}
 use Rattle.base64.proofs.EngineFacts.{IsAscii-encode_of}
 use Rattle.json.specs.Token.{Token}
 use Rattle.json.specs.Json as json
@@ -15,9 +14,9 @@ use Rattle.json.specs.Print.{IsNumber, token_text}
 use Rattle.json.specs.Tree.{json_tokens, items_tokens, members_tokens, depth, items_depth, members_depth, HasNumbers, ItemsHaveNumbers, MembersHaveNumbers}
 use Rattle.json.proofs.Printed.Decimals.{IsNumber-decimal}
 use Rattle.json.proofs.Printed.Utf8.{IsUtf8-are_ascii, IsUtf8-quoted, IsUtf8-key, IsUtf8-boolean}
-use Rattle.binlog_documents.specs.Document.{Document, null, boolean, integer, double, text, opaque, array, object, Elements, no_elements, element, Members, no_members, member}
+use Rattle.binlog_documents.specs.Document.{Document, null, boolean, double, text, opaque, array, object, Elements, element, Members, member}
 use Rattle.binlog_documents.specs.Scalars.{◌>>=◌, Reading, literal_at, number_at, signed, unsigned, is_finite, double_at, counted_at, utf8_text, text_at, opaque_at, scalar_at}
-use Rattle.binlog_documents.specs.Opaques.{groups, group_len, group_text, digits_in, has_precision, scaled_text, decimal_opaque, shown_text, is_shown, padded, plain}
+use Rattle.binlog_documents.specs.Opaques.{groups, group_len, digits_in, has_precision, scaled_text, decimal_opaque, shown_text, is_shown, padded}
 use Rattle.binlog_documents.specs.Containers.{Container, element_entry, member_entries, container_at, is_inlined, value_place, value_in, key_in, elements_in, members_in, elements_of, members_of, array_at, object_at, value_at}
 use Rattle.binlog_documents.specs.AsJson.{as_json, elements_json, members_json, encoded_json, decimal_json, time_json, opaque_json}
 use Rattle.binlog_documents.proofs.Digits.{AreDigits, both, padded_digits}

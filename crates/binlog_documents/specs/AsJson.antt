@@ -1,5 +1,5 @@
 -- Documents as JSON values, in the words of the library `json`: what their texts are, by JSON's own grammar.
-use Rattle.std.specs.Prelude.{◌≡◌, ℕ, ◌<◌, ◌^◌, List, Bool, ◌==◌, ◌&&◌, ◌||◌, if◌then◌else◌, All, length, Option, Some, None, option_map, unwrap_or, codes, decimal}
+use Rattle.std.specs.Prelude.{◌≡◌, ℕ, ◌<◌, ◌^◌, List, ◌==◌, ◌&&◌, ◌||◌, if◌then◌else◌, All, length, Option, Some, None, option_map, unwrap_or, codes, decimal}
 use Rattle.std.specs.Str.{is_utf8}
 use Rattle.std.specs.Fmt.{signed_decimal}
 use Rattle.base64.specs.Engines.{standard}

@@ -1,9 +1,11 @@
 -- What documents mean as JSON, and texts that are no JSON.
 use Prim.Native.String.{String}
-use Rattle.std.specs.Prelude.{◌≡◌, List, [], ◌∷◌, codes, Bool, Some, None, option_map}
+use Rattle.std.specs.Prelude.{◌≡◌, [], ◌∷◌, codes, Bool, Some, None, option_map}
 use Rattle.json.specs.Json.{Json, null, boolean, number, string, array, object, no_items, item, no_members, member}
 use Rattle.binlog_documents.specs.Containers.{document_at}
-use Rattle.binlog_documents.specs.AsJson.{json_value, as_json}
+use Rattle.binlog_documents.specs.Document.{Document}
+use Rattle.binlog_documents.specs.Texts.{document_text}
+use Rattle.binlog_documents.specs.AsJson.{json_value, as_json, DocumentsAreJson}
 use Rattle.document_samples.specs.Bytes.{hex, utf8, Says}
 
 -- a column's value is a document with this text, JSON reads the text as this value, and the document is this value
@@ -48,3 +50,7 @@ NoMeanings =
     × NotJson "nul" × NotJson "True" × NotJson "NaN" × NotJson "01" × NotJson "-" × NotJson "+1" × NotJson ".5" × NotJson "1." × NotJson "1e" × NotJson "0x1"
     × NotJson "\"a" × NotJson "'a'" × NotJson "\"\\x\"" × NotJson "\"\n\""
     × (json_value (0x22 ∷ 0xff ∷ 0x22 ∷ []) ≡ None)
+
+-- what the law says of one column's value
+abbrev pub JsonByLaw : Type 0
+JsonByLaw = DocumentsAreJson → (document : Document) → document_at (hex "05 ff ff") ≡ Some document → json_value (document_text document) ≡ Some (as_json document)

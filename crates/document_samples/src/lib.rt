@@ -2,7 +2,7 @@
 #![tactic(auto, unfolding(crate::proofs::OnDocuments::on_documents))]
 
 ghost use Rattle.document_samples.specs.Containers.{Arrays, Objects, Gaps, NoContainers, Overlaps, NoKeys};
-ghost use Rattle.document_samples.specs.Meanings.{JsonScalars, JsonOpaques, JsonContainers, NoMeanings};
+ghost use Rattle.document_samples.specs.Meanings.{JsonScalars, JsonOpaques, JsonContainers, NoMeanings, JsonByLaw};
 ghost use Rattle.document_samples.specs.Opaques.{Decimals, NoDecimals, DatesAndTimes, OtherTypes};
 ghost use Rattle.document_samples.specs.Scalars.{Literals, Integers, Doubles, Lengths, Texts, NoTypes};
 ghost use Rattle.document_samples.specs.Shapes.{Shapes, Depths};
@@ -47,4 +47,5 @@ pub fn sample_json()
     ensures opaques { JsonOpaques }
     ensures containers { JsonContainers }
     ensures no_json { NoMeanings }
+    ensures by_law { JsonByLaw }
 {}

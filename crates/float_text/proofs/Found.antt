@@ -1,5 +1,5 @@
 -- Each finite float has a decimal of at most 18 digits that reads back, so its shortest decimal is one, and its text is a number of JSON.
-use Rattle.std.proofs.Common.{◌≡◌, ℕ, zero, suc, ◌+◌, ◌-◌, ◌*◌, ◌%◌, ◌^◌, ◌<◌, ◌≤◌, Bool, true, false, cond, nat_le, List, codes, decimal, length, ◌++◌, [], inl, inr, ◌⊎◌, refl, sym, ap, ◌∙◌, subst, arith, eq-zero-or-pos, mul-pos, mul-le-mul_left, le-div_iff_mul-le, div-lt_iff_lt-mul}
+use Rattle.std.proofs.Common.{◌≡◌, ℕ, zero, suc, ◌+◌, ◌-◌, ◌*◌, ◌%◌, ◌^◌, ◌<◌, ◌≤◌, Bool, true, false, cond, nat_le, List, codes, decimal, ◌++◌, [], inl, inr, ◌⊎◌, refl, sym, ap, ◌∙◌, subst, arith, eq-zero-or-pos, mul-pos, mul-le-mul_left, le-div_iff_mul-le, div-lt_iff_lt-mul}
 use Rattle.std.proofs.Math.Nat.{div-mul-le_self, lt-div-mul-add}
 use native.Mathlib.Nat.{pow-le-pow_right}
 use lib.Dec.{lit<}
@@ -117,7 +117,7 @@ module _ (f : Format) (bits : ℕ) (F : IsFinite f bits) where
   from_power e (suc n) l r = elim (at_power (suc n)) [
     | inl c ↦ found e (suc n) l r c
     | inr none ↦
-        let less : e ≤ n = elim (eq-zero-or-pos (suc n - e)) [ | inl z ↦ absurd (missed e (suc n) l r none.1 (omega arith)) | inr p ↦ omega arith ] in
+        let less : e ≤ n = elim (eq-zero-or-pos (suc n - e)) [ inl z ↦ absurd (missed e (suc n) l r none.1 (omega arith)) | inr p ↦ omega arith ] in
         let short = from_power e n less r in
         rw (passed n (digits_at f bits (suc n)) none.0) (record { some = short.some; few = short.few; power = omega (arith, short.power); reads = short.reads })
   ]
