@@ -1,5 +1,5 @@
 -- Each finite float has a decimal of at most 18 digits that reads back, so its shortest decimal is one, and its text is a number of JSON.
-use Rattle.std.proofs.Common.{◌≡◌, ℕ, zero, suc, ◌+◌, ◌-◌, ◌*◌, ◌%◌, ◌^◌, ◌<◌, ◌≤◌, Bool, true, false, cond, nat_le, List, codes, decimal, ◌++◌, [], inl, inr, ◌⊎◌, refl, sym, ap, ◌∙◌, subst, arith, eq-zero-or-pos, mul-pos, mul-le-mul_left, le-div_iff_mul-le, div-lt_iff_lt-mul}
+use Rattle.std.proofs.Common.{◌≡◌, ℕ, zero, suc, ◌+◌, ◌-◌, ◌*◌, ◌%◌, ◌^◌, ◌<◌, ◌≤◌, Bool, true, false, cond, nat_le, List, codes, ◌++◌, [], inl, inr, ◌⊎◌, refl, sym, ap, ◌∙◌, subst, arith, eq-zero-or-pos, mul-pos, mul-le-mul_left, le-div_iff_mul-le, div-lt_iff_lt-mul}
 use Rattle.std.proofs.Math.Nat.{div-mul-le_self, lt-div-mul-add}
 use native.Mathlib.Nat.{pow-le-pow_right}
 use lib.Dec.{lit<}
