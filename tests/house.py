@@ -28,7 +28,7 @@ LONG_FUNCTION = 40
 LONG_FILE = 800
 
 # A definition of specs/, by the line that says its type.
-DEFINED = re.compile(r"^(?:(?:abbrev|record|data|unfoldable|opaque|pub) )+(?!mod |use )([^\s:(){}]+)")
+DEFINED = re.compile(r"^(?:(?:abbrev|record|data|unfoldable|opaque|pub) )+(?!mod |use |mutual$)([^\s:(){}]+)")
 FUNCTION = re.compile(r"^( *)(pub )?(?:pub\([^)]*\) )?(?:const )?fn (\w+)")
 CLAUSE = re.compile(r"^ *(?:requires|ensures|ghost)\b(?! use)")
 

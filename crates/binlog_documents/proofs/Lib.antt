@@ -4,6 +4,9 @@ pub mod Texts
 pub mod Lengths
 pub mod Steps
 pub mod Times
-pub mod Ascii
-pub mod OpaqueTexts
-pub mod DocumentTexts
+pub mod Digits
+pub mod NumberTexts
+pub mod PrintedDocuments
+pub mod FloatNumbers
+pub mod ReadDocuments
+pub mod JsonTexts

@@ -9,3 +9,4 @@ pub mod Appended
 pub mod Values
 pub mod PlainText
 pub mod Drafts
+pub mod AsJson

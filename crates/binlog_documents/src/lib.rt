@@ -7,6 +7,7 @@ mod container;
 mod decimal;
 mod documents;
 mod draft;
+mod laws;
 mod opaque;
 mod padded;
 mod plain;
@@ -16,5 +17,6 @@ mod scalar;
 mod time;
 mod writer;
 
+pub use laws::documents_are_json;
 pub use plain::is_plain;
 pub use writer::DocumentWriter;

@@ -8,3 +8,4 @@ pub mod Sign
 pub mod Join
 pub mod Ascii
 pub mod Json
+pub mod Found
