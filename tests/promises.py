@@ -1,8 +1,8 @@
 """Holds docs/GUARANTEES.md to the code: the calls that its rows name, their clauses, and the parts of these.
 
 A row of a table with the columns Call and Clause names calls, as `Feed::open`, or a type and then its calls. Under Clause stand names of
-`ensures`, of which at least one of the row's calls has to have each; behind a colon stand fields or words of specs/. A call whose one clause
-has no name, or is `after`, is told by these parts alone.
+`ensures`, of which at least one of the row's calls has to have each; behind one and a colon stand fields or words of specs/. A call whose
+one clause has no name, or is `after`, is told by these parts alone.
 """
 import re
 from collections import defaultdict
@@ -13,6 +13,8 @@ FUNCTION = re.compile(r"^( *)(?:pub(?:\([^)]*\))? )?(?:const )?fn (\w+)")
 OWNER = re.compile(r"^(?:pub(?:\([^)]*\))? )?(?:impl(?:<.*?>)? (?:[\w:]+(?:<.*?>)? for )?|trait |struct )(\w+)")
 CLAUSE = re.compile(r"^ *(?:ensures\*? (?:(\w+) )?\{|ghost (\w+)(?: =|:) )")
 QUOTED = re.compile(r"`([^`]+)`")
+# A clause that is told by its parts, which stand behind a colon.
+HEAD = re.compile(r" *`\w+`: ")
 PART = re.compile(r"^ *(?:(?:abbrev|record|data|unfoldable|opaque|pub) )*(\w+) :", re.M)
 DEFINED = re.compile(r"^ *(?:(?:abbrev|record|data|unfoldable|opaque|pub) )+([^\s:(){}]+)", re.M)
 # A row of a table of promises has so many columns, and these are the second and the third.
@@ -63,12 +65,15 @@ def known_of(calls: list[str], clauses: dict[str, set[str]]) -> set[str]:
     return known
 
 
-def is_known(text: str, known: set[str], parts: set[str]) -> bool:
-    """Whether what is quoted under Clause is a clause with its parts, or where a call is told by parts, such a part."""
-    name, colon, rest = text.partition(": ")
-    if colon:
-        return name in known and all(part.strip() in parts for part in rest.split(","))
-    return text in known or (text in parts and bool(known & BY_PARTS))
+def unknown_in(named: str, known: set[str], parts: set[str]) -> Iterator[str]:
+    """What is quoted under Clause and is no clause, no part of one, nor a part where a call is told by parts; calls pass."""
+    for group in named.split("; "):
+        head = HEAD.match(group)
+        quoted = [text for text in QUOTED.findall(group) if "::" not in text]
+        if head and quoted[0] in known:
+            yield from (part for text in quoted[1:] for part in text.split(", ") if part not in parts)
+        else:
+            yield from (text for text in quoted if text not in known and not (text in parts and known & BY_PARTS))
 
 
 def unknown_clauses(top: Path) -> Iterator[str]:
@@ -77,5 +82,4 @@ def unknown_clauses(top: Path) -> Iterator[str]:
     for number, calls, named in rows_of(top / "docs/GUARANTEES.md"):
         known = known_of(QUOTED.findall(calls), clauses)
         if known:
-            quoted = (text for text in QUOTED.findall(named) if "::" not in text)
-            yield from (f"docs/GUARANTEES.md:{number}: {text}" for text in quoted if not is_known(text, known, parts))
+            yield from (f"docs/GUARANTEES.md:{number}: {text}" for text in unknown_in(named, known, parts))

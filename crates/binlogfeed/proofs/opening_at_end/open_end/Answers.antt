@@ -35,7 +35,7 @@ returns-in-Ok-open_at_end g c =
     let given = c.in-Ok-open_at_end.ensures in
     record {
       fits = λ h. rw (kept.same_names, kept.same_contents, c.ending.invariant.token) at (given.fits h);
-      goes_on = λ h. rw (kept.same_names, kept.same_contents, c.ending.invariant.token, c.ending.invariant.filter) at (given.goes_on h);
+      goes_on = λ h. rw (kept.same_names, kept.same_contents, c.ending.invariant.token, c.ending.invariant.filter) at (given.joins h);
       sound = given.sound;
       source = takes_from_first g.L.Logs c.args.logs c.ending.logs c.in-Ok-open_at_end.feed kept given.source;
       refused = tt;
