@@ -3,5 +3,5 @@ use Rattle.std.specs.Prelude.{ℕ, List, take}
 use Rattle.binlog_documents.specs.declared.draft.Draft.{Draft}
 
 -- without the room behind what was written
-abbrev pub written : Draft → List ℕ
-written it = take it.len it.bytes.items
+abbrev pub said : Draft → List ℕ
+said it = take it.len it.bytes.items

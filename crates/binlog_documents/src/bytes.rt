@@ -2,8 +2,6 @@
 ghost use Rattle.std.specs.Prelude.{◌≡◌, ◌<◌, ◌≤◌, ◌+◌, ◌^◌, length, option_map, IfSome};
 ghost use Rattle.binlog_documents.specs.Scalars.{length_at, counted_at, utf8_text};
 
-use crate::plain::is_plain;
-
 /// A length of at most so many bytes, and how many it takes. MySQL's `read_variable_length` looks at five.
 #[tactic(auto, unfolding(crate::specs::Scalars::length_at))]
 fn length_at(bytes: &[u8], most: usize) -> Option<(usize, usize)>
@@ -43,9 +41,6 @@ pub(crate) fn counted_at(bytes: &[u8]) -> Option<(&[u8], usize)>
 pub(crate) fn utf8_text(bytes: &[u8]) -> Option<&str>
     ensures { option_map (λ s. s.now) result ≡ utf8_text bytes.now }
 {
-    if is_plain::<0x80>(bytes) {
-        return Some(unsafe { str::from_utf8_unchecked(bytes) });
-    }
     match str::from_utf8(bytes) {
         Ok(text) => Some(text),
         Err(_) => None,

@@ -1,15 +1,15 @@
 //! Values of all types as JSON, at the end of a text. An array or object is read and written element by element. Where one of them is
 //! none, what was written of the others is left to the caller to take back.
 ghost use Rattle.std.specs.Prelude.{◌≡◌, ◌<◌, ◌≤◌, ◌+◌, ◌*◌, ◌^◌, length, IfOk, IfSome, option_map, false};
-ghost use Rattle.binlog_documents.specs.Scalars.{scalar_at};
+ghost use Rattle.binlog_documents.specs.Scalars.{scalar_at, text_at};
 ghost use Rattle.binlog_documents.specs.Containers.{value_in, key_in, elements_of, members_of, array_at, object_at, value_at, element_entry, member_entries};
 ghost use Rattle.binlog_documents.specs.Texts.{elements_text, members_text};
 ghost use Rattle.binlog_documents.specs.Widths.{bytes_of, container_view};
 ghost use Rattle.binlog_documents.specs.Appended.{IsAppended, IsKeyAppended, IsRead};
-ghost use Rattle.binlog_documents.specs.Drafts.{written};
+ghost use Rattle.binlog_documents.specs.Drafts.{said};
 
-use crate::append::{append_comma, append_quoted, append_scalar};
-use crate::bytes::utf8_text;
+use crate::append::{append_comma, append_key, append_scalar, append_text};
+use crate::bytes::counted_at;
 use crate::container::{
     Container, Width, container_at, is_inlined, key_entry, keys_end, value_place,
 };
@@ -17,15 +17,36 @@ use crate::draft::Draft;
 use crate::read::scalar_at;
 use std::alloc::AllocError;
 
+/// The type of a string.
+const TEXT: u8 = 12;
+
+/// The string at the front of the bytes, and where it ends.
+#[tactic(auto, unfolding(crate::specs::Scalars::text_at))]
+fn append_text_at(out: &mut Draft, bytes: &[u8]) -> Result<Option<usize>, AllocError>
+    ensures text { IfOk result (IsAppended (said out.old) (said out.new) (text_at bytes.now)) }
+    ensures within { IfOk result (λ end. IfSome end (λ len. len ≤ length bytes.now)) }
+{
+    let Some((text, len)) = counted_at(bytes) else {
+        return Ok(None);
+    };
+    if !append_text(out, text)? {
+        return Ok(None);
+    }
+    Ok(Some(len))
+}
+
 /// The value at the front of the bytes, where it has no parts, and where it ends.
 pub(crate) fn append_scalar_at(
     out: &mut Draft,
     kind: u8,
     bytes: &[u8],
 ) -> Result<Option<usize>, AllocError>
-    ensures text { IfOk result (IsAppended (written out.old) (written out.new) (scalar_at kind bytes.now)) }
+    ensures text { IfOk result (IsAppended (said out.old) (said out.new) (scalar_at kind bytes.now)) }
     ensures within { IfOk result (λ end. IfSome end (λ len. len ≤ length bytes.now)) }
 {
+    if kind == TEXT {
+        return append_text_at(out, bytes);
+    }
     let Some((scalar, len)) = scalar_at(kind, bytes) else {
         return Ok(None);
     };
@@ -43,17 +64,15 @@ fn append_key_in(
     from: usize,
 ) -> Result<Option<usize>, AllocError>
     requires { entry + (bytes_of width + 2) ≤ length bytes.now }
-    ensures { IfOk result (IsKeyAppended (written out.old) (written out.new) (key_in (bytes_of width) bytes.now entry from)) }
+    ensures { IfOk result (IsKeyAppended (said out.old) (said out.new) (key_in (bytes_of width) bytes.now entry from)) }
 {
     let (place, len) = key_entry(bytes, width, entry);
     if place < from || place + len > bytes.len() {
         return Ok(None);
     }
-    let Some(key) = utf8_text(&bytes[place..place + len]) else {
+    if !append_key(out, &bytes[place..place + len])? {
         return Ok(None);
-    };
-    append_quoted(out, key)?;
-    out.push(b":")?;
+    }
     Ok(Some(place + len))
 }
 
@@ -66,7 +85,7 @@ pub(crate) fn append_value(
     bytes: &[u8],
     depth: usize,
 ) -> Result<Option<usize>, AllocError>
-    ensures text { IfOk result (IsAppended (written out.old) (written out.new) (value_at depth kind bytes.now)) }
+    ensures text { IfOk result (IsAppended (said out.old) (said out.new) (value_at depth kind bytes.now)) }
     ensures within { IfOk result (λ end. IfSome end (λ len. len ≤ length bytes.now)) }
 {
     if depth == 0 {
@@ -90,7 +109,7 @@ fn append_array(
     width: Width,
     depth: usize,
 ) -> Result<Option<usize>, AllocError>
-    ensures text { IfOk result (IsAppended (written out.old) (written out.new) (array_at (value_at depth) (bytes_of width) bytes.now)) }
+    ensures text { IfOk result (IsAppended (said out.old) (said out.new) (array_at (value_at depth) (bytes_of width) bytes.now)) }
     ensures within { IfOk result (λ end. IfSome end (λ len. len ≤ length bytes.now)) }
 {
     let Some(array) = container_at(bytes, width, width.bytes() + 1) else {
@@ -114,7 +133,7 @@ fn append_elements(
 ) -> Result<bool, AllocError>
     requires room { 2 * bytes_of width + array.count * element_entry (bytes_of width) ≤ length array.bytes.now }
     requires few { array.count < 2 ^ 32 }
-    ensures text { IfOk result (IsRead (written out.old) (written out.new)
+    ensures text { IfOk result (IsRead (said out.old) (said out.new)
         (option_map (elements_text false) (elements_of (value_at depth) (bytes_of width) (container_view array.entry)))) }
 {
     let step = width.bytes() + 1;
@@ -140,7 +159,7 @@ fn append_object(
     width: Width,
     depth: usize,
 ) -> Result<Option<usize>, AllocError>
-    ensures text { IfOk result (IsAppended (written out.old) (written out.new) (object_at (value_at depth) (bytes_of width) bytes.now)) }
+    ensures text { IfOk result (IsAppended (said out.old) (said out.new) (object_at (value_at depth) (bytes_of width) bytes.now)) }
     ensures within { IfOk result (λ end. IfSome end (λ len. len ≤ length bytes.now)) }
 {
     let entries = (width.bytes() + 2) + (width.bytes() + 1);
@@ -165,7 +184,7 @@ fn append_members(
 ) -> Result<bool, AllocError>
     requires room { 2 * bytes_of width + object.count * member_entries (bytes_of width) ≤ length object.bytes.now }
     requires few { object.count < 2 ^ 32 }
-    ensures text { IfOk result (IsRead (written out.old) (written out.new)
+    ensures text { IfOk result (IsRead (said out.old) (said out.new)
         (option_map (members_text false) (members_of (value_at depth) (bytes_of width) (container_view object.entry)))) }
 {
     let key_step = width.bytes() + 2;
@@ -202,7 +221,7 @@ fn append_value_in(
     depth: usize,
 ) -> Result<Option<usize>, AllocError>
     requires { entry + element_entry (bytes_of width) ≤ length bytes.now }
-    ensures text { IfOk result (IsAppended (written out.old) (written out.new) (value_in (value_at depth) (bytes_of width) bytes.now entry from)) }
+    ensures text { IfOk result (IsAppended (said out.old) (said out.new) (value_in (value_at depth) (bytes_of width) bytes.now entry from)) }
 {
     let kind = bytes[entry];
     if is_inlined(width, kind) {

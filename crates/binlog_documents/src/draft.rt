@@ -1,5 +1,5 @@
 //! Text that grows at its end by pieces that are mostly short.
-ghost use Rattle.std.specs.Prelude.{◌+◌, ◌≤◌, length};
+ghost use Rattle.std.specs.Prelude.{◌+◌, ◌≤◌, ◌++◌, ◌∷◌, [], length};
 ghost use Rattle.json.specs.Filled.{Placed};
 
 use std::alloc::{AllocError, Global};
@@ -17,12 +17,12 @@ pub(crate) struct Draft {
 }
 
 impl Draft {
-    ghost use Rattle.std.specs.Prelude.{◌≡◌, ◌+◌, ◌≤◌, ◌++◌, [], length, OnOk};
-    ghost use Rattle.binlog_documents.specs.Drafts.{written};
+    ghost use Rattle.std.specs.Prelude.{◌≡◌, ◌+◌, ◌≤◌, ◌++◌, ◌∷◌, [], length, OnOk};
+    ghost use Rattle.binlog_documents.specs.Drafts.{said};
 
     /// An empty text. It takes no memory.
     pub(crate) fn new(alloc: Global) -> Draft
-        ensures bytes { written result ≡ [] }
+        ensures bytes { said result ≡ [] }
     {
         Draft {
             bytes: Vec::new(alloc),
@@ -32,13 +32,13 @@ impl Draft {
     }
 
     pub(crate) fn clear(&mut self)
-        ensures bytes { written self.new ≡ [] }
+        ensures bytes { said self.new ≡ [] }
     {
         self.len = 0;
     }
 
     pub(crate) fn as_bytes(&self) -> &[u8]
-        ensures value { result.now ≡ written self.now }
+        ensures value { result.now ≡ said self.now }
     {
         &self.bytes[..self.len]
     }
@@ -46,7 +46,7 @@ impl Draft {
     /// Sees to room for so many bytes.
     #[inline(always)]
     fn make_room(&mut self, more: usize) -> Result<(), AllocError>
-        ensures bytes { written self.new ≡ written self.old }
+        ensures bytes { said self.new ≡ said self.old }
         ensures len { self.new.len ≡ self.old.len }
         ensures room { OnOk result (self.new.len + more ≤ length self.new.bytes.items) }
     {
@@ -58,7 +58,7 @@ impl Draft {
 
     #[cold]
     fn grow(&mut self, more: usize) -> Result<(), AllocError>
-        ensures bytes { written self.new ≡ written self.old }
+        ensures bytes { said self.new ≡ said self.old }
         ensures len { self.new.len ≡ self.old.len }
         ensures room { OnOk result (self.new.len + more ≤ length self.new.bytes.items) }
     {
@@ -72,16 +72,36 @@ impl Draft {
     /// Appends a text. Where its length is known, it takes no call.
     #[inline(always)]
     pub(crate) fn push(&mut self, text: &[u8]) -> Result<(), AllocError>
-        ensures { OnOk result (written self.new ≡ written self.old ++ text.now) }
+        ensures { OnOk result (said self.new ≡ said self.old ++ text.now) }
     {
         self.make_room(text.len())?;
         self.len = put(self.bytes.as_mut_slice(), self.len, text);
         Ok(())
     }
 
+    /// Appends a text between quotation marks.
+    #[inline(always)]
+    pub(crate) fn push_string(&mut self, text: &[u8]) -> Result<(), AllocError>
+        ensures { OnOk result (said self.new ≡ said self.old ++ 34 ∷ (text.now ++ 34 ∷ [])) }
+    {
+        self.make_room(text.len() + 2)?;
+        self.len = put_string(self.bytes.as_mut_slice(), self.len, text);
+        Ok(())
+    }
+
+    /// Appends a text between quotation marks, and a colon.
+    #[inline(always)]
+    pub(crate) fn push_key(&mut self, text: &[u8]) -> Result<(), AllocError>
+        ensures { OnOk result (said self.new ≡ said self.old ++ 34 ∷ (text.now ++ 34 ∷ 58 ∷ [])) }
+    {
+        self.make_room(text.len() + 3)?;
+        self.len = put_key(self.bytes.as_mut_slice(), self.len, text);
+        Ok(())
+    }
+
     /// Appends the piece.
     pub(crate) fn push_piece(&mut self) -> Result<(), AllocError>
-        ensures { OnOk result (written self.new ≡ written self.old ++ self.old.piece.items) }
+        ensures { OnOk result (said self.new ≡ said self.old ++ self.old.piece.items) }
     {
         let empty = Vec::new(*self.piece.allocator());
         let piece = mem::replace(&mut self.piece, empty);
@@ -100,4 +120,26 @@ fn put(bytes: &mut [u8], at: usize, text: &[u8]) -> usize
     let end = at + text.len();
     bytes[at..end].copy_from_slice(text);
     end
+}
+
+/// Puts a text between quotation marks to a place. Where it ends.
+#[inline(always)]
+fn put_string(bytes: &mut [u8], at: usize, text: &[u8]) -> usize
+    requires { at + length text.now + 2 ≤ length bytes.old }
+    ensures { Placed bytes.old bytes.new at (34 ∷ (text.now ++ 34 ∷ [])) result }
+{
+    let begin = put(bytes, at, b"\"");
+    let end = put(bytes, begin, text);
+    put(bytes, end, b"\"")
+}
+
+/// Puts a text between quotation marks, and a colon, to a place. Where they end.
+#[inline(always)]
+fn put_key(bytes: &mut [u8], at: usize, text: &[u8]) -> usize
+    requires { at + length text.now + 3 ≤ length bytes.old }
+    ensures { Placed bytes.old bytes.new at (34 ∷ (text.now ++ 34 ∷ 58 ∷ [])) result }
+{
+    let begin = put(bytes, at, b"\"");
+    let end = put(bytes, begin, text);
+    put(bytes, end, b"\":")
 }

@@ -2,7 +2,7 @@
 ghost use Rattle.std.specs.Prelude.{◌≡◌, IfOk, OnErr, option_map};
 ghost use Rattle.std.specs.Str.{IsUtf8};
 ghost use Rattle.binlog_documents.specs.Appended.{IsRead, AppendsText};
-ghost use Rattle.binlog_documents.specs.Drafts.{written};
+ghost use Rattle.binlog_documents.specs.Drafts.{said};
 ghost use Rattle.binlog_documents.specs.Values.{value_text};
 
 use crate::documents::append_value;
@@ -55,7 +55,7 @@ impl DocumentWriter {
 /// Appends the document, where the value is one; else the parts of it that could be read may have been appended.
 #[tactic(auto, unfolding(crate::specs::Containers::document_at))]
 fn append_document(out: &mut Draft, value: &[u8]) -> Result<bool, AllocError>
-    ensures { IfOk result (IsRead (written out.old) (written out.new) (value_text value.now)) }
+    ensures { IfOk result (IsRead (said out.old) (said out.new) (value_text value.now)) }
 {
     let [kind, bytes @ ..] = value else {
         out.push(b"null")?;
