@@ -8,3 +8,5 @@ pub mod Sign
 pub mod Join
 pub mod Ascii
 pub mod Json
+pub mod Leading
+pub mod Alone
