@@ -1,7 +1,7 @@
 use Rattle.std.proofs.Common.{◌≡◌, ◌+◌, ◌-◌, ◌*◌, ◌/◌, ◌<◌, true}
 use Rattle.float_text.specs.Shortest.{reads_as}
 use Rattle.float_text.specs.Search.{IsBestUp}
-use Rattle.float_text.proofs.search.shortest_from.Given as goal
+use Rattle.float_text.proofs.search.closest_of_coarsest.Given as goal
 
 abbrev pub invariant-loop-best : goal.invariant-loop-best
 invariant-loop-best g l = (0 < l.best) × (l.best < (l.start / 10 + 1) * 10) × (reads_as g.F.RawFloat.format l.bits l.best l.greatest ≡ true)

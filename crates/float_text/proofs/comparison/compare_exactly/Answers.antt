@@ -1,7 +1,7 @@
 use Rattle.std.proofs.Common.{◌∙◌, arith}
 use Rattle.fast_float.proofs.Patterns.{shape}
 use Rattle.float_text.proofs.Tests.{compare_is, room, room_of_tens, few_doublings}
-use Rattle.float_text.proofs.search.compare_twice.Goals as goal
+use Rattle.float_text.proofs.comparison.compare_exactly.Goals as goal
 
 pub times_power-requires-clause-room : goal.times_power-requires-clause-room
 times_power-requires-clause-room g c = rw (c.new-float.ensures, c.saturating_sub.ensures) (room_of_tens _ _ (omega (arith, c.decode-significand.ensures.sizes)) (omega (arith, c.requires.power)))
