@@ -1,6 +1,5 @@
 pub mod Json
 pub mod Texts
-pub mod Unescaped
 pub mod Values
 pub mod Images
 pub mod Line
@@ -12,6 +11,7 @@ pub mod Labels
 pub mod KeptLabels
 pub mod Written
 pub mod PlainText
+pub mod Unescaped
 pub mod Keys
 pub mod Histories
 pub mod Index
