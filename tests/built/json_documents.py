@@ -151,12 +151,13 @@ def edge_values() -> list[Value]:
         double(value) for value in (0.0, -0.0, 1.5, -1e300, 2**53 + 2.0, 123456789012345.6, 9.999e-5, 1e22, 0.1 + 0.2)
     ]
     others: list[Value] = [
-        decimal(False, "9" * 35, "9" * 30), decimal(True, "0", "5"), decimal(True, "00000000001", ""), decimal(False, "", "05"),
+        decimal(False, "9" * 35, "9" * 30), decimal(True, "9" * 81, ""), decimal(False, "", "1" * 81), decimal(True, "8" * 36, "7" * 40),
+        decimal(True, "0", "5"), decimal(True, "00000000001", ""), decimal(False, "", "05"),
         decimal(False, "123456789" * 7, ""), decimal(True, "000000000", "000000001"),
         moment(DATE, (9999, 12, 31)), moment(DATE, (0, 0, 0)), moment(DATETIME, (2024, 2, 29), (23, 59, 59, 999_999)),
         moment(TIMESTAMP, (1970, 1, 1), (0, 0, 1, 0)), moment(DATETIME, (0, 0, 0), (0, 0, 0, 5)),
         span(False, 838, 59, 58, 7), span(True, 838, 59, 58, 7), span(True, 0, 0, 0, 1), span(False, 0, 0, 0, 0),
-        opaque(253, b"\xff\x00"), opaque(255, b""), opaque(16, bytes(range(256))), opaque(NEWDECIMAL, bytes([66, 0]) + b"\x80" * 30),
+        opaque(253, b"\xff\x00"), opaque(255, b""), opaque(16, bytes(range(256))), opaque(NEWDECIMAL, bytes([82, 0]) + b"\x80" * 37),
         opaque(DATE, bytes(7)), opaque(TIME, b""), opaque(DATETIME, b"\xff" * 8),
     ]  # fmt: skip
     wide: list[Value] = [
@@ -183,8 +184,8 @@ def chance_scalar(chance: random.Random) -> Value:
     raw = int.from_bytes(chance.randbytes(size), "little", signed=kind % 2 == 1)
     day = (chance.randrange(10_000), chance.randrange(13), chance.randrange(32))
     time = (chance.randrange(24), chance.randrange(60), chance.randrange(60), chance.randrange(1_000_000))
-    digits = "".join(chance.choices("0123456789", k=chance.randrange(1, 66)))
-    scale = chance.randrange(min(30, len(digits)) + 1)
+    digits = "".join(chance.choices("0123456789", k=chance.randrange(1, 82)))
+    scale = chance.randrange(len(digits) + 1)
     text = "".join(chance.choices("abc \"\\/\n\x01\x7fé中😀", k=chance.choice((0, 1, 5, 40, 130, 300))))
     makers: tuple[Callable[[], Value], ...] = (
         lambda: None, lambda: chance.random() < 0.5, lambda: integer(kind, raw), lambda: text, lambda: double(chance_double(chance)),

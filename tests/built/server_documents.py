@@ -15,7 +15,7 @@ from pathlib import Path
 from typing import NamedTuple
 
 from built.check import Check, Wanted, differs, run, text_differs
-from built.json_binary import DIGIT_BYTES, NEWDECIMAL, Number
+from built.json_binary import Number
 from built.server_logs import TOP, logs_of
 
 DOCUMENTS = TOP / "tests/documents"
@@ -26,8 +26,6 @@ REASONS, SHOWN = 8, 300
 
 # The server's word for bytes: their column type, and base64 in lines of 76 characters.
 CODED = re.compile(r"base64:type(\d+):([A-Za-z0-9+/=\n]*)")
-# The most digits that the bytes of a DECIMAL tell of in a line's number, and the most of them behind the point.
-PRECISION, SCALE = 65, 30
 # The column type of texts that functions of JSON take as bytes. The server shows these as a string of the same bytes.
 VAR_STRING = 253
 
@@ -78,41 +76,6 @@ def number(text: str, kind: str | None) -> Number:
     """What a line has for a number that is shown so: all digits of an integer and of a DECIMAL, the shortest ones of a double."""
     exact = kind == "DECIMAL" or re.fullmatch("-?[0-9]+", text)
     return Number(text if exact else repr(float(text)))
-
-
-def digits(raw: bytes, counts: list[int]) -> str:
-    """The digits of groups of so many."""
-    found = ""
-    for count in counts:
-        group, raw = raw[: DIGIT_BYTES[count]], raw[DIGIT_BYTES[count] :]
-        found += f"{int.from_bytes(group, 'big'):0{count}}" if count else ""
-    return found
-
-
-def long_decimal(coded_text: str) -> Json:
-    """The number that the bytes of a DECIMAL are, where they tell of more digits than a column has: a server rounds them up."""
-    precision, scale, *raw = base64.b64decode(coded_text, validate=True)
-    if precision <= PRECISION and scale <= SCALE:
-        return None
-    negative = raw[0] < 128
-    stored = bytes(byte ^ (255 if negative else 0) for byte in raw)
-    stored = bytes([stored[0] ^ 128]) + stored[1:]
-    whole = precision - scale
-    front = digits(stored, [whole % 9] + [9] * (whole // 9))
-    fraction = digits(stored[DIGIT_BYTES[whole % 9] + whole // 9 * 4 :], [9] * (scale // 9) + [scale % 9])
-    sign = "-" if negative and (front + fraction).strip("0") else ""
-    return Number(f"{sign}{front.lstrip('0') or '0'}{'.' if fraction else ''}{fraction}")
-
-
-def with_decimals(value: Json) -> Json:
-    """What a line has, with numbers in place of the bytes of such DECIMALs."""
-    if isinstance(value, list):
-        return [with_decimals(part) for part in value]
-    if not isinstance(value, Members):
-        return value
-    if [name for name, _ in value.pairs] == ["base64", "type"] and value.pairs[1][1] == Number(str(NEWDECIMAL)):
-        return long_decimal(str(value.pairs[0][1])) or value
-    return Members(tuple((name, with_decimals(part)) for name, part in value.pairs))
 
 
 def string(text: str, kind: str | None) -> Json:
@@ -183,8 +146,7 @@ def judged(told: list[Told], full: list[Line], plain: list[Line]) -> list[str]:
         after = document(true, other.after), other.after
         stand[true.table, true.id] = after
         reasons += [f"{place}: {reason}" for reason in raw_reasons(true, other.after)]
-        shown = line._replace(before=with_decimals(line.before), after=with_decimals(line.after))
-        for what, came, right in (("full", shown, 0), ("plain", other, 1)):
+        for what, came, right in (("full", line, 0), ("plain", other, 1)):
             right_line = Line(true.table, Number(str(true.id)), before[right], after[right])
             reasons += text_differs(f"{place}, the {what} line", repr(came).encode(), repr(right_line).encode())
     return reasons[:REASONS]
@@ -234,9 +196,10 @@ SHOWN_DOCUMENTS = (
     ("0.1", {}, "0.10000000000000002", False), ("0.00001", {}, "1e-05", True), ("0.00001", {"$": "DECIMAL"}, "0.00001", True),
     ("0.00001", {"$": "DECIMAL"}, "1e-05", False), ("[1.50]", {"$[0]": "DECIMAL"}, "[1.50]", True),
     ("[1.50]", {"$[0]": "DECIMAL"}, "[1.5]", False), ("[1]", {"$[0]": "DECIMAL"}, '[{"base64":"AwCAAQ==","type":246}]', False),
-    ("[-1]", {"$[0]": "DECIMAL"}, '[{"base64":"SAB//////////////////////////////////////////g==","type":246}]', True),
-    ("0.1234567890123456789012345678901", {"$": "DECIMAL"}, '{"base64":"IB+AB1vNFQC8YU41t7+HIsU=","type":246}', True),
-    ("0.1234567890123456789012345678902", {"$": "DECIMAL"}, '{"base64":"IB+AB1vNFQC8YU41t7+HIsU=","type":246}', False),
+    ("[-1]", {"$[0]": "DECIMAL"}, '[{"base64":"SAB//////////////////////////////////////////g==","type":246}]', False),
+    ("0.1234567890123456789012345678901", {"$": "DECIMAL"}, '{"base64":"IB+AB1vNFQC8YU41t7+HIsU=","type":246}', False),
+    ("0.1234567890123456789012345678901", {"$": "DECIMAL"}, "0.1234567890123456789012345678901", True),
+    ("0.1234567890123456789012345678901", {"$": "DECIMAL"}, "0.1234567890123456789012345678902", False),
     ('{"a": 1, "b": 2}', {}, '{"a":1,"b":2}', True), ('{"a": 1, "b": 2}', {}, '{"b":2,"a":1}', False),
     ('{"a": 1}', {}, '{"a":1,"a":1}', False), ("[]", {}, "{}", False), ("null", {}, "null", True), ("true", {}, "1", False),
     ('"é\\n"', {}, '"é\\n"', True), ('"é"', {}, '"e"', False), ('["\udce9"]', {}, '{"raw":"BQEA"}', True),

@@ -1,3 +1,5 @@
+pub mod PlainText
+pub mod PlainStrings
 pub mod Quoting
 pub mod Texts
 pub mod Lengths

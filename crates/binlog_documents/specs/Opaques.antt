@@ -99,9 +99,9 @@ abbrev pub scaled_text : Bool → ℕ → List ℕ → List ℕ
 scaled_text negative front digits =
     (if negative && not (list_all (λ d. d == 48) digits) then 45 ∷ [] else []) ++ (without_zeros (take front digits) ++ point_text (drop front digits))
 
--- at most 65 digits, at most 30 of them behind the point
+-- At most 81 digits, and any of them behind the point. A column has at most 65 and 30, but SQL computes with more (DECIMAL_BUFF_LENGTH).
 abbrev pub has_precision : ℕ → ℕ → Bool
-has_precision precision scale = nat_le 1 precision && (nat_le precision 65 && (nat_le scale 30 && nat_le scale precision))
+has_precision precision scale = nat_le 1 precision && (nat_le precision 81 && nat_le scale precision)
 
 unfoldable pub decimal_opaque : List ℕ → Option (List ℕ)
 decimal_opaque [] = None

@@ -186,7 +186,7 @@ fn push_scaled(
 fn has_precision(precision: u8, scale: u8) -> bool
     ensures { result ≡ has_precision precision scale }
 {
-    1 <= precision && precision <= 65 && scale <= 30 && scale <= precision
+    1 <= precision && precision <= 81 && scale <= precision
 }
 
 /// A decimal, where the bytes are one. False, and nothing is appended, where they are none.

@@ -1,6 +1,7 @@
 -- Texts by the encoding of their character set, as UTF-8.
 -- MySQL's source: strings/ctype-latin1.cc, strings/ctype-ucs2.cc and strings/ctype-utf8.cc.
-use Rattle.std.specs.Prelude.{ℕ, ◌+◌, ◌*◌, List, [], ◌∷◌, ◌++◌, Option, Some, None, option_map, option_and_then, ◌==◌, if◌then◌else◌}
+use Rattle.std.specs.Prelude.{ℕ, ◌+◌, ◌*◌, List, [], ◌∷◌, ◌++◌, map, Option, Some, None, option_map, option_and_then, ◌==◌, if◌then◌else◌}
+use Rattle.std.specs.Borrow.{Bor}
 use Rattle.std.specs.List.{flat_map}
 use Rattle.std.specs.Char.{encode_utf8}
 use Rattle.std.specs.Char.Utf16.{utf16_lossy_chars, has_unpaired_surrogate}
@@ -88,3 +89,11 @@ abbrev pub joined_by : List ℕ → List (List ℕ) → List ℕ
 joined_by between [] = []
 joined_by between (first ∷ []) = first
 joined_by between (first ∷ second ∷ more) = first ++ (between ++ joined_by between (second ∷ more))
+
+-- the texts of all, parted by commas, where each is one
+abbrev pub joined_text : Encoding → List (List ℕ) → Option (List ℕ)
+joined_text encoding texts = option_map (joined_by (44 ∷ [])) (all_decoded encoding texts)
+
+-- what lent texts say
+abbrev pub texts_of : List (Bor (List ℕ)) → List (List ℕ)
+texts_of lent = map (λ text. text.now) lent

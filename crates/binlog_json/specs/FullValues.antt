@@ -1,5 +1,5 @@
 -- What a column's value is in a full line: by the type that the server declared, with the sign and the character set.
-use Rattle.std.specs.Prelude.{ℕ, ◌-◌, ◌/◌, ℤ, pos, negsuc, Bool, List, [], ◌∷◌, ◌++◌, length, replicate, slice_index_or, ◌||◌, Option, Some, None, option_map, nat_le, ◌==◌, codes, if◌then◌else◌}
+use Rattle.std.specs.Prelude.{ℕ, ◌-◌, ◌/◌, ℤ, pos, negsuc, Bool, List, [], ◌∷◌, ◌++◌, length, replicate, slice_index_or, ◌||◌, Option, Some, None, nat_le, ◌==◌, codes, if◌then◌else◌}
 use Rattle.base64.specs.Engines.{standard}
 use Rattle.base64.specs.GeneralPurpose.{encode_of}
 use Rattle.binlog_json.specs.Json.{Data, number, written, string, object, member, no_members}
@@ -18,7 +18,7 @@ use Rattle.binlog_types.specs.declared.charsets.Encoding.TheVariants.{Binary}
 use Rattle.float_text.specs.Stored.{stored_text}
 use Rattle.binlog_documents.specs.Values.{value_text}
 use Rattle.binlog_json.specs.Images.{cell_in}
-use Rattle.binlog_json.specs.Encodings.{decoded, all_decoded, comma_in, joined_by}
+use Rattle.binlog_json.specs.Encodings.{decoded, comma_in, joined_by, joined_text}
 use Rattle.binlog_json.specs.Values.{encoded_data, whole_number, enum_by, set_by, content_data}
 
 abbrev pub unknown_type : ColumnType
@@ -63,6 +63,13 @@ abbrev pub text_or_bytes : Charset → List ℕ → Option (List ℕ) → Data
 text_or_bytes charset bytes None = in_charset charset bytes
 text_or_bytes charset bytes (Some text) = string text
 
+-- the text that they are in the encoding, or else the bytes
+abbrev pub data_in : Encoding → Charset → List ℕ → Data
+data_in encoding charset bytes = text_or_bytes charset bytes (decoded encoding bytes)
+
+abbrev pub in_base64 : List ℕ → Data
+in_base64 bytes = encoded_data (codes "base64") bytes
+
 abbrev pub is_binary : Encoding → Bool
 is_binary Binary = Bool.true
 is_binary _ = Bool.false
@@ -73,20 +80,23 @@ whole_bytes t bytes = if t.code == 254 then bytes ++ replicate (t.size - length 
 
 -- a text of no known character set is its bytes
 abbrev pub text_in : Option Charset → ColumnType → List ℕ → Data
-text_in None t bytes = encoded_data (codes "base64") bytes
+text_in None t bytes = in_base64 bytes
 text_in (Some charset) t bytes =
-    if is_binary (encoding_of charset) then encoded_data (codes "base64") (whole_bytes t bytes)
-    else text_or_bytes charset bytes (decoded (encoding_of charset) bytes)
+    if is_binary (encoding_of charset) then in_base64 (whole_bytes t bytes)
+    else data_in (encoding_of charset) charset bytes
 
 abbrev pub text_data : ColumnType → List ℕ → Data
 text_data t bytes = text_in t.charset t bytes
 
 -- the members of a SET: each is read by the character set
+abbrev pub members_as : Charset → List (List ℕ) → Data
+members_as charset members =
+    text_or_bytes charset (joined_by (comma_in (encoding_of charset)) members) (joined_text (encoding_of charset) members)
+
 abbrev pub members_text : Option Charset → List (List ℕ) → Data
-members_text None members = encoded_data (codes "base64") (joined_by (44 ∷ []) members)
+members_text None members = in_base64 (joined_by (44 ∷ []) members)
 members_text (Some charset) members =
-    if is_binary (encoding_of charset) then encoded_data (codes "base64") (joined_by (44 ∷ []) members)
-    else text_or_bytes charset (joined_by (comma_in (encoding_of charset)) members) (option_map (joined_by (44 ∷ [])) (all_decoded (encoding_of charset) members))
+    if is_binary (encoding_of charset) then in_base64 (joined_by (44 ∷ []) members) else members_as charset members
 
 -- ---- FLOAT, DOUBLE and JSON
 

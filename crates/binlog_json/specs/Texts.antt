@@ -37,9 +37,17 @@ is_below_zero d = d.negative && not (list_all (λ digit. digit == 0) d.digits)
 abbrev pub decimal_text : Decimal → List ℕ
 decimal_text d = sign_text (is_below_zero d) ++ (whole_text (take (front_len d) d.digits) ++ point_text (drop (front_len d) d.digits))
 
+-- digits, of which so many stand behind the point
+abbrev pub with_point : List ℕ → ℕ → List ℕ
+with_point digits scale = whole_text (take (length digits - scale) digits) ++ point_text (drop (length digits - scale) digits)
+
+-- the digits of a fraction of a second that a column's precision shows
+abbrev pub fraction_digits : ℕ → ℕ → List ℕ
+fraction_digits precision fraction = take precision (digits_of (2 * fraction_len precision) fraction)
+
 -- A fraction of a second: as many digits as the column's precision, of the 2, 4 or 6 that are stored.
 abbrev pub fraction_text : ℕ → ℕ → List ℕ
-fraction_text precision fraction = point_text (take precision (digits_of (2 * fraction_len precision) fraction))
+fraction_text precision fraction = point_text (fraction_digits precision fraction)
 
 -- yyyy-mm-dd
 abbrev pub day_text : ℕ → ℕ → ℕ → List ℕ

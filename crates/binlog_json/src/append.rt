@@ -1,13 +1,13 @@
 //! Integers and strings of JSON, at the end of a text.
-ghost use Rattle.std.specs.Prelude.{◌≡◌, ◌++◌, OnOk, decimal};
+ghost use Rattle.std.specs.Prelude.{◌≡◌, OnOk, decimal};
 ghost use Rattle.std.specs.Fmt.{signed_decimal};
-ghost use Rattle.json.specs.Print.{escape, quoted};
+ghost use Rattle.json.specs.Print.{escape};
 ghost use Rattle.binlog_json.specs.Joining.{comma_if};
-ghost use Rattle.binlog_json.specs.PlainText.{IsPlain};
-ghost use Rattle.binlog_json.specs.LineBytes.{line_bytes};
+ghost use Rattle.binlog_documents.specs.PlainText.{IsPlain};
+ghost use Rattle.binlog_json.specs.Growth.{Gains, Quotes};
 
 use crate::lines::Line;
-use crate::plain::is_plain;
+use binlog_documents::is_plain;
 use json::Writer;
 use std::alloc::{AllocError, Global};
 use std::mem;
@@ -15,7 +15,7 @@ use std::mem;
 /// The number in decimal digits, with its sign where it is below zero.
 #[inline(always)]
 pub(crate) fn append_integer(out: &mut Line, number: i64) -> Result<(), AllocError>
-    ensures { OnOk result (line_bytes out.new ≡ line_bytes out.old ++ signed_decimal number) }
+    ensures { OnOk result (Gains out.old out.new (signed_decimal number)) }
 {
     if number >= 0 {
         return append_number(out, number.unsigned_abs());
@@ -27,14 +27,14 @@ pub(crate) fn append_integer(out: &mut Line, number: i64) -> Result<(), AllocErr
 /// The number in decimal digits.
 #[inline(always)]
 pub(crate) fn append_number(out: &mut Line, number: u64) -> Result<(), AllocError>
-    ensures { OnOk result (line_bytes out.new ≡ line_bytes out.old ++ decimal number) }
+    ensures { OnOk result (Gains out.old out.new (decimal number)) }
 {
     out.push_number(number)
 }
 
 /// A comma, where something stands before it.
 pub(crate) fn append_comma(out: &mut Line, later: bool) -> Result<(), AllocError>
-    ensures { OnOk result (line_bytes out.new ≡ line_bytes out.old ++ comma_if later) }
+    ensures { OnOk result (Gains out.old out.new (comma_if later)) }
 {
     if later {
         out.push(b',')?;
@@ -46,7 +46,7 @@ pub(crate) fn append_comma(out: &mut Line, later: bool) -> Result<(), AllocError
 #[inline(always)]
 pub(crate) fn append_as_is(out: &mut Line, text: &str) -> Result<(), AllocError>
     requires { escape text.now ≡ text.now }
-    ensures { OnOk result (line_bytes out.new ≡ line_bytes out.old ++ quoted text.now) }
+    ensures { OnOk result (Quotes out.old out.new text.now) }
 {
     out.push(b'"')?;
     out.push_str(text)?;
@@ -57,7 +57,7 @@ pub(crate) fn append_as_is(out: &mut Line, text: &str) -> Result<(), AllocError>
 #[inline(always)]
 pub(crate) fn append_plain(out: &mut Line, text: &[u8]) -> Result<(), AllocError>
     requires { IsPlain text.now }
-    ensures { OnOk result (line_bytes out.new ≡ line_bytes out.old ++ quoted text.now) }
+    ensures { OnOk result (Quotes out.old out.new text.now) }
 {
     append_as_is(out, unsafe { str::from_utf8_unchecked(text) })
 }
@@ -79,7 +79,7 @@ impl Quoter {
 
     /// The text as a string, in quotes and escaped.
     pub(crate) fn append(&mut self, out: &mut Line, text: &str) -> Result<(), AllocError>
-        ensures { OnOk result (line_bytes out.new ≡ line_bytes out.old ++ quoted text.now) }
+        ensures { OnOk result (Quotes out.old out.new text.now) }
     {
         if !is_plain::<0xff>(text.as_bytes()) {
             return self.append_escaped(out, text);
@@ -89,7 +89,7 @@ impl Quoter {
 
     /// The text as a string, in quotes, each byte judged for itself.
     fn append_escaped(&mut self, out: &mut Line, text: &str) -> Result<(), AllocError>
-        ensures { OnOk result (line_bytes out.new ≡ line_bytes out.old ++ quoted text.now) }
+        ensures { OnOk result (Quotes out.old out.new text.now) }
     {
         self.room.clear();
         let mut writer = Writer::new(mem::replace(&mut self.room, Vec::new(self.alloc)));

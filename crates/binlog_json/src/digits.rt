@@ -1,9 +1,8 @@
 //! Numbers and their digits, at the end of a text.
-ghost use Rattle.std.specs.Prelude.{◌≡◌, ◌+◌, ◌<◌, ◌≤◌, [], ◌∷◌, ◌++◌, ◌-◌, ◌/◌, ◌%◌, ◌^◌, ◌*◌, length, take, drop, replicate, OnOk, All};
+ghost use Rattle.std.specs.Prelude.{◌≡◌, ◌+◌, ◌<◌, ◌≤◌, [], ◌∷◌, ◌-◌, ◌/◌, ◌%◌, ◌^◌, ◌*◌, length, take, replicate, OnOk, All};
 ghost use Rattle.binlog_table.specs.Decimal.{digits_of};
-ghost use Rattle.binlog_table.specs.Extent.{fraction_len};
-ghost use Rattle.binlog_json.specs.Texts.{padded, digits_text, whole_text, point_text, fraction_text};
-ghost use Rattle.binlog_json.specs.LineBytes.{line_bytes};
+ghost use Rattle.binlog_json.specs.Texts.{padded, digits_text, whole_text, point_text, fraction_text, fraction_digits, with_point};
+ghost use Rattle.binlog_json.specs.Growth.{Gains};
 
 use crate::lines::Line;
 use crate::pieces::count_digits;
@@ -26,7 +25,7 @@ pub(crate) fn pair(number: u8) -> (u8, u8)
 
 /// The number with zeros in front of it, up to the width.
 pub(crate) fn push_padded(text: &mut Line, number: u32, width: usize) -> Result<(), AllocError>
-    ensures { OnOk result (line_bytes text.new ≡ line_bytes text.old ++ padded width number) }
+    ensures { OnOk result (Gains text.old text.new (padded width number)) }
 {
     let number = u64::from(number);
     push_zeros(text, width.saturating_sub(count_digits(number)))?;
@@ -36,14 +35,14 @@ pub(crate) fn push_padded(text: &mut Line, number: u32, width: usize) -> Result<
 /// A mark, and a number in two digits behind it, or in more where it has more.
 pub(crate) fn push_part(text: &mut Line, mark: u8, number: u8) -> Result<(), AllocError>
     requires { mark < 128 }
-    ensures { OnOk result (line_bytes text.new ≡ line_bytes text.old ++ mark ∷ padded 2 number) }
+    ensures { OnOk result (Gains text.old text.new (mark ∷ padded 2 number)) }
 {
     text.push(mark)?;
     push_padded(text, u32::from(number), 2)
 }
 
 fn push_zeros(text: &mut Line, count: usize) -> Result<(), AllocError>
-    ensures { OnOk result (line_bytes text.new ≡ line_bytes text.old ++ replicate count 48) }
+    ensures { OnOk result (Gains text.old text.new (replicate count 48)) }
 {
     for _place in 0..count {
         text.push(b'0')?;
@@ -70,8 +69,7 @@ pub(crate) fn push_scaled(text: &mut Line, digits: &[u8], scale: usize) -> Resul
     requires digits { All (λ d. d < 10) digits.now }
     requires few { length digits.now ≤ 65 }
     requires scale { scale ≤ length digits.now }
-    ensures { OnOk result (line_bytes text.new ≡ line_bytes text.old
-        ++ (whole_text (take (length digits.now - scale) digits.now) ++ point_text (drop (length digits.now - scale) digits.now))) }
+    ensures { OnOk result (Gains text.old text.new (with_point digits.now scale)) }
 {
     let shown = shown_digits(digits);
     let (whole, fraction) = digits.split_at(digits.len() - scale);
@@ -84,7 +82,7 @@ pub(crate) fn push_scaled(text: &mut Line, digits: &[u8], scale: usize) -> Resul
 fn push_whole(text: &mut Line, digits: &[u8], shown: &[u8]) -> Result<(), AllocError>
     requires digits { All (λ d. d < 10) digits.now }
     requires shown { shown.now ≡ digits_text digits.now }
-    ensures { OnOk result (line_bytes text.new ≡ line_bytes text.old ++ whole_text digits.now) }
+    ensures { OnOk result (Gains text.old text.new (whole_text digits.now)) }
 {
     let mut at = 0;
     while at < digits.len() && digits[at] == 0 {
@@ -100,7 +98,7 @@ fn push_whole(text: &mut Line, digits: &[u8], shown: &[u8]) -> Result<(), AllocE
 fn push_point(text: &mut Line, digits: &[u8], shown: &[u8]) -> Result<(), AllocError>
     requires digits { All (λ d. d < 10) digits.now }
     requires shown { shown.now ≡ digits_text digits.now }
-    ensures { OnOk result (line_bytes text.new ≡ line_bytes text.old ++ point_text digits.now) }
+    ensures { OnOk result (Gains text.old text.new (point_text digits.now)) }
 {
     if digits.is_empty() {
         return Ok(());
@@ -115,8 +113,7 @@ pub(crate) fn push_behind_point(
     fraction: u64,
     scale: usize,
 ) -> Result<(), AllocError>
-    ensures { OnOk result ((line_bytes text.new)
-        ≡ line_bytes text.old ++ point_text (digits_of scale fraction)) }
+    ensures { OnOk result (Gains text.old text.new (point_text (digits_of scale fraction))) }
 {
     if scale == 0 {
         return Ok(());
@@ -128,7 +125,7 @@ pub(crate) fn push_behind_point(
 /// What is shown of the stored fraction of a second of a column with a precision. It has an even number of digits, so the last isn't
 /// shown where the precision is odd.
 fn shown_fraction(precision: u8, fraction: u32) -> u32
-    ensures { digits_of precision result ≡ take precision (digits_of (2 * fraction_len precision) fraction) }
+    ensures { digits_of precision result ≡ fraction_digits precision fraction }
 {
     if precision % 2 == 0 {
         fraction
@@ -139,8 +136,7 @@ fn shown_fraction(precision: u8, fraction: u32) -> u32
 
 /// The stored fraction of a second of a column with a precision, with its point.
 pub(crate) fn push_fraction(text: &mut Line, precision: u8, fraction: u32) -> Result<(), AllocError>
-    ensures { OnOk result ((line_bytes text.new)
-        ≡ line_bytes text.old ++ fraction_text precision fraction) }
+    ensures { OnOk result (Gains text.old text.new (fraction_text precision fraction)) }
 {
     let shown = shown_fraction(precision, fraction);
     push_behind_point(text, u64::from(shown), usize::from(precision))

@@ -1,7 +1,8 @@
 //! Texts in the encodings of character sets, as UTF-8.
-ghost use Rattle.std.specs.Prelude.{◌≡◌, ◌++◌, [], OnOk, IfOk, string_bytes};
+ghost use Rattle.std.specs.Prelude.{◌≡◌, [], OnOk, IfOk};
 ghost use Rattle.binlog_json.specs.Encodings.{latin1_code, latin1_text, unit_in, units_of, utf16_in, utf32_code, utf32_text, decoded};
-ghost use Rattle.binlog_json.specs.Reading.{IsRead};
+ghost use Rattle.binlog_json.specs.Reading.{IsRead, HasRead};
+ghost use Rattle.binlog_select.specs.Text.{GrowsBy};
 
 use binlog_types::Encoding;
 use std::alloc::{AllocError, Global};
@@ -35,7 +36,7 @@ impl Decoder {
         encoding: Encoding,
         bytes: &[u8],
     ) -> Result<bool, AllocError>
-        ensures { IfOk result (IsRead (string_bytes text.old) (string_bytes text.new) (decoded encoding bytes.now)) }
+        ensures { IfOk result (HasRead text.old text.new (decoded encoding bytes.now)) }
     {
         match encoding {
             Encoding::Utf8 => append_utf8(text, bytes),
@@ -57,7 +58,7 @@ impl Decoder {
         order: ByteOrder,
         bytes: &[u8],
     ) -> Result<bool, AllocError>
-        ensures { IfOk result (IsRead (string_bytes text.old) (string_bytes text.new) (utf16_in order bytes.now)) }
+        ensures { IfOk result (HasRead text.old text.new (utf16_in order bytes.now)) }
     {
         if !take_units(&mut self.units, order, bytes)? {
             return Ok(false);
@@ -73,7 +74,7 @@ impl Decoder {
 }
 
 fn append_utf8(text: &mut String, bytes: &[u8]) -> Result<bool, AllocError>
-    ensures { IfOk result (IsRead (string_bytes text.old) (string_bytes text.new) (decoded Encoding.Utf8 bytes.now)) }
+    ensures { IfOk result (HasRead text.old text.new (decoded Encoding.Utf8 bytes.now)) }
 {
     match str::from_utf8(bytes) {
         Err(_) => Ok(false),
@@ -116,7 +117,7 @@ fn utf32_code(first: u8, second: u8, third: u8, fourth: u8) -> u32
 }
 
 fn append_utf32(text: &mut String, bytes: &[u8]) -> Result<bool, AllocError>
-    ensures { IfOk result (IsRead (string_bytes text.old) (string_bytes text.new) (utf32_text bytes.now)) }
+    ensures { IfOk result (HasRead text.old text.new (utf32_text bytes.now)) }
 {
     let mut rest = bytes;
     while let [first, second, third, fourth, more @ ..] = rest {
@@ -167,7 +168,7 @@ fn latin1_char(byte: u8) -> char
 
 /// Appends the characters of bytes to a text.
 fn append_latin1(text: &mut String, bytes: &[u8]) -> Result<(), AllocError>
-    ensures { OnOk result (string_bytes text.new ≡ string_bytes text.old ++ latin1_text bytes.now) }
+    ensures { OnOk result (GrowsBy text.old text.new (latin1_text bytes.now)) }
 {
     for byte in bytes {
         text.push(latin1_char(*byte))?;

@@ -1,14 +1,12 @@
 //! Images of full lines, written in the order of the columns' names.
-ghost use Rattle.std.specs.Prelude.{◌≡◌, ◌<◌, ◌++◌, ◌||◌, not, length, slice_index_or, OnOk, IfOk};
-ghost use Rattle.binlog_json.specs.Json.{object};
-ghost use Rattle.binlog_json.specs.Json.{compact_text};
+ghost use Rattle.std.specs.Prelude.{◌≡◌, ◌<◌, length, slice_index_or, OnOk, IfOk};
 ghost use Rattle.binlog_types.specs.ColumnTypes.{types_of};
-ghost use Rattle.binlog_json.specs.Images.{cell_in, members_by};
-ghost use Rattle.binlog_json.specs.FullValues.{full_value, unknown_type};
-ghost use Rattle.binlog_json.specs.Labels.{AreLabels};
-ghost use Rattle.binlog_json.specs.Values.{is_absent};
-ghost use Rattle.binlog_json.specs.Written.{column_text_by};
-ghost use Rattle.binlog_json.specs.LineBytes.{line_bytes};
+ghost use Rattle.binlog_json.specs.FullValues.{unknown_type};
+ghost use Rattle.binlog_json.specs.Written.{TellsLater};
+ghost use Rattle.binlog_json.specs.FullLine.{full_image};
+ghost use Rattle.binlog_json.specs.FullWritten.{full_column_text};
+ghost use Rattle.binlog_json.specs.Growth.{Gains, Prints};
+ghost use Rattle.binlog_json.specs.KeptLabels.{HasLabels};
 
 use crate::full_values::append_full_value;
 use crate::image::joined;
@@ -29,10 +27,9 @@ pub(crate) fn append_full_image(
     row: &PlacedRow<'_>,
 ) -> Result<(), AllocError>
     requires row { row.now ≡ image.now }
-    requires labels { AreLabels image.now.table.names (line_bytes labels.now.text) labels.now.bounds.items }
+    requires labels { HasLabels labels.now image.now.table.names }
     requires types { types.now ≡ types_of image.now.table.sections }
-    ensures { OnOk result ((line_bytes out.new)
-        ≡ line_bytes out.old ++ compact_text (object (members_by (full_value image.now) image.now))) }
+    ensures { OnOk result (Prints out.old out.new (full_image (Some image.now))) }
 {
     out.push_str("{")?;
     let mut later = false;
@@ -71,10 +68,10 @@ fn append_full_column(
     later: bool,
 ) -> Result<bool, AllocError>
     requires row { row.now ≡ image.now }
-    requires labels { AreLabels image.now.table.names (line_bytes labels.now.text) labels.now.bounds.items }
+    requires labels { HasLabels labels.now image.now.table.names }
     requires types { types.now ≡ types_of image.now.table.sections }
-    ensures text { OnOk result (line_bytes out.new ≡ line_bytes out.old ++ column_text_by (full_value image.now) later image.now column) }
-    ensures later { IfOk result (λ now. now ≡ (not (is_absent (cell_in image.now column)) || later)) }
+    ensures text { OnOk result (Gains out.old out.new (full_column_text later image.now column)) }
+    ensures later { IfOk result (TellsLater later image.now column) }
 {
     if column >= image.column_count() {
         return Ok(later);

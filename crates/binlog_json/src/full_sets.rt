@@ -1,11 +1,10 @@
 //! Values of SET columns in full lines: the names of the members, read by the character set.
-ghost use Rattle.std.specs.Prelude.{◌≡◌, ◌++◌, ◌∷◌, [], map, None, OnOk, IfOk, option_map, string_bytes};
-ghost use Rattle.binlog_json.specs.Json.{compact_text};
+ghost use Rattle.std.specs.Prelude.{◌≡◌, None, OnOk, IfOk};
 ghost use Rattle.binlog_types.specs.Charsets.{encoding_of};
-ghost use Rattle.binlog_json.specs.Encodings.{all_decoded, comma_in, joined_by};
-ghost use Rattle.binlog_json.specs.Reading.{IsRead};
-ghost use Rattle.binlog_json.specs.FullValues.{members_text, text_or_bytes};
-ghost use Rattle.binlog_json.specs.LineBytes.{line_bytes};
+ghost use Rattle.binlog_json.specs.Encodings.{comma_in, joined_by, joined_text, texts_of};
+ghost use Rattle.binlog_json.specs.Reading.{HasRead};
+ghost use Rattle.binlog_json.specs.FullValues.{members_text, members_as};
+ghost use Rattle.binlog_json.specs.Growth.{Gathers, Prints};
 
 use crate::encodings::Decoder;
 use crate::full_values::{append_in_charset, is_binary};
@@ -22,7 +21,7 @@ pub(crate) fn append_members(
     charset: Option<Charset>,
     members: &[&[u8]],
 ) -> Result<(), AllocError>
-    ensures { OnOk result (line_bytes out.new ≡ line_bytes out.old ++ compact_text (members_text charset (map (λ name. name.now) members.now))) }
+    ensures { OnOk result (Prints out.old out.new (members_text charset (texts_of members.now))) }
 {
     match charset {
         None => append_joined(out, room, members),
@@ -37,7 +36,7 @@ pub(crate) fn append_members(
 
 /// The bytes of all members, parted by commas.
 fn append_joined(out: &mut Line, room: &mut Room, members: &[&[u8]]) -> Result<(), AllocError>
-    ensures { OnOk result (line_bytes out.new ≡ line_bytes out.old ++ compact_text (members_text None (map (λ name. name.now) members.now))) }
+    ensures { OnOk result (Prints out.old out.new (members_text None (texts_of members.now))) }
 {
     room.names.clear();
     join(&mut room.names, b",", members)?;
@@ -51,9 +50,7 @@ fn append_members_in(
     charset: Charset,
     members: &[&[u8]],
 ) -> Result<(), AllocError>
-    ensures { OnOk result (line_bytes out.new ≡ line_bytes out.old ++ compact_text
-        (text_or_bytes charset (joined_by (comma_in (encoding_of charset)) (map (λ name. name.now) members.now))
-        (option_map (joined_by (44 ∷ [])) (all_decoded (encoding_of charset) (map (λ name. name.now) members.now))))) }
+    ensures { OnOk result (Prints out.old out.new (members_as charset (texts_of members.now))) }
 {
     let encoding = encoding_of(charset);
     room.text.clear();
@@ -84,8 +81,7 @@ fn read_all(
     encoding: Encoding,
     members: &[&[u8]],
 ) -> Result<bool, AllocError>
-    ensures { IfOk result (IsRead (string_bytes text.old) (string_bytes text.new)
-        (option_map (joined_by (44 ∷ [])) (all_decoded encoding (map (λ name. name.now) members.now)))) }
+    ensures { IfOk result (HasRead text.old text.new (joined_text encoding (texts_of members.now))) }
 {
     let mut later = false;
     for name in members {
@@ -102,7 +98,7 @@ fn read_all(
 
 /// Appends all members, with something between each two.
 fn join(bytes: &mut Vec<u8>, between: &[u8], members: &[&[u8]]) -> Result<(), AllocError>
-    ensures { OnOk result (bytes.new.items ≡ bytes.old.items ++ joined_by between.now (map (λ name. name.now) members.now)) }
+    ensures { OnOk result (Gathers bytes.old bytes.new (joined_by between.now (texts_of members.now))) }
 {
     let mut later = false;
     for name in members {

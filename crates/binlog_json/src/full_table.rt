@@ -1,15 +1,13 @@
 //! What full lines need of a table: its columns' types and the names of its key, kept from line to line by the body of the table's map.
-ghost use Rattle.std.specs.Prelude.{◌≡◌, ◌++◌, ◌||◌, ℕ, not, true, Ok, OnOk, IfOk};
+ghost use Rattle.std.specs.Prelude.{◌≡◌, ℕ, true, Ok, OnOk, IfOk};
 ghost use Rattle.std.proofs.Props.{props};
 ghost use Rattle.binlog_table.specs.Map.{Map, map_at};
 ghost use Rattle.binlog_types.specs.ColumnTypes.{types_of};
-ghost use Rattle.binlog_json.specs.FullWritten.{key_part, key_text};
-ghost use Rattle.binlog_json.specs.TypeTexts.{types_data, type_of_column, every_column};
-ghost use Rattle.binlog_json.specs.Images.{cell_in};
-ghost use Rattle.binlog_json.specs.Values.{is_absent};
-ghost use Rattle.binlog_json.specs.Written.{column_text_by};
-ghost use Rattle.binlog_json.specs.Json.{compact_text};
+ghost use Rattle.binlog_json.specs.FullWritten.{key_part, key_text, type_column_text};
+ghost use Rattle.binlog_json.specs.TypeTexts.{types_data, every_column};
+ghost use Rattle.binlog_json.specs.Written.{TellsLater};
 ghost use Rattle.binlog_json.specs.LineBytes.{line_bytes};
+ghost use Rattle.binlog_json.specs.Growth.{Gains, Prints};
 
 use crate::append::{Quoter, append_comma};
 use crate::full_image::type_at;
@@ -101,7 +99,7 @@ fn append_types(
     types: &[ColumnType],
 ) -> Result<(), AllocError>
     requires { types.now ≡ types_of map.now.sections }
-    ensures { OnOk result (line_bytes out.new ≡ line_bytes out.old ++ compact_text (types_data map.now)) }
+    ensures { OnOk result (Prints out.old out.new (types_data map.now)) }
 {
     out.push_str("{")?;
     let mut later = false;
@@ -123,8 +121,8 @@ fn append_column_type(
     later: bool,
 ) -> Result<bool, AllocError>
     requires { types.now ≡ types_of map.now.sections }
-    ensures text { OnOk result (line_bytes out.new ≡ line_bytes out.old ++ column_text_by (type_of_column map.now) later (every_column map.now) column) }
-    ensures later { IfOk result (λ now. now ≡ (not (is_absent (cell_in (every_column map.now) column)) || later)) }
+    ensures text { OnOk result (Gains out.old out.new (type_column_text later map.now column)) }
+    ensures later { IfOk result (TellsLater later (every_column map.now) column) }
 {
     if column >= map.column_count() {
         return Ok(later);

@@ -1,25 +1,20 @@
 //! Values of columns as full lines have them: by the types that the server declared.
-ghost use Rattle.std.specs.Prelude.{◌≡◌, ◌<◌, ◌≤◌, ◌++◌, codes, length, replicate, ◌-◌, ◌^◌, [], OnOk, IfOk, ℤ};
+ghost use Rattle.std.specs.Prelude.{◌≡◌, ◌<◌, ◌≤◌, length, replicate, ◌-◌, ◌^◌, [], OnOk, IfOk, ℤ};
 ghost use Rattle.std.specs.Str.{IsUtf8};
 ghost use Rattle.json.specs.Print.{quoted};
-ghost use Rattle.binlog_json.specs.Json.{compact_text};
-ghost use Rattle.binlog_table.specs.Value.{view as cell_view};
-ghost use Rattle.binlog_table.specs.MapWords.{value_names_in};
 ghost use Rattle.binlog_types.specs.Charsets.{encoding_of};
-ghost use Rattle.binlog_json.specs.Encodings.{decoded};
-ghost use Rattle.binlog_json.specs.Values.{encoded_data, enum_by, set_by};
-ghost use Rattle.binlog_json.specs.FullValues.{greatest_of, as_unsigned, int_data, uint_data, in_charset, text_or_bytes, is_binary, whole_bytes, text_data, members_text, is_float, is_json, raw_text, raw_data, full_data};
+ghost use Rattle.binlog_json.specs.FullValues.{greatest_of, as_unsigned, int_data, uint_data, in_charset, is_binary, whole_bytes, text_data, is_float, is_json, raw_text, raw_data, data_in, in_base64};
 ghost use Rattle.binlog_documents.specs.Appended.{AppendsText};
-ghost use Rattle.binlog_json.specs.LineBytes.{line_bytes};
+ghost use Rattle.binlog_json.specs.Growth.{Gathers, Prints};
+ghost use Rattle.binlog_json.specs.NamedValues.{full_enum, full_set, in_full};
 
 use crate::append::{Quoter, append_integer, append_number, append_plain};
 use crate::full_sets::append_members;
 use crate::lines::Line;
 use crate::names::{enum_name, is_named, members_of};
-use crate::plain::is_plain;
 use crate::room::Room;
 use crate::values::{append_base64, append_encoded, append_raw, append_value};
-use binlog_documents::DocumentWriter;
+use binlog_documents::{DocumentWriter, is_plain};
 use binlog_table::{Cell, RowView};
 use binlog_types::{Charset, ColumnType, Encoding, charset_name, encoding_of};
 use float_text::push_stored;
@@ -35,8 +30,7 @@ pub(crate) fn append_full_value(
     cell: &Cell<'_>,
 ) -> Result<(), AllocError>
     requires { column < length image.now.table.columns }
-    ensures { OnOk result (line_bytes out.new ≡ line_bytes out.old ++ compact_text
-        (full_data column_type.now (value_names_in image.now.table column) (cell_view cell.now))) }
+    ensures { OnOk result (Prints out.old out.new (in_full image.now column column_type.now cell.now)) }
 {
     match cell {
         Cell::Int(number) => append_int(out, column_type, *number),
@@ -83,7 +77,7 @@ fn as_unsigned(greatest: u64, number: i64) -> u64
 
 /// A number that was read as signed.
 fn append_int(out: &mut Line, column_type: &ColumnType, number: i64) -> Result<(), AllocError>
-    ensures { OnOk result (line_bytes out.new ≡ line_bytes out.old ++ compact_text (int_data column_type.now number)) }
+    ensures { OnOk result (Prints out.old out.new (int_data column_type.now number)) }
 {
     if column_type.unsigned {
         append_number(out, as_unsigned(greatest_of(column_type.code), number))
@@ -94,7 +88,7 @@ fn append_int(out: &mut Line, column_type: &ColumnType, number: i64) -> Result<(
 
 /// A number that was read as unsigned.
 fn append_uint(out: &mut Line, column_type: &ColumnType, number: u64) -> Result<(), AllocError>
-    ensures { OnOk result (line_bytes out.new ≡ line_bytes out.old ++ compact_text (uint_data column_type.now number)) }
+    ensures { OnOk result (Prints out.old out.new (uint_data column_type.now number)) }
 {
     if column_type.unsigned {
         return append_number(out, number);
@@ -128,7 +122,7 @@ fn append_column_text(
     column_type: &ColumnType,
     bytes: &[u8],
 ) -> Result<(), AllocError>
-    ensures { OnOk result (line_bytes out.new ≡ line_bytes out.old ++ compact_text (text_data column_type.now bytes.now)) }
+    ensures { OnOk result (Prints out.old out.new (text_data column_type.now bytes.now)) }
 {
     let Some(charset) = column_type.charset else {
         return append_encoded(out, &mut room.quoter, &mut room.text, bytes);
@@ -146,7 +140,7 @@ fn append_text_in(
     charset: Charset,
     bytes: &[u8],
 ) -> Result<(), AllocError>
-    ensures { OnOk result (line_bytes out.new ≡ line_bytes out.old ++ compact_text (text_or_bytes charset bytes.now (decoded (encoding_of charset) bytes.now))) }
+    ensures { OnOk result (Prints out.old out.new (data_in (encoding_of charset) charset bytes.now)) }
 {
     match encoding_of(charset) {
         Encoding::Utf8 => append_utf8_text(out, room, charset, bytes),
@@ -162,7 +156,7 @@ fn append_utf8_text(
     charset: Charset,
     bytes: &[u8],
 ) -> Result<(), AllocError>
-    ensures { OnOk result (line_bytes out.new ≡ line_bytes out.old ++ compact_text (text_or_bytes charset bytes.now (decoded Encoding.Utf8 bytes.now))) }
+    ensures { OnOk result (Prints out.old out.new (data_in Encoding.Utf8 charset bytes.now)) }
 {
     if is_plain::<0x80>(bytes) {
         return append_plain(out, bytes);
@@ -182,7 +176,7 @@ fn append_decoded(
     encoding: Encoding,
     bytes: &[u8],
 ) -> Result<(), AllocError>
-    ensures { OnOk result (line_bytes out.new ≡ line_bytes out.old ++ compact_text (text_or_bytes charset bytes.now (decoded encoding bytes.now))) }
+    ensures { OnOk result (Prints out.old out.new (data_in encoding charset bytes.now)) }
 {
     room.text.clear();
     if room.decoder.append(&mut room.text, encoding, bytes)? {
@@ -201,8 +195,7 @@ fn append_full_enum(
     number: u16,
 ) -> Result<(), AllocError>
     requires { column < length image.now.table.columns }
-    ensures { OnOk result (line_bytes out.new ≡ line_bytes out.old ++ compact_text
-        (enum_by (text_data column_type.now) (value_names_in image.now.table column) number)) }
+    ensures { OnOk result (Prints out.old out.new (full_enum image.now column column_type.now number)) }
 {
     match enum_name(image, column, number) {
         None => append_number(out, u64::from(number)),
@@ -220,8 +213,7 @@ fn append_full_set(
     number: u64,
 ) -> Result<(), AllocError>
     requires { column < length image.now.table.columns }
-    ensures { OnOk result (line_bytes out.new ≡ line_bytes out.old ++ compact_text
-        (set_by (members_text column_type.now.charset) (value_names_in image.now.table column) number)) }
+    ensures { OnOk result (Prints out.old out.new (full_set image.now column column_type.now number)) }
 {
     if !is_named(image, column, number) {
         return append_number(out, number);
@@ -273,7 +265,7 @@ fn append_full_raw(
     column_type: &ColumnType,
     bytes: &[u8],
 ) -> Result<(), AllocError>
-    ensures { OnOk result (line_bytes out.new ≡ line_bytes out.old ++ compact_text (raw_data column_type.now bytes.now)) }
+    ensures { OnOk result (Prints out.old out.new (raw_data column_type.now bytes.now)) }
 {
     room.names.clear();
     if append_raw_text(
@@ -294,7 +286,7 @@ fn append_whole(
     column_type: &ColumnType,
     bytes: &[u8],
 ) -> Result<(), AllocError>
-    ensures { OnOk result (line_bytes out.new ≡ line_bytes out.old ++ compact_text (encoded_data (codes "base64") (whole_bytes column_type.now bytes.now))) }
+    ensures { OnOk result (Prints out.old out.new (in_base64 (whole_bytes column_type.now bytes.now))) }
 {
     if column_type.code != 254 {
         return append_encoded(out, &mut room.quoter, &mut room.text, bytes);
@@ -309,7 +301,7 @@ fn append_whole(
 }
 
 fn append_zeros(bytes: &mut Vec<u8>, count: usize) -> Result<(), AllocError>
-    ensures { OnOk result (bytes.new.items ≡ bytes.old.items ++ replicate count 0) }
+    ensures { OnOk result (Gathers bytes.old bytes.new (replicate count 0)) }
 {
     for _ in 0..count {
         bytes.push(0)?;
@@ -325,7 +317,7 @@ pub(crate) fn append_in_charset(
     charset: Charset,
     bytes: &[u8],
 ) -> Result<(), AllocError>
-    ensures { OnOk result (line_bytes out.new ≡ line_bytes out.old ++ compact_text (in_charset charset bytes.now)) }
+    ensures { OnOk result (Prints out.old out.new (in_charset charset bytes.now)) }
 {
     out.push_str("{\"base64\":")?;
     append_base64(out, quoter, room, bytes)?;

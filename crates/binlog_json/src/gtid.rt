@@ -1,10 +1,10 @@
 //! The texts of GTIDs.
-ghost use Rattle.std.specs.Prelude.{◌≡◌, ◌++◌, true, OnOk, string_bytes};
-ghost use Rattle.json.specs.Print.{quoted};
-ghost use Rattle.binlog_json.specs.Json.{compact_text};
+ghost use Rattle.std.specs.Prelude.{◌≡◌, true, OnOk};
 ghost use Rattle.uuid.specs.Text.{hyphenated_text, lower};
 ghost use Rattle.binlog_json.specs.Line.{gtid_data, gtid_text};
 ghost use Rattle.binlog_json.specs.LineBytes.{line_bytes};
+ghost use Rattle.binlog_json.specs.Growth.{Prints, Quotes};
+ghost use Rattle.binlog_select.specs.Text.{GrowsBy};
 
 use crate::lines::Line;
 use binlog_select::push_number;
@@ -58,7 +58,7 @@ pub(crate) fn append_gtid(
     kept: &mut SourceText,
     gtid: Option<(Uuid, u64)>,
 ) -> Result<(), AllocError>
-    ensures { OnOk result (line_bytes out.new ≡ line_bytes out.old ++ compact_text (gtid_data gtid)) }
+    ensures { OnOk result (Prints out.old out.new (gtid_data gtid)) }
 {
     match gtid {
         None => out.push_str("null"),
@@ -73,7 +73,7 @@ fn append_quoted(
     source: Uuid,
     number: u64,
 ) -> Result<(), AllocError>
-    ensures { OnOk result (line_bytes out.new ≡ line_bytes out.old ++ quoted (gtid_text (source, number))) }
+    ensures { OnOk result (Quotes out.old out.new (gtid_text (source, number))) }
 {
     kept.take(source)?;
     out.push(b'"')?;
@@ -86,7 +86,7 @@ fn append_quoted(
 /// Appends the text of a GTID: its source and its number, parted by a colon. Where it finds no memory, nothing is said of what was
 /// appended.
 pub fn push_gtid(text: &mut String, source: Uuid, number: u64) -> Result<(), AllocError>
-    ensures { OnOk result (string_bytes text.new ≡ string_bytes text.old ++ gtid_text (source, number)) }
+    ensures { OnOk result (GrowsBy text.old text.new (gtid_text (source, number))) }
 {
     let mut buffer = Uuid::encode_buffer();
     text.push_str(source.hyphenated().encode_lower(&mut buffer))?;

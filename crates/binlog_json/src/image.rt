@@ -1,12 +1,10 @@
 //! Images as objects, written in the order of the columns' names.
-ghost use Rattle.std.specs.Prelude.{◌≡◌, ◌<◌, ◌≤◌, ◌++◌, ◌||◌, not, length, take, drop, if◌then◌else◌, OnOk, IfOk};
+ghost use Rattle.std.specs.Prelude.{◌≡◌, ◌<◌, ◌≤◌, length, take, OnOk, IfOk};
 ghost use Rattle.binlog_json.specs.Json.{object};
-ghost use Rattle.binlog_json.specs.Json.{compact_text};
-ghost use Rattle.binlog_json.specs.Images.{cell_in, image_members};
-ghost use Rattle.binlog_json.specs.Labels.{AreLabels};
-ghost use Rattle.binlog_json.specs.Values.{is_absent};
-ghost use Rattle.binlog_json.specs.Written.{column_text};
-ghost use Rattle.binlog_json.specs.LineBytes.{line_bytes};
+ghost use Rattle.binlog_json.specs.Images.{image_members};
+ghost use Rattle.binlog_json.specs.Written.{column_text, TellsLater, label_joined};
+ghost use Rattle.binlog_json.specs.Growth.{Gains, Prints};
+ghost use Rattle.binlog_json.specs.KeptLabels.{HasLabels};
 
 use crate::labels::Labels;
 use crate::lines::Line;
@@ -24,9 +22,8 @@ pub(crate) fn append_image(
     row: &PlacedRow<'_>,
 ) -> Result<(), AllocError>
     requires row { row.now ≡ image.now }
-    requires labels { AreLabels image.now.table.names (line_bytes labels.now.text) labels.now.bounds.items }
-    ensures { OnOk result ((line_bytes out.new)
-        ≡ line_bytes out.old ++ compact_text (object (image_members image.now))) }
+    requires labels { HasLabels labels.now image.now.table.names }
+    ensures { OnOk result (Prints out.old out.new (object (image_members image.now))) }
 {
     out.push_str("{")?;
     let mut later = false;
@@ -49,9 +46,9 @@ fn append_column(
     later: bool,
 ) -> Result<bool, AllocError>
     requires row { row.now ≡ image.now }
-    requires labels { AreLabels image.now.table.names (line_bytes labels.now.text) labels.now.bounds.items }
-    ensures text { OnOk result (line_bytes out.new ≡ line_bytes out.old ++ column_text later image.now column) }
-    ensures later { IfOk result (λ now. now ≡ (not (is_absent (cell_in image.now column)) || later)) }
+    requires labels { HasLabels labels.now image.now.table.names }
+    ensures text { OnOk result (Gains out.old out.new (column_text later image.now column)) }
+    ensures later { IfOk result (TellsLater later image.now column) }
 {
     if column >= image.column_count() {
         return Ok(later);
@@ -74,7 +71,7 @@ fn append_column(
 pub(crate) fn joined(label: &[u8], count: usize, later: bool) -> (&[u8], usize)
     requires some { 0 < count }
     requires count { count ≤ length label.now }
-    ensures label { take result.1 result.0.now ≡ (if later then take count label.now else drop 1 (take count label.now)) }
+    ensures label { take result.1 result.0.now ≡ label_joined later (take count label.now) }
     ensures count { result.1 ≤ length result.0.now }
 {
     if later {

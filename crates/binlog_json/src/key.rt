@@ -1,14 +1,11 @@
 //! The keys of a row change.
-ghost use Rattle.std.specs.Prelude.{◌≡◌, ◌<◌, ◌++◌, Some, length, slice_get, is_some, IfOk, IfSome, OnOk, option_map, string_bytes};
-ghost use Rattle.std.specs.List.{list_any};
-ghost use Rattle.std.specs.Str.{bytes_eq};
-ghost use Rattle.binlog_json.specs.Json.{compact_text};
+ghost use Rattle.std.specs.Prelude.{◌≡◌, ◌<◌, Some, length, slice_get, IfOk, IfSome, OnOk};
 ghost use Rattle.binlog_table.specs.Value.{view as cell_view};
-ghost use Rattle.binlog_table.specs.MapWords.{value_names_in};
 ghost use Rattle.binlog_feed.specs.Changes.{view};
-ghost use Rattle.binlog_json.specs.Keys.{HasTypes, full_key_data, has_key as is_of_key, has_key_as as is_of_key_as, image_key as key_of_image, is_text, key_text_as as text_of_key, key_text_of, keys_as, value_as, value_in, value_in_either};
+ghost use Rattle.binlog_json.specs.Keys.{HasTypes, has_key as is_of_key, is_text, key_text_as as text_of_key, key_text_of, value_as, value_in, value_in_either, TellsIfSome, TellsKey, either_text, given_text, image_key_text, is_one_of_keys};
 ghost use Rattle.binlog_json.specs.Written.{text_if};
-ghost use Rattle.binlog_json.specs.LineBytes.{line_bytes};
+ghost use Rattle.binlog_json.specs.Growth.{Gains, Prints};
+ghost use Rattle.binlog_json.specs.NamedValues.{as_key};
 
 use crate::append::append_comma;
 use crate::full_image::type_at;
@@ -33,7 +30,7 @@ pub fn key_text(
     change: &Change<'_>,
     side: Side,
 ) -> Result<Option<String>, AllocError>
-    ensures { IfOk result (λ text. option_map string_bytes text ≡ key_text_of (view change.now) side) }
+    ensures { IfOk result (λ text. given_text text ≡ key_text_of (view change.now) side) }
 {
     key_text_as(alloc, Style::Plain, &[], change, side)
 }
@@ -47,7 +44,7 @@ fn key_text_as(
     side: Side,
 ) -> Result<Option<String>, AllocError>
     requires { HasTypes style types.now (view change.now).table }
-    ensures { IfOk result (λ text. option_map string_bytes text ≡ text_of_key style (view change.now) side) }
+    ensures { IfOk result (λ text. given_text text ≡ text_of_key style (view change.now) side) }
 {
     match side {
         Side::Before => match change.before() {
@@ -71,8 +68,7 @@ fn image_key(
 ) -> Result<Option<String>, AllocError>
     requires types { HasTypes style types.now image.now.table }
     requires table { IfSome other (λ second. second.table ≡ image.now.table) }
-    ensures { IfOk result (λ text. option_map string_bytes text
-        ≡ option_map compact_text (key_of_image style image.now other.entry)) }
+    ensures { IfOk result (λ text. given_text text ≡ image_key_text style image.now other.entry) }
 {
     let columns = image.key();
     if columns.is_empty() {
@@ -106,9 +102,8 @@ fn append_of_either(
     requires column { column < length image.now.table.columns }
     requires types { HasTypes style types.now image.now.table }
     requires table { IfSome other.now (λ second. second.table ≡ image.now.table) }
-    ensures text { OnOk result ((line_bytes out.new)
-        ≡ line_bytes out.old ++ text_if (value_in_either style image.now other.now column)) }
-    ensures has { IfOk result (λ has. has ≡ is_some (value_in_either style image.now other.now column)) }
+    ensures text { OnOk result (Gains out.old out.new (either_text style image.now other.now column)) }
+    ensures has { IfOk result (TellsIfSome (value_in_either style image.now other.now column)) }
 {
     if append_of(out, room, style, types, image, column)? {
         return Ok(true);
@@ -130,9 +125,8 @@ fn append_of(
 ) -> Result<bool, AllocError>
     requires column { column < length image.now.table.columns }
     requires types { HasTypes style types.now image.now.table }
-    ensures text { OnOk result ((line_bytes out.new)
-        ≡ line_bytes out.old ++ text_if (value_in style image.now column)) }
-    ensures has { IfOk result (λ has. has ≡ is_some (value_in style image.now column)) }
+    ensures text { OnOk result (Gains out.old out.new (text_if (value_in style image.now column))) }
+    ensures has { IfOk result (TellsIfSome (value_in style image.now column)) }
 {
     match image.value(column) {
         Cell::Absent => Ok(false),
@@ -156,7 +150,7 @@ fn append_value_as(
     requires column { column < length image.now.table.columns }
     requires types { HasTypes style types.now image.now.table }
     requires cell { slice_get image.now.cells column ≡ Some (cell_view cell.now) }
-    ensures { OnOk result (line_bytes out.new ≡ line_bytes out.old ++ compact_text (value_as style image.now column)) }
+    ensures { OnOk result (Prints out.old out.new (value_as style image.now column)) }
 {
     match style {
         Style::Plain => append_value(out, room, image, column, cell),
@@ -177,8 +171,7 @@ fn append_full_key_value(
     cell: &Cell<'_>,
 ) -> Result<(), AllocError>
     requires { column < length image.now.table.columns }
-    ensures { OnOk result (line_bytes out.new ≡ line_bytes out.old ++ compact_text
-        (full_key_data column_type.now (value_names_in image.now.table column) (cell_view cell.now))) }
+    ensures { OnOk result (Prints out.old out.new (as_key image.now column column_type.now cell.now)) }
 {
     match cell {
         Cell::Raw(_) => append_value(out, room, image, column, cell),
@@ -222,7 +215,7 @@ pub fn has_key_as(
     table: &str,
     key: &str,
 ) -> Result<bool, AllocError>
-    ensures { IfOk result (λ has. has ≡ is_of_key_as style schema.now table.now key.now (view change.now)) }
+    ensures { IfOk result (TellsKey style schema.now table.now key.now (view change.now)) }
 {
     let mut finder = KeyFinder::new(alloc);
     finder.has_key_as(style, change, schema, table, key)
@@ -237,7 +230,7 @@ pub(crate) fn is_among_keys(
     key: &str,
 ) -> Result<bool, AllocError>
     requires { HasTypes style types.now (view change.now).table }
-    ensures { IfOk result (λ has. has ≡ list_any (λ text. bytes_eq text key.now) (keys_as style (view change.now))) }
+    ensures { IfOk result (λ has. has ≡ is_one_of_keys style key.now (view change.now)) }
 {
     if has_key_on(alloc, style, types, change, Side::Before, key)? {
         return Ok(true);
@@ -263,7 +256,7 @@ fn has_key_on(
 
 /// Whether a text is there and is the key.
 fn is_key(text: &Option<String>, key: &str) -> bool
-    ensures { result ≡ is_text key.now (option_map string_bytes text.now) }
+    ensures { result ≡ is_text key.now (given_text text.now) }
 {
     match text {
         None => false,

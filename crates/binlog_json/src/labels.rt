@@ -1,11 +1,12 @@
 //! A table's names as lines have them, and those of its columns as they stand in front of members, each behind a comma. They are kept
 //! from image to image by the body of the table's map.
-ghost use Rattle.std.specs.Prelude.{◌≡◌, ◌<◌, ◌++◌, ℕ, List, length, true, Ok, OnOk};
+ghost use Rattle.std.specs.Prelude.{◌≡◌, ◌<◌, ℕ, List, length, true, Ok, OnOk};
 ghost use Rattle.std.proofs.Props.{props};
 ghost use Rattle.binlog_table.specs.Map.{Map, map_at};
 ghost use Rattle.binlog_json.specs.Labels.{AreLabels, label_text};
 ghost use Rattle.binlog_json.specs.Written.{table_text};
 ghost use Rattle.binlog_json.specs.LineBytes.{line_bytes};
+ghost use Rattle.binlog_json.specs.Growth.{Gains};
 
 use crate::append::Quoter;
 use crate::lines::Line;
@@ -38,6 +39,7 @@ impl Labels {
     ghost use Rattle.std.specs.Prelude.{◌≡◌, ◌<◌, ◌≤◌, ℕ, List, length, take, true, Ok, OnOk};
     ghost use Rattle.binlog_json.specs.Labels.{AreLabels, label_text};
     ghost use Rattle.binlog_json.specs.Written.{table_text};
+    ghost use Rattle.binlog_json.specs.KeptLabels.{GivesLabel, HasLabelOf, HasLabels};
 
     fn new(alloc: Global) -> Labels {
         Labels {
@@ -51,7 +53,7 @@ impl Labels {
 
     /// Takes the labels of a map's columns in place of those that it held, unless it holds these.
     pub(crate) fn take(&mut self, map: &TableMap, quoter: &mut Quoter) -> Result<(), AllocError>
-        ensures labels { OnOk result (AreLabels map.now.names (line_bytes self.new.text) self.new.bounds.items) }
+        ensures labels { OnOk result (HasLabels self.new map.now.names) }
         ensures names { OnOk result (line_bytes self.new.names ≡ table_text map.now.schema map.now.table) }
     {
         if self.are_known && map.spells(&self.body) {
@@ -77,9 +79,8 @@ impl Labels {
     /// The label of a column, with the comma in front of it: so many bytes of what is answered.
     #[inline(always)]
     pub(crate) fn label(&self, column: usize) -> (&[u8], usize)
-        requires { (names : List (List ℕ)) × (AreLabels names (line_bytes self.now.text) self.now.bounds.items × (column < length names)) }
-        ensures label { (names : List (List ℕ)) → AreLabels names (line_bytes self.now.text) self.now.bounds.items → column < length names
-            → take result.1 result.0.now ≡ label_text names column }
+        requires { HasLabelOf self.now column }
+        ensures label { GivesLabel self.now column result }
         ensures count { result.1 ≤ length result.0.now }
     {
         let (start, end) = self.bounds[column];
@@ -94,7 +95,7 @@ pub(crate) fn append_names(
     schema: &str,
     table: &str,
 ) -> Result<(), AllocError>
-    ensures { OnOk result (line_bytes out.new ≡ line_bytes out.old ++ table_text schema.now table.now) }
+    ensures { OnOk result (Gains out.old out.new (table_text schema.now table.now)) }
 {
     out.push_str(",\"schema\":")?;
     quoter.append(out, schema)?;

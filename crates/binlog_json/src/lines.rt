@@ -23,6 +23,7 @@ impl Line {
     ghost use Rattle.binlog_table.specs.Decimal.{digits_of};
     ghost use Rattle.binlog_json.specs.Texts.{digits_text};
     ghost use Rattle.binlog_json.specs.LineBytes.{line_bytes};
+    ghost use Rattle.binlog_json.specs.Growth.{GainsOrStays};
 
     /// An empty text. It takes no memory.
     pub(crate) fn new(alloc: Global) -> Line
@@ -100,7 +101,7 @@ impl Line {
     #[inline(always)]
     pub(crate) fn push(&mut self, byte: u8) -> Result<(), AllocError>
         requires { byte < 128 }
-        ensures bytes { line_bytes self.new ≡ (if is_ok result then line_bytes self.old ++ byte ∷ [] else line_bytes self.old) }
+        ensures bytes { GainsOrStays self.old self.new result (byte ∷ []) }
     {
         self.make_room(1)?;
         self.len = put_byte(self.bytes.as_mut_slice(), self.len, byte);
@@ -110,7 +111,7 @@ impl Line {
     /// Appends a text: all of it, or nothing where a growth was refused.
     #[inline(always)]
     pub(crate) fn push_str(&mut self, text: &str) -> Result<(), AllocError>
-        ensures bytes { line_bytes self.new ≡ (if is_ok result then line_bytes self.old ++ text.now else line_bytes self.old) }
+        ensures bytes { GainsOrStays self.old self.new result text.now }
     {
         let text = text.as_bytes();
         self.make_room(text.len())?;
@@ -126,7 +127,7 @@ impl Line {
         text: &[u8; LEN],
     ) -> Result<(), AllocError>
         requires { IsUtf8 text.now }
-        ensures bytes { line_bytes self.new ≡ (if is_ok result then line_bytes self.old ++ text.now else line_bytes self.old) }
+        ensures bytes { GainsOrStays self.old self.new result text.now }
     {
         self.make_room(LEN)?;
         self.len = put_at_once(self.bytes.as_mut_slice(), self.len, text);
@@ -136,7 +137,7 @@ impl Line {
     /// Appends a number in decimal digits: all of them, or nothing where a growth was refused. They are written where they stand.
     #[inline(always)]
     pub(crate) fn push_number(&mut self, number: u64) -> Result<(), AllocError>
-        ensures bytes { line_bytes self.new ≡ (if is_ok result then line_bytes self.old ++ decimal number else line_bytes self.old) }
+        ensures bytes { GainsOrStays self.old self.new result (decimal number) }
     {
         let count = count_digits(number);
         self.make_room(count)?;
@@ -150,7 +151,7 @@ impl Line {
     pub(crate) fn push_first(&mut self, text: &[u8], count: usize) -> Result<(), AllocError>
         requires count { count ≤ length text.now }
         requires utf8 { IsUtf8 (take count text.now) }
-        ensures bytes { line_bytes self.new ≡ (if is_ok result then line_bytes self.old ++ take count text.now else line_bytes self.old) }
+        ensures bytes { GainsOrStays self.old self.new result (take count text.now) }
     {
         if count > 16 || text.len() < 16 {
             return self.push_str(unsafe { str::from_utf8_unchecked(&text[..count]) });
@@ -163,7 +164,7 @@ impl Line {
     /// Appends the last digits of a number: so many, or nothing where a growth was refused.
     #[inline(always)]
     pub(crate) fn push_digits(&mut self, number: u64, width: usize) -> Result<(), AllocError>
-        ensures bytes { line_bytes self.new ≡ (if is_ok result then line_bytes self.old ++ digits_text (digits_of width number) else line_bytes self.old) }
+        ensures bytes { GainsOrStays self.old self.new result (digits_text (digits_of width number)) }
     {
         self.make_room(width)?;
         self.len = put_digits(self.bytes.as_mut_slice(), self.len, number, width);

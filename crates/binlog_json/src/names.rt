@@ -1,10 +1,9 @@
 //! The texts of ENUM and SET values, by the names that the table map has for them.
-ghost use Rattle.std.specs.Prelude.{◌≡◌, ℕ, ◌<◌, ◌++◌, ◌||◌, List, [], map, length, unwrap_or, if◌then◌else◌, IfOk, OnOk, MatchOption};
-ghost use Rattle.std.specs.List.{join_with_byte};
-ghost use Rattle.binlog_table.specs.MapWords.{value_names_in};
-ghost use Rattle.binlog_json.specs.Json.{Data};
-ghost use Rattle.binlog_json.specs.Values.{whole_number, enum_by, set_by, members_in};
-ghost use Rattle.binlog_json.specs.Joining.{comma_if};
+ghost use Rattle.std.specs.Prelude.{◌≡◌, ◌<◌, ◌++◌, ◌||◌, length, IfOk, OnOk};
+ghost use Rattle.binlog_json.specs.Joining.{comma_if, member_if};
+ghost use Rattle.binlog_json.specs.Encodings.{texts_of};
+ghost use Rattle.binlog_json.specs.Growth.{Gathers};
+ghost use Rattle.binlog_json.specs.NamedValues.{NamesEnum, NamesSet, known_members, known_members_text, known_names};
 
 use binlog_table::RowView;
 use std::alloc::{AllocError, Global};
@@ -12,9 +11,7 @@ use std::alloc::{AllocError, Global};
 /// The name of an ENUM's value, however it is given. None where the value is written as its number.
 pub(crate) fn enum_name<'a>(image: &RowView<'a>, column: usize, number: u16) -> Option<&'a [u8]>
     requires { column < length image.now.table.columns }
-    ensures { (given : List ℕ → Data) → MatchOption result
-        (enum_by given (value_names_in image.now.table column) number ≡ whole_number number)
-        (λ name. enum_by given (value_names_in image.now.table column) number ≡ given name.now) }
+    ensures { NamesEnum (known_names image.now column) number result }
 {
     let _ = image.value_name_count(column)?;
     if number == 0 {
@@ -26,10 +23,7 @@ pub(crate) fn enum_name<'a>(image: &RowView<'a>, column: usize, number: u16) -> 
 /// Whether each bit of a SET's value has a name, however the names are given. Where one has none, the value is written as its number.
 pub(crate) fn is_named(image: &RowView<'_>, column: usize, number: u64) -> bool
     requires { column < length image.now.table.columns }
-    ensures { (given : List (List ℕ) → Data) → set_by given (value_names_in image.now.table column) number
-        ≡ (if result
-        then given (members_in (unwrap_or (value_names_in image.now.table column) []) number)
-        else whole_number number) }
+    ensures { NamesSet (known_names image.now column) number result }
 {
     match image.value_name_count(column) {
         None => false,
@@ -45,8 +39,7 @@ pub(crate) fn members_of<'a>(
     number: u64,
 ) -> Result<Vec<&'a [u8]>, AllocError>
     requires { column < length image.now.table.columns }
-    ensures { IfOk result (λ members. map (λ name. name.now) members.items
-        ≡ members_in (unwrap_or (value_names_in image.now.table column) []) number) }
+    ensures { IfOk result (λ members. texts_of members.items ≡ known_members image.now column number) }
 {
     let mut members = Vec::new(alloc);
     let mut rest = number;
@@ -70,8 +63,7 @@ pub(crate) fn append_names(
     number: u64,
 ) -> Result<(), AllocError>
     requires { column < length image.now.table.columns }
-    ensures { OnOk result (text.new.items ≡ text.old.items ++ join_with_byte 44
-        (members_in (unwrap_or (value_names_in image.now.table column) []) number)) }
+    ensures { OnOk result (Gathers text.old text.new (known_members_text image.now column number)) }
 {
     let mut rest = number;
     let mut later = false;
@@ -92,8 +84,7 @@ pub(crate) fn append_member(
     is_member: bool,
     name: &[u8],
 ) -> Result<bool, AllocError>
-    ensures text { OnOk result (text.new.items
-        ≡ text.old.items ++ (if is_member then comma_if later ++ name.now else [])) }
+    ensures text { OnOk result (Gathers text.old text.new (member_if is_member later name.now)) }
     ensures later { IfOk result (λ now. now ≡ (is_member || later)) }
 {
     if !is_member {
@@ -104,7 +95,7 @@ pub(crate) fn append_member(
 }
 
 fn append_name(text: &mut Vec<u8>, later: bool, name: &[u8]) -> Result<(), AllocError>
-    ensures { OnOk result (text.new.items ≡ text.old.items ++ (comma_if later ++ name.now)) }
+    ensures { OnOk result (Gathers text.old text.new (comma_if later ++ name.now)) }
 {
     if later {
         text.push(b',')?;

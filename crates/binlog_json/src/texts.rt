@@ -1,11 +1,11 @@
 //! Decimals, dates and times as strings of JSON, at the end of a text. None of their characters needs an escape.
-ghost use Rattle.std.specs.Prelude.{◌≡◌, ◌++◌, ◌∷◌, [], ◌==◌, OnOk};
+ghost use Rattle.std.specs.Prelude.{◌≡◌, ◌==◌, OnOk};
 ghost use Rattle.std.specs.List.{list_all};
-ghost use Rattle.json.specs.Print.{quoted};
 ghost use Rattle.binlog_table.specs.DecimalParts.{IsSplit};
 ghost use Rattle.binlog_table.specs.DecimalShown.{decimal_view};
 ghost use Rattle.binlog_json.specs.Texts.{sign_text, padded, decimal_text, day_text, clock_text, date_text, date_time_text, time_text, timestamp_text};
-ghost use Rattle.binlog_json.specs.LineBytes.{line_bytes};
+ghost use Rattle.binlog_json.specs.Growth.{Gains, Quotes};
+ghost use Rattle.binlog_json.specs.Unescaped.{StandsAsIs};
 
 use crate::append::append_number;
 use crate::digits::{pair, push_behind_point, push_fraction, push_padded, push_part, push_scaled};
@@ -14,10 +14,8 @@ use binlog_table::{Date, DateTime, DecimalView, Time, Timestamp};
 use std::alloc::AllocError;
 
 fn push_decimal(text: &mut Line, decimal: DecimalView<'_>) -> Result<(), AllocError>
-    ensures text { OnOk result ((line_bytes text.new)
-        ≡ line_bytes text.old ++ decimal_text (decimal_view decimal.entry)) }
-    ensures as_is { OnOk result (quoted (decimal_text (decimal_view decimal.entry))
-        ≡ 34 ∷ (decimal_text (decimal_view decimal.entry) ++ 34 ∷ [])) }
+    ensures text { OnOk result (Gains text.old text.new (decimal_text (decimal_view decimal.entry))) }
+    ensures as_is { OnOk result (StandsAsIs (decimal_text (decimal_view decimal.entry))) }
 {
     match decimal.split() {
         Some((whole, fraction)) => push_split(text, decimal, whole, fraction),
@@ -33,8 +31,7 @@ fn push_split(
     fraction: u64,
 ) -> Result<(), AllocError>
     requires { IsSplit (decimal_view decimal) whole fraction }
-    ensures { OnOk result ((line_bytes text.new)
-        ≡ line_bytes text.old ++ decimal_text (decimal_view decimal.entry)) }
+    ensures { OnOk result (Gains text.old text.new (decimal_text (decimal_view decimal.entry))) }
 {
     push_sign(text, decimal.is_negative() && (whole != 0 || fraction != 0))?;
     append_number(text, whole)?;
@@ -44,10 +41,8 @@ fn push_split(
 /// A decimal of any number of digits.
 #[inline(never)]
 fn push_long_decimal(text: &mut Line, decimal: DecimalView<'_>) -> Result<(), AllocError>
-    ensures text { OnOk result ((line_bytes text.new)
-        ≡ line_bytes text.old ++ decimal_text (decimal_view decimal.entry)) }
-    ensures as_is { OnOk result (quoted (decimal_text (decimal_view decimal.entry))
-        ≡ 34 ∷ (decimal_text (decimal_view decimal.entry) ++ 34 ∷ [])) }
+    ensures text { OnOk result (Gains text.old text.new (decimal_text (decimal_view decimal.entry))) }
+    ensures as_is { OnOk result (StandsAsIs (decimal_text (decimal_view decimal.entry))) }
 {
     let digits = decimal.digits();
     let digits = digits.as_slice();
@@ -62,7 +57,7 @@ fn are_zeros(digits: &[u8]) -> bool
 }
 
 fn push_sign(text: &mut Line, is_negative: bool) -> Result<(), AllocError>
-    ensures { OnOk result (line_bytes text.new ≡ line_bytes text.old ++ sign_text is_negative) }
+    ensures { OnOk result (Gains text.old text.new (sign_text is_negative)) }
 {
     if is_negative {
         text.push(b'-')?;
@@ -72,8 +67,7 @@ fn push_sign(text: &mut Line, is_negative: bool) -> Result<(), AllocError>
 
 /// A day, of which a number may have more digits than its place.
 fn push_wide_day(text: &mut Line, year: u32, month: u8, day: u8) -> Result<(), AllocError>
-    ensures { OnOk result ((line_bytes text.new)
-        ≡ line_bytes text.old ++ day_text year month day) }
+    ensures { OnOk result (Gains text.old text.new (day_text year month day)) }
 {
     push_padded(text, year, 4)?;
     push_part(text, b'-', month)?;
@@ -81,8 +75,7 @@ fn push_wide_day(text: &mut Line, year: u32, month: u8, day: u8) -> Result<(), A
 }
 
 fn push_day(text: &mut Line, year: u32, month: u8, day: u8) -> Result<(), AllocError>
-    ensures { OnOk result ((line_bytes text.new)
-        ≡ line_bytes text.old ++ day_text year month day) }
+    ensures { OnOk result (Gains text.old text.new (day_text year month day)) }
 {
     if year >= 10_000 || month >= 100 || day >= 100 {
         return push_wide_day(text, year, month, day);
@@ -99,8 +92,7 @@ fn push_day(text: &mut Line, year: u32, month: u8, day: u8) -> Result<(), AllocE
 
 /// A time of day, of which a number may have more digits than its place.
 fn push_wide_clock(text: &mut Line, hour: u16, minute: u8, second: u8) -> Result<(), AllocError>
-    ensures { OnOk result ((line_bytes text.new)
-        ≡ line_bytes text.old ++ clock_text hour minute second) }
+    ensures { OnOk result (Gains text.old text.new (clock_text hour minute second)) }
 {
     push_padded(text, u32::from(hour), 2)?;
     push_part(text, b':', minute)?;
@@ -108,8 +100,7 @@ fn push_wide_clock(text: &mut Line, hour: u16, minute: u8, second: u8) -> Result
 }
 
 fn push_clock(text: &mut Line, hour: u16, minute: u8, second: u8) -> Result<(), AllocError>
-    ensures { OnOk result ((line_bytes text.new)
-        ≡ line_bytes text.old ++ clock_text hour minute second) }
+    ensures { OnOk result (Gains text.old text.new (clock_text hour minute second)) }
 {
     if hour >= 100 || minute >= 100 || second >= 100 {
         return push_wide_clock(text, hour, minute, second);
@@ -124,7 +115,7 @@ fn push_clock(text: &mut Line, hour: u16, minute: u8, second: u8) -> Result<(), 
 }
 
 fn push_date_time(text: &mut Line, time: DateTime) -> Result<(), AllocError>
-    ensures { OnOk result (line_bytes text.new ≡ line_bytes text.old ++ date_time_text time) }
+    ensures { OnOk result (Gains text.old text.new (date_time_text time)) }
 {
     push_day(text, time.year, time.month, time.day)?;
     text.push(b' ')?;
@@ -133,7 +124,7 @@ fn push_date_time(text: &mut Line, time: DateTime) -> Result<(), AllocError>
 }
 
 fn push_time(text: &mut Line, time: Time) -> Result<(), AllocError>
-    ensures { OnOk result (line_bytes text.new ≡ line_bytes text.old ++ time_text time) }
+    ensures { OnOk result (Gains text.old text.new (time_text time)) }
 {
     push_sign(text, time.negative)?;
     push_clock(text, time.hour, time.minute, time.second)?;
@@ -141,7 +132,7 @@ fn push_time(text: &mut Line, time: Time) -> Result<(), AllocError>
 }
 
 fn push_timestamp(text: &mut Line, time: Timestamp) -> Result<(), AllocError>
-    ensures { OnOk result (line_bytes text.new ≡ line_bytes text.old ++ timestamp_text time) }
+    ensures { OnOk result (Gains text.old text.new (timestamp_text time)) }
 {
     append_number(text, u64::from(time.seconds))?;
     push_fraction(text, time.precision, time.fraction)
@@ -150,7 +141,7 @@ fn push_timestamp(text: &mut Line, time: Timestamp) -> Result<(), AllocError>
 /// A decimal in quotes.
 #[inline(never)]
 pub(crate) fn append_decimal(out: &mut Line, decimal: DecimalView<'_>) -> Result<(), AllocError>
-    ensures { OnOk result (line_bytes out.new ≡ line_bytes out.old ++ quoted (decimal_text (decimal_view decimal.entry))) }
+    ensures { OnOk result (Quotes out.old out.new (decimal_text (decimal_view decimal.entry))) }
 {
     out.push(b'"')?;
     push_decimal(out, decimal)?;
@@ -160,7 +151,7 @@ pub(crate) fn append_decimal(out: &mut Line, decimal: DecimalView<'_>) -> Result
 /// A year in quotes.
 #[inline(never)]
 pub(crate) fn append_year(out: &mut Line, year: u16) -> Result<(), AllocError>
-    ensures { OnOk result (line_bytes out.new ≡ line_bytes out.old ++ quoted (padded 4 year)) }
+    ensures { OnOk result (Quotes out.old out.new (padded 4 year)) }
 {
     out.push(b'"')?;
     push_padded(out, u32::from(year), 4)?;
@@ -170,7 +161,7 @@ pub(crate) fn append_year(out: &mut Line, year: u16) -> Result<(), AllocError>
 /// A date in quotes.
 #[inline(never)]
 pub(crate) fn append_date(out: &mut Line, date: Date) -> Result<(), AllocError>
-    ensures { OnOk result (line_bytes out.new ≡ line_bytes out.old ++ quoted (date_text date)) }
+    ensures { OnOk result (Quotes out.old out.new (date_text date)) }
 {
     out.push(b'"')?;
     push_day(out, u32::from(date.year), date.month, date.day)?;
@@ -180,7 +171,7 @@ pub(crate) fn append_date(out: &mut Line, date: Date) -> Result<(), AllocError>
 /// A day and a time of day in quotes.
 #[inline(never)]
 pub(crate) fn append_date_time(out: &mut Line, time: DateTime) -> Result<(), AllocError>
-    ensures { OnOk result (line_bytes out.new ≡ line_bytes out.old ++ quoted (date_time_text time)) }
+    ensures { OnOk result (Quotes out.old out.new (date_time_text time)) }
 {
     out.push(b'"')?;
     push_date_time(out, time)?;
@@ -190,7 +181,7 @@ pub(crate) fn append_date_time(out: &mut Line, time: DateTime) -> Result<(), All
 /// A time in quotes.
 #[inline(never)]
 pub(crate) fn append_time(out: &mut Line, time: Time) -> Result<(), AllocError>
-    ensures { OnOk result (line_bytes out.new ≡ line_bytes out.old ++ quoted (time_text time)) }
+    ensures { OnOk result (Quotes out.old out.new (time_text time)) }
 {
     out.push(b'"')?;
     push_time(out, time)?;
@@ -200,7 +191,7 @@ pub(crate) fn append_time(out: &mut Line, time: Time) -> Result<(), AllocError>
 /// Seconds since 1970 in quotes.
 #[inline(never)]
 pub(crate) fn append_timestamp(out: &mut Line, time: Timestamp) -> Result<(), AllocError>
-    ensures { OnOk result (line_bytes out.new ≡ line_bytes out.old ++ quoted (timestamp_text time)) }
+    ensures { OnOk result (Quotes out.old out.new (timestamp_text time)) }
 {
     out.push(b'"')?;
     push_timestamp(out, time)?;

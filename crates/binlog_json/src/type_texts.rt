@@ -3,7 +3,7 @@ ghost use Rattle.std.specs.Prelude.{◌≡◌, ◌++◌, ◌∷◌, [], OnOk};
 ghost use Rattle.std.specs.Option.{option_or};
 ghost use Rattle.binlog_types.specs.ColumnTypes.{is_named};
 ghost use Rattle.binlog_json.specs.TypeTexts.{is_bytes, size_text, fraction_size, sign_of, lob_size, number_name, is_number, other_name, bytes_name, text_name, has_charset, charset_type, type_text};
-ghost use Rattle.binlog_json.specs.LineBytes.{line_bytes};
+ghost use Rattle.binlog_json.specs.Growth.{Gains};
 
 use crate::append::append_number;
 use crate::full_values::is_binary;
@@ -12,7 +12,7 @@ use binlog_types::{ColumnType, charset_name, encoding_of};
 use std::alloc::AllocError;
 
 fn append_size(out: &mut Line, size: u16) -> Result<(), AllocError>
-    ensures { OnOk result (line_bytes out.new ≡ line_bytes out.old ++ size_text size) }
+    ensures { OnOk result (Gains out.old out.new (size_text size)) }
 {
     out.push_str("(")?;
     append_number(out, u64::from(size))?;
@@ -20,7 +20,7 @@ fn append_size(out: &mut Line, size: u16) -> Result<(), AllocError>
 }
 
 fn append_fraction(out: &mut Line, size: u16) -> Result<(), AllocError>
-    ensures { OnOk result (line_bytes out.new ≡ line_bytes out.old ++ fraction_size size) }
+    ensures { OnOk result (Gains out.old out.new (fraction_size size)) }
 {
     if size == 0 {
         return Ok(());
@@ -72,21 +72,21 @@ fn has_charset(code: u8) -> bool
 }
 
 fn append_sized(out: &mut Line, name: &str, size: u16) -> Result<(), AllocError>
-    ensures { OnOk result (line_bytes out.new ≡ line_bytes out.old ++ (name.now ++ size_text size)) }
+    ensures { OnOk result (Gains out.old out.new (name.now ++ size_text size)) }
 {
     out.push_str(name)?;
     append_size(out, size)
 }
 
 fn append_fractional(out: &mut Line, name: &str, size: u16) -> Result<(), AllocError>
-    ensures { OnOk result (line_bytes out.new ≡ line_bytes out.old ++ (name.now ++ fraction_size size)) }
+    ensures { OnOk result (Gains out.old out.new (name.now ++ fraction_size size)) }
 {
     out.push_str(name)?;
     append_fraction(out, size)
 }
 
 fn append_other(out: &mut Line, column_type: &ColumnType) -> Result<(), AllocError>
-    ensures { OnOk result (line_bytes out.new ≡ line_bytes out.old ++ other_name column_type.now) }
+    ensures { OnOk result (Gains out.old out.new (other_name column_type.now)) }
 {
     let size = column_type.size;
     match column_type.code {
@@ -103,14 +103,14 @@ fn append_other(out: &mut Line, column_type: &ColumnType) -> Result<(), AllocErr
 }
 
 fn append_two(out: &mut Line, first: &str, second: &str) -> Result<(), AllocError>
-    ensures { OnOk result (line_bytes out.new ≡ line_bytes out.old ++ (first.now ++ second.now)) }
+    ensures { OnOk result (Gains out.old out.new (first.now ++ second.now)) }
 {
     out.push_str(first)?;
     out.push_str(second)
 }
 
 fn append_bytes_name(out: &mut Line, column_type: &ColumnType) -> Result<(), AllocError>
-    ensures { OnOk result (line_bytes out.new ≡ line_bytes out.old ++ bytes_name column_type.now) }
+    ensures { OnOk result (Gains out.old out.new (bytes_name column_type.now)) }
 {
     match column_type.code {
         252 => append_two(out, lob_size(column_type.size), "blob"),
@@ -120,7 +120,7 @@ fn append_bytes_name(out: &mut Line, column_type: &ColumnType) -> Result<(), All
 }
 
 fn append_text_name(out: &mut Line, column_type: &ColumnType) -> Result<(), AllocError>
-    ensures { OnOk result (line_bytes out.new ≡ line_bytes out.old ++ text_name column_type.now) }
+    ensures { OnOk result (Gains out.old out.new (text_name column_type.now)) }
 {
     match column_type.code {
         252 => append_two(out, lob_size(column_type.size), "text"),
@@ -148,7 +148,7 @@ fn is_named(code: u8) -> bool
 }
 
 fn append_charset_type(out: &mut Line, column_type: &ColumnType) -> Result<(), AllocError>
-    ensures { OnOk result (line_bytes out.new ≡ line_bytes out.old ++ charset_type column_type.now) }
+    ensures { OnOk result (Gains out.old out.new (charset_type column_type.now)) }
 {
     if is_bytes(column_type) {
         return append_bytes_name(out, column_type);
@@ -162,7 +162,7 @@ fn append_charset_type(out: &mut Line, column_type: &ColumnType) -> Result<(), A
 
 fn append_decimal_type(out: &mut Line, column_type: &ColumnType) -> Result<(), AllocError>
     requires { column_type.now.code ≡ 246 }
-    ensures { OnOk result (line_bytes out.new ≡ line_bytes out.old ++ type_text column_type.now) }
+    ensures { OnOk result (Gains out.old out.new (type_text column_type.now)) }
 {
     out.push_str("decimal(")?;
     append_number(out, u64::from(column_type.size))?;
@@ -173,7 +173,7 @@ fn append_decimal_type(out: &mut Line, column_type: &ColumnType) -> Result<(), A
 
 /// The text of a type.
 pub(crate) fn append_type(out: &mut Line, column_type: &ColumnType) -> Result<(), AllocError>
-    ensures { OnOk result (line_bytes out.new ≡ line_bytes out.old ++ type_text column_type.now) }
+    ensures { OnOk result (Gains out.old out.new (type_text column_type.now)) }
 {
     let code = column_type.code;
     if is_number(code) {

@@ -1,23 +1,22 @@
 //! Values of columns as JSON, at the end of a text.
-ghost use Rattle.std.specs.Prelude.{◌≡◌, ◌<◌, ◌++◌, ◌∷◌, [], codes, length, OnOk};
+ghost use Rattle.std.specs.Prelude.{◌<◌, ◌++◌, ◌∷◌, [], codes, length, OnOk};
 ghost use Rattle.json.specs.Print.{quoted};
 ghost use Rattle.base64.specs.Engines.{standard};
 ghost use Rattle.base64.specs.GeneralPurpose.{encode_of};
-ghost use Rattle.binlog_json.specs.Json.{compact_text};
-ghost use Rattle.binlog_table.specs.Value.{view as cell_view};
-ghost use Rattle.binlog_table.specs.MapWords.{value_names_in};
-ghost use Rattle.binlog_json.specs.Values.{content_data, bytes_data, encoded_data, enum_data, set_data};
-ghost use Rattle.binlog_json.specs.LineBytes.{line_bytes};
+ghost use Rattle.binlog_json.specs.Values.{bytes_data, encoded_data, enum_data, set_data};
+ghost use Rattle.binlog_json.specs.FullValues.{in_base64};
+ghost use Rattle.binlog_json.specs.Growth.{Gains, Prints, Quotes};
+ghost use Rattle.binlog_json.specs.NamedValues.{cell_data, known_names};
 
 use crate::append::{Quoter, append_integer, append_number, append_plain};
 use crate::lines::Line;
 use crate::names::{append_names, enum_name, is_named};
-use crate::plain::is_plain;
 use crate::room::Room;
 use crate::texts::{
     append_date, append_date_time, append_decimal, append_time, append_timestamp, append_year,
 };
 use base64::engine::general_purpose::STANDARD;
+use binlog_documents::is_plain;
 use binlog_table::{Cell, RowView};
 use std::alloc::AllocError;
 
@@ -31,8 +30,7 @@ pub(crate) fn append_value(
     cell: &Cell<'_>,
 ) -> Result<(), AllocError>
     requires { column < length image.now.table.columns }
-    ensures { OnOk result (line_bytes out.new ≡ line_bytes out.old ++ compact_text
-        (content_data (value_names_in image.now.table column) (cell_view cell.now))) }
+    ensures { OnOk result (Prints out.old out.new (cell_data image.now column cell.now)) }
 {
     match cell {
         Cell::Absent | Cell::Null => out.push_str("null"),
@@ -60,8 +58,7 @@ fn append_enum(
     number: u16,
 ) -> Result<(), AllocError>
     requires { column < length image.now.table.columns }
-    ensures { OnOk result (line_bytes out.new ≡ line_bytes out.old ++ compact_text
-        (enum_data (value_names_in image.now.table column) number)) }
+    ensures { OnOk result (Prints out.old out.new (enum_data (known_names image.now column) number)) }
 {
     match enum_name(image, column, number) {
         None => append_number(out, u64::from(number)),
@@ -78,8 +75,7 @@ fn append_set(
     number: u64,
 ) -> Result<(), AllocError>
     requires { column < length image.now.table.columns }
-    ensures { OnOk result (line_bytes out.new ≡ line_bytes out.old ++ compact_text
-        (set_data (value_names_in image.now.table column) number)) }
+    ensures { OnOk result (Prints out.old out.new (set_data (known_names image.now column) number)) }
 {
     if !is_named(image, column, number) {
         return append_number(out, number);
@@ -91,7 +87,7 @@ fn append_set(
 
 #[inline(always)]
 fn append_bytes(out: &mut Line, room: &mut Room, bytes: &[u8]) -> Result<(), AllocError>
-    ensures { OnOk result (line_bytes out.new ≡ line_bytes out.old ++ compact_text (bytes_data bytes.now)) }
+    ensures { OnOk result (Prints out.old out.new (bytes_data bytes.now)) }
 {
     append_text(out, &mut room.quoter, &mut room.text, bytes)
 }
@@ -104,7 +100,7 @@ pub(crate) fn append_text(
     room: &mut String,
     bytes: &[u8],
 ) -> Result<(), AllocError>
-    ensures { OnOk result (line_bytes out.new ≡ line_bytes out.old ++ compact_text (bytes_data bytes.now)) }
+    ensures { OnOk result (Prints out.old out.new (bytes_data bytes.now)) }
 {
     if is_plain::<0x80>(bytes) {
         return append_plain(out, bytes);
@@ -120,7 +116,7 @@ fn append_any_text(
     room: &mut String,
     bytes: &[u8],
 ) -> Result<(), AllocError>
-    ensures { OnOk result (line_bytes out.new ≡ line_bytes out.old ++ compact_text (bytes_data bytes.now)) }
+    ensures { OnOk result (Prints out.old out.new (bytes_data bytes.now)) }
 {
     match str::from_utf8(bytes) {
         Ok(text) => quoter.append(out, text),
@@ -136,8 +132,7 @@ pub(crate) fn append_raw(
     room: &mut String,
     bytes: &[u8],
 ) -> Result<(), AllocError>
-    ensures { OnOk result ((line_bytes out.new)
-        ≡ line_bytes out.old ++ compact_text (encoded_data (codes "raw") bytes.now)) }
+    ensures { OnOk result (Prints out.old out.new (encoded_data (codes "raw") bytes.now)) }
 {
     out.push_str("{\"raw\":")?;
     append_base64(out, quoter, room, bytes)?;
@@ -151,8 +146,7 @@ pub(crate) fn append_encoded(
     room: &mut String,
     bytes: &[u8],
 ) -> Result<(), AllocError>
-    ensures { OnOk result ((line_bytes out.new)
-        ≡ line_bytes out.old ++ compact_text (encoded_data (codes "base64") bytes.now)) }
+    ensures { OnOk result (Prints out.old out.new (in_base64 bytes.now)) }
 {
     out.push_str("{\"base64\":")?;
     append_base64(out, quoter, room, bytes)?;
@@ -167,8 +161,7 @@ pub(crate) fn append_base64(
     room: &mut String,
     bytes: &[u8],
 ) -> Result<(), AllocError>
-    ensures { OnOk result (line_bytes out.new
-        ≡ line_bytes out.old ++ quoted (encode_of standard bytes.now)) }
+    ensures { OnOk result (Quotes out.old out.new (encode_of standard bytes.now)) }
 {
     let mut shown = [0u8; 64];
     match STANDARD.encode_slice(bytes, &mut shown) {
@@ -187,8 +180,7 @@ fn append_long_base64(
     room: &mut String,
     bytes: &[u8],
 ) -> Result<(), AllocError>
-    ensures { OnOk result (line_bytes out.new
-        ≡ line_bytes out.old ++ quoted (encode_of standard bytes.now)) }
+    ensures { OnOk result (Quotes out.old out.new (encode_of standard bytes.now)) }
 {
     room.clear();
     STANDARD.encode_string(bytes, room)?;
@@ -201,7 +193,7 @@ pub(crate) fn append_member_name(
     quoter: &mut Quoter,
     name: &str,
 ) -> Result<(), AllocError>
-    ensures { OnOk result (line_bytes out.new ≡ line_bytes out.old ++ (quoted name.now ++ 58 ∷ [])) }
+    ensures { OnOk result (Gains out.old out.new (quoted name.now ++ 58 ∷ [])) }
 {
     quoter.append(out, name)?;
     out.push(b':')

@@ -1,6 +1,9 @@
 -- What becomes of a list of intervals to which those that a text names are appended.
-use Rattle.std.specs.Prelude.{◌≡◌, ℕ, List, ◌++◌, Option, Some, None, Result, Ok, Err, option_map}
+use Rattle.std.specs.Prelude.{◌≡◌, ℕ, List, [], ◌∷◌, ◌++◌, Option, Some, None, Result, Ok, Err, option_map}
+use Rattle.std.specs.Global.{Vec}
 use Rattle.binlog_select.specs.declared.interval.Interval.{Interval}
+use Rattle.binlog_select.specs.Parts.{parts}
+use Rattle.binlog_select.specs.SetText.{IsFirstBad, colon, hyphen, interval_of, intervals_of}
 use Rattle.binlog_select.specs.declared.set_fault.SetFault.{SetFault}
 use Rattle.binlog_select.specs.declared.set_fault.SetFault.TheVariants.{BadSet, OutOfMemory}
 
@@ -13,3 +16,19 @@ abbrev pub Appends : ℕ → Option (List Interval) → List Interval → List I
 Appends at read old new (Ok _) = appended old read ≡ Some new
 Appends at read old new (Err (BadSet k)) = (k ≡ at) × (read ≡ None)
 Appends at read old new (Err OutOfMemory) = Unit {0}
+
+-- the same of lists as they are kept
+abbrev pub AppendsRead : ℕ → Option (List Interval) → Vec Interval → Vec Interval → Result (Unit {0}) SetFault → Type 0
+AppendsRead at read old new result = Appends at read old.items new.items result
+
+-- the interval of a source that a text spells, as a list
+abbrev pub interval_in : ℕ → List ℕ → Option (List Interval)
+interval_in source text = option_map (λ i. i ∷ []) (interval_of source (parts hyphen text))
+
+-- and those that texts parted by colons spell
+abbrev pub all_intervals : ℕ → List ℕ → Option (List Interval)
+all_intervals source texts = intervals_of source (parts colon texts)
+
+-- a set is refused for the first of its elements that has no reading
+abbrev pub RefusesFirstBad : {A : Type 0} → List (List ℕ) → Result A SetFault → Type 0
+RefusesFirstBad texts result = (at : ℕ) → result ≡ Err (BadSet at) → IsFirstBad texts at

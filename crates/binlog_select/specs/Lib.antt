@@ -8,5 +8,6 @@ pub mod Names
 pub mod Parts
 pub mod SetForm
 pub mod SetText
+pub mod Spelling
 pub mod Text
 pub mod Token

@@ -1,7 +1,7 @@
 //! Numbers in decimal digits.
 
-ghost use Rattle.std.specs.Prelude.{◌≡◌, ◌≢◌, ℕ, ◌+◌, ◌-◌, ◌*◌, ◌<◌, ◌≤◌, ◌^◌, ◌++◌, SomeIff, MatchOption, decimal, string_bytes, OnOk, OnErr};
-ghost use Rattle.binlog_select.specs.Decimal.{number_of};
+ghost use Rattle.std.specs.Prelude.{◌≡◌, ◌+◌, ◌-◌, ◌*◌, ◌<◌, ◌≤◌, ◌^◌, ◌++◌, SomeIff, MatchOption, decimal, string_bytes, OnOk, OnErr};
+ghost use Rattle.binlog_select.specs.Decimal.{IsNoDecimal, number_of};
 
 use std::alloc::AllocError;
 
@@ -36,9 +36,7 @@ fn with_digit(value: u64, digit: u8) -> Option<u64>
 
 /// The number that a text writes without leading zeros.
 pub(crate) fn plain_number(digits: &[u8]) -> Option<u64>
-    ensures { MatchOption result
-        ((n : ℕ) → n < 2 ^ 64 → digits.now ≢ decimal n)
-        (λ n. digits.now ≡ decimal n) }
+    ensures { MatchOption result (IsNoDecimal digits.now) (λ n. digits.now ≡ decimal n) }
 {
     if digits.len() > 1 && digits[0] == b'0' {
         return None;

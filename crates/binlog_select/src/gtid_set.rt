@@ -1,10 +1,11 @@
 //! Sets of GTIDs: read from a text, written, and asked for a transaction.
-ghost use Rattle.std.specs.Prelude.{◌≡◌, ◌↔◌, ℕ, ◌++◌, Err, IfOk, MatchResult, OnOk, OnErr, IsTrue, List, string_bytes};
+ghost use Rattle.std.specs.Prelude.{◌≡◌, ◌↔◌, ℕ, IfOk, MatchResult, OnOk, OnErr, IsTrue, List, string_bytes};
 ghost use Rattle.binlog_select.specs.Gtid.{HasGtid};
 ghost use Rattle.binlog_select.specs.Intervals.{IsJoined, IsMember, SameNumbers};
 ghost use Rattle.binlog_select.specs.SetForm.{written};
-ghost use Rattle.binlog_select.specs.Text.{BeginsWith};
-ghost use Rattle.binlog_select.specs.SetText.{elements, IsSetText, IsFirstBad};
+ghost use Rattle.binlog_select.specs.Text.{BeginsWith, GrowsBy};
+ghost use Rattle.binlog_select.specs.SetText.{elements, IsSetText};
+ghost use Rattle.binlog_select.specs.Appending.{RefusesFirstBad};
 
 use crate::interval::Interval;
 use crate::joining::joined;
@@ -57,7 +58,7 @@ impl GtidSet {
     /// first element that isn't one.
     pub fn parse(alloc: Global, text: &str) -> Result<GtidSet, SetFault>
         ensures read { IfOk result (IsSetText text.now) }
-        ensures refused { (at : ℕ) → result ≡ Err (SetFault.BadSet at) → IsFirstBad (elements text.now) at }
+        ensures refused { RefusesFirstBad (elements text.now) result }
     {
         let mut intervals = read(alloc, text.as_bytes())?;
         intervals.sort_unstable();
@@ -72,7 +73,7 @@ impl GtidSet {
     /// After an error the text begins with what it held.
     pub fn write(&self, text: &mut String) -> Result<(), AllocError>
         ensures form { IsJoined self.now }
-        ensures ok { OnOk result (string_bytes text.new ≡ string_bytes text.old ++ written self.now) }
+        ensures ok { OnOk result (GrowsBy text.old text.new (written self.now)) }
         ensures err { OnErr result (BeginsWith (string_bytes text.new) (string_bytes text.old)) }
     {
         set_form::write(&self.intervals, text)

@@ -2,15 +2,13 @@
 
 ghost use Rattle.std.specs.Prelude.{◌≡◌, ◌<◌, ℕ, List, length, slice_index};
 ghost use Rattle.binlog_select.specs.Gtid.{source_number};
-ghost use Rattle.binlog_select.specs.Token.{IsTokenText};
+ghost use Rattle.binlog_select.specs.Spelling.{SpellsOneToken};
 
 use uuid::Uuid;
 
 /// A text spells at most one token.
 pub fn one_token()
-    ensures { (text file other_file : List ℕ) (position count other_position other_count : ℕ)
-        → IsTokenText text position count file → IsTokenText text other_position other_count other_file
-        → (position ≡ other_position) × (count ≡ other_count) × (file ≡ other_file) }
+    ensures { (text : List ℕ) → SpellsOneToken text }
 {}
 
 /// Two UUIDs with one number are one, so that a set's sources can be kept as numbers.

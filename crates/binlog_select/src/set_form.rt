@@ -1,9 +1,9 @@
 //! Writing a GTID set.
 
-ghost use Rattle.std.specs.Prelude.{◌≡◌, ◌∷◌, ◌++◌, OnOk, OnErr, string_bytes};
+ghost use Rattle.std.specs.Prelude.{◌≡◌, ◌∷◌, OnOk, OnErr, string_bytes};
 ghost use Rattle.binlog_select.specs.SetForm.{source_text, interval_text, next_text, next_texts, written};
 ghost use Rattle.binlog_select.specs.SetText.{colon};
-ghost use Rattle.binlog_select.specs.Text.{BeginsWith};
+ghost use Rattle.binlog_select.specs.Text.{BeginsWith, GrowsBy};
 
 use crate::decimal::push_number;
 use crate::interval::Interval;
@@ -12,7 +12,7 @@ use uuid::Uuid;
 
 /// Appends the written form of a set's intervals.
 pub(crate) fn write(intervals: &[Interval], text: &mut String) -> Result<(), AllocError>
-    ensures ok { OnOk result (string_bytes text.new ≡ string_bytes text.old ++ written intervals.now) }
+    ensures ok { OnOk result (GrowsBy text.old text.new (written intervals.now)) }
     ensures err { OnErr result (BeginsWith (string_bytes text.new) (string_bytes text.old)) }
 {
     let Some((first, rest)) = intervals.split_first() else {
@@ -25,7 +25,7 @@ pub(crate) fn write(intervals: &[Interval], text: &mut String) -> Result<(), All
 
 /// Appends the intervals behind one of a source.
 fn push_rest(text: &mut String, source: u128, rest: &[Interval]) -> Result<(), AllocError>
-    ensures ok { OnOk result (string_bytes text.new ≡ string_bytes text.old ++ next_texts source rest.now) }
+    ensures ok { OnOk result (GrowsBy text.old text.new (next_texts source rest.now)) }
     ensures err { OnErr result (BeginsWith (string_bytes text.new) (string_bytes text.old)) }
 {
     let mut source = source;
@@ -38,7 +38,7 @@ fn push_rest(text: &mut String, source: u128, rest: &[Interval]) -> Result<(), A
 
 /// Appends the interval behind one of a source.
 fn push_next(text: &mut String, source: u128, interval: Interval) -> Result<(), AllocError>
-    ensures ok { OnOk result (string_bytes text.new ≡ string_bytes text.old ++ next_text source interval) }
+    ensures ok { OnOk result (GrowsBy text.old text.new (next_text source interval)) }
     ensures err { OnErr result (BeginsWith (string_bytes text.new) (string_bytes text.old)) }
 {
     if interval.source != source {
@@ -50,7 +50,7 @@ fn push_next(text: &mut String, source: u128, interval: Interval) -> Result<(), 
 
 /// Appends a colon and an interval.
 fn push_interval(text: &mut String, interval: Interval) -> Result<(), AllocError>
-    ensures ok { OnOk result (string_bytes text.new ≡ string_bytes text.old ++ colon ∷ interval_text interval) }
+    ensures ok { OnOk result (GrowsBy text.old text.new (colon ∷ interval_text interval)) }
     ensures err { OnErr result (BeginsWith (string_bytes text.new) (string_bytes text.old)) }
 {
     text.push(':')?;
@@ -64,7 +64,7 @@ fn push_interval(text: &mut String, interval: Interval) -> Result<(), AllocError
 
 /// Appends a source.
 fn push_source(text: &mut String, source: u128) -> Result<(), AllocError>
-    ensures ok { OnOk result (string_bytes text.new ≡ string_bytes text.old ++ source_text source) }
+    ensures ok { OnOk result (GrowsBy text.old text.new (source_text source)) }
     ensures err { OnErr result (string_bytes text.new ≡ string_bytes text.old) }
 {
     let mut buffer = Uuid::encode_buffer();

@@ -1,10 +1,10 @@
 //! Reading the text of a GTID set.
 
-ghost use Rattle.std.specs.Prelude.{◌≡◌, ◌∷◌, [], ℕ, Some, Err, All, IfSome, IfOk, option_map, reverse};
-ghost use Rattle.binlog_select.specs.Appending.{Appends};
+ghost use Rattle.std.specs.Prelude.{◌≡◌, Some, Err, All, IfSome, IfOk, reverse};
+ghost use Rattle.binlog_select.specs.Appending.{AppendsRead, RefusesFirstBad, interval_in, all_intervals};
 ghost use Rattle.binlog_select.specs.Intervals.{IsInterval};
 ghost use Rattle.binlog_select.specs.Parts.{parts};
-ghost use Rattle.binlog_select.specs.SetText.{colon, comma, hyphen, is_blank, trimmed, without_leading_blanks, source_of, gtid_number, interval_of, intervals_of, intervals_in, elements, reading, IsFirstBad};
+ghost use Rattle.binlog_select.specs.SetText.{comma, hyphen, is_blank, trimmed, without_leading_blanks, source_of, gtid_number, interval_of, intervals_in, elements, reading};
 
 use crate::decimal::number;
 use crate::interval::Interval;
@@ -119,7 +119,7 @@ fn push_interval(
     at: usize,
 ) -> Result<(), SetFault>
     requires { All IsInterval intervals.old.items }
-    ensures read { Appends at (option_map (λ i. i ∷ []) (interval_of source (parts hyphen text.now))) intervals.old.items intervals.new.items result }
+    ensures read { AppendsRead at (interval_in source text.now) intervals.old intervals.new result }
     ensures valid { All IsInterval intervals.new.items }
 {
     let Some(interval) = interval_of(source, text) else {
@@ -137,7 +137,7 @@ fn push_intervals(
     at: usize,
 ) -> Result<(), SetFault>
     requires { All IsInterval intervals.old.items }
-    ensures read { Appends at (intervals_of source (parts colon texts.now)) intervals.old.items intervals.new.items result }
+    ensures read { AppendsRead at (all_intervals source texts.now) intervals.old intervals.new result }
     ensures valid { All IsInterval intervals.new.items }
 {
     let mut rest = texts;
@@ -151,7 +151,7 @@ fn push_intervals(
 /// Appends the intervals of an element, a source and its intervals, with or without blanks around it.
 fn push_element(intervals: &mut Vec<Interval>, element: &[u8], at: usize) -> Result<(), SetFault>
     requires { All IsInterval intervals.old.items }
-    ensures read { Appends at (intervals_in element.now) intervals.old.items intervals.new.items result }
+    ensures read { AppendsRead at (intervals_in element.now) intervals.old intervals.new result }
     ensures valid { All IsInterval intervals.new.items }
 {
     let Some((source, texts)) = split_once(trimmed(element), b':') else {
@@ -167,7 +167,7 @@ fn push_element(intervals: &mut Vec<Interval>, element: &[u8], at: usize) -> Res
 pub(crate) fn read(alloc: Global, text: &[u8]) -> Result<Vec<Interval>, SetFault>
     ensures read { IfOk result (λ v. reading (elements text.now) ≡ Some v.items) }
     ensures valid { IfOk result (λ v. All IsInterval v.items) }
-    ensures refused { (at : ℕ) → result ≡ Err (SetFault.BadSet at) → IsFirstBad (elements text.now) at }
+    ensures refused { RefusesFirstBad (elements text.now) result }
 {
     if trimmed(text).is_empty() {
         return Ok(Vec::new(alloc));
@@ -179,7 +179,7 @@ pub(crate) fn read(alloc: Global, text: &[u8]) -> Result<Vec<Interval>, SetFault
 fn read_elements(alloc: Global, text: &[u8]) -> Result<Vec<Interval>, SetFault>
     ensures read { IfOk result (λ v. reading (parts comma text.now) ≡ Some v.items) }
     ensures valid { IfOk result (λ v. All IsInterval v.items) }
-    ensures refused { (at : ℕ) → result ≡ Err (SetFault.BadSet at) → IsFirstBad (parts comma text.now) at }
+    ensures refused { RefusesFirstBad (parts comma text.now) result }
 {
     let mut intervals = Vec::new(alloc);
     let mut rest = text;

@@ -25,6 +25,7 @@ pub mod MapShown
 pub mod MapLists
 pub mod NameOrder
 pub mod ValueNamesShown
+pub mod NamedShown
 pub mod Walks
 pub mod DecimalReads
 pub mod MapReads

@@ -1,8 +1,9 @@
 //! The names of the values of ENUM and SET columns.
-ghost use Rattle.std.specs.Prelude.{◌≡◌, ◌≤◌, ◌+◌, ◌==◌, [], length, map, option_map, unwrap_or, IfOk, vec_len};
+ghost use Rattle.std.specs.Prelude.{◌≡◌, ◌==◌, [], length, map, unwrap_or, IfOk, vec_len};
 ghost use Rattle.binlog_table.specs.MapReads.{bytes_if};
 ghost use Rattle.binlog_table.specs.MapResult.{Gives};
-ghost use Rattle.binlog_table.specs.Names.{strings_at, list_in, value_names_of, value_names_at, value_names, used_up};
+ghost use Rattle.binlog_table.specs.Names.{strings_at, list_in, value_names_of, value_names};
+ghost use Rattle.binlog_table.specs.NamedShown.{named_view};
 ghost use Rattle.binlog_table.specs.ValueNamesShown.{names_view};
 
 use crate::column::{Column, Layout};
@@ -60,7 +61,7 @@ fn value_names_of<'a>(
     sets: Option<&'a [u8]>,
     enums: Option<&'a [u8]>,
 ) -> Result<Named<'a>, MapFault>
-    ensures { Gives (λ x. (names_view x.names, (bytes_if x.sets, bytes_if x.enums))) result (value_names_of layout.now (bytes_if sets.entry) (bytes_if enums.entry)) }
+    ensures { Gives named_view result (value_names_of layout.now (bytes_if sets.entry) (bytes_if enums.entry)) }
 {
     match layout {
         Layout::Set(_) => {

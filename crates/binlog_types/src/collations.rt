@@ -1,8 +1,7 @@
 //! The collations of a table's columns, by two optional fields of its map.
-ghost use Rattle.std.specs.Prelude.{◌≡◌, [], None, map, drop, slice_get, slice_index_or, IfOk};
-ghost use Rattle.std.specs.List.{range_with_len};
-ghost use Rattle.std.specs.Option.{option_or};
-ghost use Rattle.binlog_types.specs.ColumnTypes.{numbers_from, other_for, collation_at, collations_of};
+ghost use Rattle.std.specs.Prelude.{◌≡◌, None, IfOk};
+ghost use Rattle.binlog_types.specs.ColumnTypes.{numbers_from, collation_at, collations_of};
+ghost use Rattle.binlog_types.specs.Found.{collation_among, first_collations, others_below};
 
 use binlog_table::packed_at;
 use std::alloc::{AllocError, Global};
@@ -26,7 +25,7 @@ fn numbers_from(alloc: Global, most: usize, bytes: &[u8]) -> Result<Vec<u64>, Al
 /// For each index below the count, the number that stands behind it in the first of the pairs of both that is for it. A pair is
 /// looked at once, however many columns there are.
 fn others_of(alloc: Global, count: usize, pairs: &[u64]) -> Result<Vec<Option<u64>>, AllocError>
-    ensures { IfOk result (λ v. v.items ≡ map (λ index. other_for index pairs.now) (range_with_len 0 count)) }
+    ensures { IfOk result (λ v. v.items ≡ others_below count pairs.now) }
 {
     let mut others = vec![in alloc; None; count]?;
     let mut rest = pairs;
@@ -42,7 +41,7 @@ fn others_of(alloc: Global, count: usize, pairs: &[u64]) -> Result<Vec<Option<u6
 
 /// The collation by a column's own number, else by the pair that is for it, and else the usual one, the first of its field.
 fn collation_at(own: &[u64], others: &[Option<u64>], usual: &[u64], index: usize) -> Option<u64>
-    ensures { result ≡ option_or (slice_get own.now index) (option_or (slice_index_or others.now index None) (slice_get usual.now 0)) }
+    ensures { result ≡ collation_among own.now others.now usual.now index }
 {
     if let Some(collation) = own.get(index) {
         return Some(*collation);
@@ -60,7 +59,7 @@ pub(crate) fn collations_of(
     each: &[u8],
     usual: &[u8],
 ) -> Result<Vec<Option<u64>>, AllocError>
-    ensures { IfOk result (λ v. v.items ≡ map (collation_at (collations_of each.now usual.now)) (range_with_len 0 count)) }
+    ensures { IfOk result (λ v. v.items ≡ first_collations count (collations_of each.now usual.now)) }
 {
     let own = numbers_from(alloc, count.min(each.len()), each)?;
     let usual = numbers_from(alloc, usual.len(), usual)?;

@@ -8,11 +8,20 @@ Decimals =
     × Says "0f f6 07 0a 02 7f ff ff ff cd" "-0.50" × Says "0f f6 03 01 00 87" "7" × Says "0f f6 03 01 00 78" "-7" × Says "0f f6 03 01 01 85" "0.5"
     × Says "0f f6 0b 13 09 81 00 00 00 02 00 00 00 03" "1000000002.000000003"
 
--- digits beyond the group, a byte too many, one too few, a precision or a scale that no decimal has
+-- more digits than a column has: of an arithmetic result, and as many as there can be
+abbrev pub LongDecimals : Type 0
+LongDecimals =
+    Says "0f f6 11 20 1f 80 07 5b cd 15 00 bc 61 4e 35 b7 bf 87 22 c5" "0.1234567890123456789012345678901"
+    × Says "0f f6 26 51 00 44 65 36 00 c4 65 36 00 c4 65 36 00 c4 65 36 00 c4 65 36 00 c4 65 36 00 c4 65 36 00 c4 65 36 00 c4 65 36 00"
+    "-999999999999999999999999999999999999999999999999999999999999999999999999999999999"
+
+-- digits beyond the group, a byte too many, one too few, a precision or a scale that no decimal has, 82 digits
 abbrev pub NoDecimals : Type 0
 NoDecimals =
     Says "0f f6 03 01 00 8a" "{\"base64\":\"AQCK\",\"type\":246}" × Says "0f f6 04 01 00 87 00" "{\"base64\":\"AQCHAA==\",\"type\":246}" × Says "0f f6 02 01 00" "{\"base64\":\"AQA=\",\"type\":246}"
     × Says "0f f6 02 00 00" "{\"base64\":\"AAA=\",\"type\":246}" × Says "0f f6 03 01 02 87" "{\"base64\":\"AQKH\",\"type\":246}" × Says "0f f6 01 01" "{\"base64\":\"AQ==\",\"type\":246}" × Says "0f f6 00" "{\"base64\":\"\",\"type\":246}"
+    × Says "0f f6 27 52 00 89 3b 9a c9 ff 3b 9a c9 ff 3b 9a c9 ff 3b 9a c9 ff 3b 9a c9 ff 3b 9a c9 ff 3b 9a c9 ff 3b 9a c9 ff 3b 9a c9 ff"
+    "{\"base64\":\"UgCJO5rJ/zuayf87msn/O5rJ/zuayf87msn/O5rJ/zuayf87msn/\",\"type\":246}"
 
 abbrev pub DatesAndTimes : Type 0
 DatesAndTimes =

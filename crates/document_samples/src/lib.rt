@@ -3,7 +3,7 @@
 
 ghost use Rattle.document_samples.specs.Containers.{Arrays, Objects, Gaps, NoContainers, Overlaps, NoKeys};
 ghost use Rattle.document_samples.specs.Meanings.{JsonScalars, JsonOpaques, JsonContainers, NoMeanings, JsonByLaw};
-ghost use Rattle.document_samples.specs.Opaques.{Decimals, NoDecimals, DatesAndTimes, OtherTypes};
+ghost use Rattle.document_samples.specs.Opaques.{Decimals, LongDecimals, NoDecimals, DatesAndTimes, OtherTypes};
 ghost use Rattle.document_samples.specs.Scalars.{Literals, Integers, Doubles, Lengths, Texts, NoTypes};
 ghost use Rattle.document_samples.specs.Shapes.{Shapes, Depths};
 
@@ -30,6 +30,7 @@ pub fn sample_containers()
 /// Values of MySQL's other types.
 pub fn sample_opaques()
     ensures decimals { Decimals }
+    ensures long_decimals { LongDecimals }
     ensures no_decimals { NoDecimals }
     ensures dates_and_times { DatesAndTimes }
     ensures other_types { OtherTypes }

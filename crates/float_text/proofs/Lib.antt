@@ -9,3 +9,5 @@ pub mod Join
 pub mod Ascii
 pub mod Json
 pub mod Found
+pub mod Leading
+pub mod Alone

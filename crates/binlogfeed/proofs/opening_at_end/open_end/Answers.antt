@@ -3,7 +3,7 @@ use Rattle.binlogfeed.specs.Faults.{IsNamed, fault_of_opening}
 use Rattle.binlogfeed.specs.Looks.{told_at_end}
 use Rattle.binlogfeed.proofs.Beginning.{grows, still_failed, still_named}
 use Rattle.binlogfeed.proofs.BeginningAtEnd.{told_failed, told_named, told_refused}
-use Rattle.binlogfeed.proofs.Keeping.{source_kept_further, reads_failed_since}
+use Rattle.binlogfeed.proofs.Keeping.{reads_failed_since, source_kept_further, takes_from_first}
 use Rattle.binlogfeed.proofs.opening_at_end.open_end.Goals as goal
 
 pub ending-init : goal.ending-init
@@ -17,9 +17,9 @@ pub ending-preserved : goal.ending-preserved
 ending-preserved g c =
     let back = c.in-Err.ensures in
     record {
-      source = source_kept_further _ _ _ _ _ _ _ _ c.ending.invariant.source back.source_back;
-      filter = back.filter_back ∙ c.ending.invariant.filter;
-      token = back.token_back ∙ c.ending.invariant.token;
+      source = source_kept_further _ _ _ _ _ _ _ _ c.ending.invariant.source back.handed_back.source_back;
+      filter = back.handed_back.filter_back ∙ c.ending.invariant.filter;
+      token = back.handed_back.start_back ∙ c.ending.invariant.token;
     }
 
 pub ending-smaller : goal.ending-smaller
@@ -35,12 +35,9 @@ returns-in-Ok-open_at_end g c =
     let given = c.in-Ok-open_at_end.ensures in
     record {
       fits = λ h. rw (kept.same_names, kept.same_contents, c.ending.invariant.token) at (given.fits h);
-      goes_on = λ h. rw (kept.same_names, kept.same_contents, c.ending.invariant.token, c.ending.invariant.filter) at (given.goes_on h);
+      goes_on = λ h. rw (kept.same_names, kept.same_contents, c.ending.invariant.token, c.ending.invariant.filter) at (given.joins h);
       sound = given.sound;
-      differ = rw kept.same_names at given.differ;
-      names = given.names ∙ kept.same_names;
-      contents = given.contents ∙ kept.same_contents;
-      was_honest = λ h. kept.was_honest (given.was_honest h);
+      source = takes_from_first g.L.Logs c.args.logs c.ending.logs c.in-Ok-open_at_end.feed kept given.source;
       refused = tt;
       source_back = tt;
       named = tt;
@@ -62,12 +59,9 @@ returns-in-Err-larger_window g c =
       fits = tt;
       goes_on = tt;
       sound = tt;
-      differ = tt;
-      names = tt;
-      contents = tt;
-      was_honest = tt;
+      source = tt;
       refused = λ h. rw (kept.same_names, kept.same_contents, c.ending.invariant.token) at (told_refused names (g.L.Logs.contents c.ending.logs) c.ending.token fault why (back.refused h) ends);
-      source_back = source_kept_further _ _ _ _ _ _ _ _ kept back.source_back;
+      source_back = source_kept_further _ _ _ _ _ _ _ _ kept back.handed_back.source_back;
       named = told_named (g.L.Logs.names c.args.logs) why (subst (λ (list : List (List ℕ)). IsNamed list (fault_of_opening why)) kept.same_names (still_named names window before after fault why back.reason ends));
       failed = reads_failed_since (g.L.Logs.failures c.args.logs) before after (fault_of_opening (told_at_end why)) kept.no_fewer (told_failed before after why (still_failed names window before after fault why back.reason ends));
     })
