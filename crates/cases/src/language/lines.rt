@@ -112,11 +112,3 @@ pub fn only_word(words: &[String]) -> Result<&str, Refused> {
         _ => Err(Refused::BadPart),
     }
 }
-
-/// Appends texts, one behind the other.
-pub fn push_all(text: &mut String, parts: &[&str]) -> Result<(), AllocError> {
-    for part in parts {
-        text.push_str(part)?;
-    }
-    Ok(())
-}

@@ -1,6 +1,7 @@
 //! The verbs of a program of cases: what a line does with a case.
 use crate::language::case::Case;
 use crate::language::lines::Refused;
+use crate::language::page::Page;
 use crate::language::pieces::Pieces;
 use std::rt::Files;
 
@@ -14,6 +15,18 @@ pub enum Verdict {
 }
 
 impl Verdict {
+    /// The verdict over what was written, if all could be.
+    pub fn of_page(
+        case: &Case,
+        mut came: Page,
+        written: Result<(), Refused>,
+    ) -> Result<Verdict, Refused> {
+        if let Err(why) = written {
+            came.refuse(why);
+        }
+        Ok(Verdict::of(case, came.into_text()?))
+    }
+
     /// The verdict over one text.
     pub fn of(case: &Case, came: String) -> Verdict {
         if case.wants(came.as_str()) {

@@ -1,7 +1,8 @@
 //! Words of the command line: what they ask for, and the run that they order.
 use crate::language::{Case, Named, Page, Refused, Verdict};
-use crate::program::outcome::{How, Job, Key, run_files};
+use crate::program::outcome::{How, Outcome, prepared, run_changes, run_key, run_units};
 use crate::program::shown_orders::order_text;
+use binlog_frame::MemoryLogs;
 use binlogfeed::words::{Order, read_words};
 use binlogfeed::words_fault::{WordsFault, words_line, words_status};
 use std::alloc::Global;
@@ -34,28 +35,32 @@ fn files_named(alloc: Global, case: &Case, names: &[&str]) -> Result<Vec<Named>,
     Ok(files)
 }
 
-/// Does a job over the files of a case with these names, and says what came of it.
-fn perform_job(
+/// The files of a case with these names as a source, and a window.
+fn source_named(
     alloc: Global,
     case: &Case,
     names: &[&str],
-    job: Job<'_>,
     how: How,
-) -> Result<String, Refused> {
-    let files = files_named(alloc, case, names)?;
-    run_files(alloc, files, job, how)?.text(alloc)
+) -> Result<(MemoryLogs, Vec<u8>), Refused> {
+    prepared(alloc, files_named(alloc, case, names)?, how)
 }
 
-/// Does what an order asks for, over the case's files, and says what came of it.
-fn perform(alloc: Global, case: &Case, order: Order<'_>, how: How) -> Result<String, Refused> {
+/// Does what an order asks for, over the case's files.
+fn perform(alloc: Global, case: &Case, order: Order<'_>, how: How) -> Result<Outcome, Refused> {
     match order {
-        Order::Transactions { files } => perform_job(alloc, case, &files, Job::Transactions, how),
+        Order::Transactions { files } => {
+            let (logs, window) = source_named(alloc, case, &files, how)?;
+            run_units(alloc, logs, window, how.room)
+        }
         Order::Read {
             filter,
             start,
             files,
             ..
-        } => perform_job(alloc, case, &files, Job::Changes { filter, start }, how),
+        } => match source_named(alloc, case, &files, how) {
+            Ok((logs, window)) => run_changes(alloc, logs, filter, start, window, how.room),
+            Err(why) => Err(why),
+        },
         // A run that follows reads an input, which cases have none of.
         Order::Follow { .. } => Err(Refused::UnknownWord),
         Order::History {
@@ -65,13 +70,8 @@ fn perform(alloc: Global, case: &Case, order: Order<'_>, how: How) -> Result<Str
             files,
             ..
         } => {
-            let text = key.as_str();
-            let key = Key {
-                schema,
-                table,
-                text,
-            };
-            perform_job(alloc, case, &files, Job::History(key), how)
+            let (logs, window) = source_named(alloc, case, &files, how)?;
+            run_key(alloc, logs, (schema, table), key.as_str(), window, how.room)
         }
     }
 }
@@ -79,7 +79,7 @@ fn perform(alloc: Global, case: &Case, order: Order<'_>, how: How) -> Result<Str
 /// What comes of words that are carried out over a case's files.
 fn answer(alloc: Global, case: &Case, words: &[&str], how: How) -> Result<String, Refused> {
     match read_words(alloc, words) {
-        Ok(order) => perform(alloc, case, order, how),
+        Ok(order) => perform(alloc, case, order, how)?.text(alloc),
         Err(fault) => fault_text(alloc, &fault),
     }
 }

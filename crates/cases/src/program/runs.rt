@@ -1,8 +1,6 @@
 //! Runs over a case's files.
 use crate::language::{Case, Refused, Verdict, copies_of, only_word};
-use crate::program::outcome::{How, Job, Outcome, run_files};
-use binlog_feed::Start;
-use binlog_select::Filter;
+use crate::program::outcome::{How, Outcome, run_files};
 use std::alloc::Global;
 
 /// What is run.
@@ -22,21 +20,11 @@ impl Task {
             _ => Err(Refused::UnknownWord),
         }
     }
-
-    pub fn job(self) -> Job<'static> {
-        match self {
-            Task::Transactions => Job::Transactions,
-            Task::Changes => Job::Changes {
-                filter: Filter::new(),
-                start: Start::Beginning,
-            },
-        }
-    }
 }
 
 /// Runs over the files of a case once.
 pub fn run_once(alloc: Global, case: &Case, task: Task, how: How) -> Result<Outcome, Refused> {
-    run_files(alloc, copies_of(alloc, &case.files)?, task.job(), how)
+    run_files(alloc, copies_of(alloc, &case.files)?, task, how)
 }
 
 /// What comes of a run: all of it, or its measure alone.

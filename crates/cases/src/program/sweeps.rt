@@ -170,7 +170,7 @@ fn run_cut(alloc: Global, case: &Case, task: Task, length: usize) -> Result<Outc
     if let Some(last) = files.last_mut() {
         last.1.truncate(length);
     }
-    run_files(alloc, files, task.job(), How::of(case))
+    run_files(alloc, files, task, How::of(case))
 }
 
 /// The text that comes of a beginning: the first lines of the whole, as many as have their end there.

@@ -1,9 +1,8 @@
 //! Filters: which changes pass.
 use crate::language::{Page, Refused};
-use crate::readers::sets::{answer_of, gtid_of, set_of};
+use crate::readers::sets::{gtid_of, push_answer, set_of};
 use binlog_select::{ChangeKind, Filter, Kinds, Names};
 use std::alloc::Global;
-use uuid::Uuid;
 
 fn kind_of(word: &str) -> Result<ChangeKind, Refused> {
     match word {
@@ -105,42 +104,20 @@ fn set_words(alloc: Global, filter: &mut Filter, words: &[String]) -> Result<(),
     Ok(())
 }
 
-/// Whether a change of a kind, a table of a schema and a GTID passes a filter.
-fn is_passed(
-    filter: &Filter,
-    kind: &str,
-    table: (&str, &str),
-    gtid: Option<(Uuid, u64)>,
-) -> Result<bool, Refused> {
-    let (schema, table) = table;
-    Ok(filter.passes(kind_of(kind)?, schema, table, gtid))
-}
-
-/// The filter that words give its lists.
-fn filter_of(alloc: Global, words: &[String]) -> Result<Filter, Refused> {
-    let mut filter = Filter::new();
-    match set_words(alloc, &mut filter, words) {
-        Ok(()) => Ok(filter),
-        Err(why) => Err(why),
-    }
-}
-
-/// Whether a change of a kind, a schema, a table and a GTID passes a filter with the lists behind them.
-fn passes(alloc: Global, words: &[String]) -> Result<bool, Refused> {
+/// `passes KIND SCHEMA TABLE GTID LIST..`: whether such a change passes a filter with such lists.
+pub fn push_passes(alloc: Global, text: &mut Page, words: &[String]) -> Result<(), Refused> {
     let [kind, schema, table, gtid, lists @ ..] = words else {
         return Err(Refused::BadPart);
     };
+    let kind = kind_of(kind.as_str())?;
     let gtid = gtid_of(alloc, gtid.as_str())?;
-    let table = (schema.as_str(), table.as_str());
-    match filter_of(alloc, lists) {
-        Ok(filter) => is_passed(&filter, kind.as_str(), table, gtid),
-        Err(why) => Err(why),
-    }
-}
-
-/// `passes KIND SCHEMA TABLE GTID LIST..`: whether such a change passes such a filter.
-pub fn passes_text(alloc: Global, words: &[String]) -> Result<String, Refused> {
-    answer_of(alloc, passes(alloc, words)?)
+    let mut filter = Filter::new();
+    set_words(alloc, &mut filter, lists)?;
+    push_answer(
+        text,
+        filter.passes(kind, schema.as_str(), table.as_str(), gtid),
+    );
+    Ok(())
 }
 
 /// The set of these names.
@@ -152,17 +129,12 @@ fn set_of_names(alloc: Global, words: &[String]) -> Result<Names, Refused> {
     Ok(Names::from(names))
 }
 
-/// Names, a line each.
-fn show_names(alloc: Global, names: &[String]) -> Result<String, Refused> {
-    let mut text = Page::new(alloc);
-    for name in names {
+/// `name-set NAME..`: the names as a set of names gives them back, a line each.
+pub fn push_name_set(alloc: Global, text: &mut Page, words: &[String]) -> Result<(), Refused> {
+    let names = set_of_names(alloc, words)?.into_vec();
+    for name in &names {
         text.push_str(name.as_str());
         text.push('\n');
     }
-    text.into_text()
-}
-
-/// `name-set NAME..`: the names as a set of names gives them back, a line each.
-pub fn names_text(alloc: Global, words: &[String]) -> Result<String, Refused> {
-    show_names(alloc, &set_of_names(alloc, words)?.into_vec())
+    Ok(())
 }

@@ -138,46 +138,45 @@ fn gone_on(
 }
 
 /// `go-on LIST..`: all that a feed of the first list gives, and what it gives when it goes on over each further one.
-pub fn going_on_text(alloc: Global, case: &Case, words: &[String]) -> Result<String, Refused> {
+pub fn push_going_on(
+    alloc: Global,
+    text: &mut Page,
+    case: &Case,
+    words: &[String],
+) -> Result<(), Refused> {
     let Some((first, further)) = words.split_first() else {
         return Err(Refused::BadPart);
     };
-    let mut text = Page::new(alloc);
     let mut feed = feed_at(alloc, case, first.as_str())?;
-    tell_all(alloc, &mut feed, &mut text)?;
+    tell_all(alloc, &mut feed, text)?;
     for word in further {
-        feed = gone_on(alloc, case, feed, word.as_str(), &mut text)?;
+        feed = gone_on(alloc, case, feed, word.as_str(), text)?;
     }
-    text.into_text()
+    Ok(())
 }
 
-/// All that a feed gives that begins behind the last whole unit of a token's file; or why it wasn't opened.
-fn tell_behind(
+/// `at-end TOKEN LIST`: all that a feed of a list gives that begins behind the last whole unit of the token's file; or why it wasn't
+/// opened.
+pub fn push_at_end(
     alloc: Global,
-    logs: MemoryLogs,
-    token: Token,
-    window: Vec<u8>,
-) -> Result<String, Refused> {
-    let mut text = Page::new(alloc);
-    match Feed::open_at_end(alloc, logs, Filter::new(), token, window) {
-        Ok(mut feed) => tell_all(alloc, &mut feed, &mut text)?,
-        Err((fault, _logs, _filter, _token, _window)) => {
-            text.push_debug(&fault);
-            text.push('\n');
-        }
-    }
-    text.into_text()
-}
-
-/// `at-end TOKEN LIST`: what a feed of a list gives that begins behind the last whole unit of the token's file.
-pub fn at_end_text(alloc: Global, case: &Case, words: &[String]) -> Result<String, Refused> {
+    text: &mut Page,
+    case: &Case,
+    words: &[String],
+) -> Result<(), Refused> {
     let [token, list] = words else {
-        return Err(Refused::BadPart);
-    };
-    let Ok(token) = Token::parse(alloc, token.as_str()) else {
         return Err(Refused::BadPart);
     };
     let logs = source_at(alloc, case, list.as_str())?;
     let window = window_of(alloc, first_window(case))?;
-    tell_behind(alloc, logs, token, window)
+    let Ok(token) = Token::parse(alloc, token.as_str()) else {
+        return Err(Refused::BadPart);
+    };
+    match Feed::open_at_end(alloc, logs, Filter::new(), token, window) {
+        Ok(mut feed) => tell_all(alloc, &mut feed, text),
+        Err((fault, _logs, _filter, _token, _window)) => {
+            text.push_debug(&fault);
+            text.push('\n');
+            Ok(())
+        }
+    }
 }

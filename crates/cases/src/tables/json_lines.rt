@@ -5,21 +5,10 @@ use binlog_feed::{Change, Feed, FeedFault};
 use binlog_frame::MemoryLogs;
 use binlog_json::{LineWriter, line};
 use serde_json::Value;
-use std::alloc::{AllocError, Global};
+use std::alloc::Global;
 
 /// What stands in the buffer before a line is appended to it.
 const BEFORE: &str = "before ";
-
-/// The line of a change as it is appended, behind what stood there.
-fn appended(
-    alloc: Global,
-    writer: &mut LineWriter,
-    change: &Change<'_>,
-) -> Result<Vec<u8>, AllocError> {
-    let mut out = Vec::from_slice(alloc, BEFORE.as_bytes())?;
-    writer.append_line(change, &mut out)?;
-    Ok(out)
-}
 
 /// The line as serde_json writes a value that it has read, where that is another.
 fn push_again(alloc: Global, text: &mut Page, one: &str, value: &Value) {
@@ -59,7 +48,7 @@ fn push_line(alloc: Global, text: &mut Page, writer: &mut LineWriter, change: &C
     }
 }
 
-/// The line of a change that is appended, where it is another than one.
+/// The line of a change that is appended behind what stood there, where it is another than one.
 fn push_appended(
     alloc: Global,
     text: &mut Page,
@@ -67,10 +56,13 @@ fn push_appended(
     change: &Change<'_>,
     one: &str,
 ) {
-    match appended(alloc, writer, change) {
-        Ok(other) => push_other(text, one, &other),
-        Err(_) => text.refuse(Refused::OutOfMemory),
+    let mut out = Vec::new(alloc);
+    if out.extend_from_slice(BEFORE.as_bytes()).is_err()
+        || writer.append_line(change, &mut out).is_err()
+    {
+        return text.refuse(Refused::OutOfMemory);
     }
+    push_other(text, one, &out);
 }
 
 /// A line that was appended, where it is another, or where what stood before it is gone.

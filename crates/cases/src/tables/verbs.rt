@@ -34,10 +34,8 @@ fn judge_text(
     words: &[String],
 ) -> Result<Verdict, Refused> {
     let mut came = Page::new(alloc);
-    if let Err(why) = push_verb(alloc, &mut came, pieces, case, verb, words) {
-        came.refuse(why);
-    }
-    Ok(Verdict::of(case, came.into_text()?))
+    let pushed = push_verb(alloc, &mut came, pieces, case, verb, words);
+    Verdict::of_page(case, came, pushed)
 }
 
 /// What a verb gives that gives one text.
