@@ -3,6 +3,7 @@ use crate::language::case::Case;
 use crate::language::lines::Refused;
 use crate::language::page::Page;
 use crate::language::pieces::Pieces;
+use std::alloc::Global;
 use std::rt::Files;
 
 /// Whether what came is what is wanted.
@@ -25,6 +26,12 @@ impl Verdict {
             came.refuse(why);
         }
         Ok(Verdict::of(case, came.into_text()?))
+    }
+
+    /// The verdict over a run of many, which gave something else; it says which run it was.
+    pub fn of_run(alloc: Global, which: &str, at: u64, came: &str) -> Result<Verdict, Refused> {
+        let came = format!(in alloc; "{which} {at}:\n{came}")?;
+        Ok(Verdict::Differs { came })
     }
 
     /// The verdict over one text.

@@ -76,19 +76,12 @@ fn perform(alloc: Global, case: &Case, order: Order<'_>, how: How) -> Result<Out
     }
 }
 
-/// What comes of words that are carried out over a case's files.
-fn answer(alloc: Global, case: &Case, words: &[&str], how: How) -> Result<String, Refused> {
-    match read_words(alloc, words) {
-        Ok(order) => perform(alloc, case, order, how)?.text(alloc),
-        Err(fault) => fault_text(alloc, &fault),
-    }
-}
-
-/// What words ask for.
-fn asked(alloc: Global, words: &[&str]) -> Result<String, Refused> {
-    match read_words(alloc, words) {
-        Ok(order) => order_text(alloc, order),
-        Err(fault) => fault_text(alloc, &fault),
+/// What comes of words that are carried out over a case's files in a way; or, where there is none, what they ask for.
+fn answer(alloc: Global, case: &Case, words: &[&str], how: Option<How>) -> Result<String, Refused> {
+    match (read_words(alloc, words), how) {
+        (Ok(order), Some(how)) => perform(alloc, case, order, how)?.text(alloc),
+        (Ok(order), None) => order_text(alloc, order),
+        (Err(fault), _) => fault_text(alloc, &fault),
     }
 }
 
@@ -100,7 +93,7 @@ fn answer_each(alloc: Global, case: &Case, words: &[&str]) -> Result<Verdict, Re
             window: *window,
             ..How::of(case)
         };
-        let came = answer(alloc, case, words, how)?;
+        let came = answer(alloc, case, words, Some(how))?;
         if !case.wants(came.as_str()) {
             return Ok(Verdict::Differs { came });
         }
@@ -118,7 +111,7 @@ pub fn answer_words(alloc: Global, case: &Case, words: &[String]) -> Result<Verd
 /// `words WORD..`: what the words ask for.
 pub fn show_words(alloc: Global, case: &Case, words: &[String]) -> Result<Verdict, Refused> {
     let words = borrowed(alloc, words)?;
-    let came = asked(alloc, &words)?;
+    let came = answer(alloc, case, &words, None)?;
     Ok(Verdict::of(case, came))
 }
 

@@ -205,19 +205,14 @@ impl Outcome {
         text.push('\n');
     }
 
-    /// Appends the lines, and behind them a line that tells the end.
-    pub fn push_text(&self, text: &mut Page) {
+    /// The lines, and behind them a line that tells the end.
+    pub fn text(&self, alloc: Global) -> Result<String, Refused> {
+        let mut text = Page::new(alloc);
         match self.lines() {
             Ok(lines) => text.push_str(lines),
             Err(why) => text.refuse(why),
         }
-        self.push_end_line(text);
-    }
-
-    /// The lines, and behind them a line that tells the end.
-    pub fn text(&self, alloc: Global) -> Result<String, Refused> {
-        let mut text = Page::new(alloc);
-        self.push_text(&mut text);
+        self.push_end_line(&mut text);
         text.into_text()
     }
 

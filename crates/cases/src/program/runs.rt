@@ -27,6 +27,11 @@ pub fn run_once(alloc: Global, case: &Case, task: Task, how: How) -> Result<Outc
     run_files(alloc, copies_of(alloc, &case.files)?, task, how)
 }
 
+/// What comes of a run over the files of a case.
+pub fn text_once(alloc: Global, case: &Case, task: Task, how: How) -> Result<String, Refused> {
+    run_once(alloc, case, task, how)?.text(alloc)
+}
+
 /// What comes of a run: all of it, or its measure alone.
 fn text_of(
     alloc: Global,

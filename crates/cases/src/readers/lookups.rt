@@ -64,12 +64,11 @@ pub fn push_lookups(
     words: &[String],
 ) -> Result<(), Refused> {
     let (options, orders) = parts_of(words);
-    let Ok(mut feed) = parts_of_case(alloc, case, options)?.open(alloc) else {
-        return Err(Refused::BadPart);
-    };
+    let mut feed = parts_of_case(alloc, case, options)?.opened(alloc)?;
     for order in orders {
         show_order(alloc, &mut feed, order.as_str(), text);
         text.push('\n');
     }
+    let (_logs, _window) = feed.into_parts();
     Ok(())
 }

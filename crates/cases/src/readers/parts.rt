@@ -70,9 +70,7 @@ fn push_units(alloc: Global, text: &mut Page, case: &Case, count: usize) -> Resu
 
 /// What a feed gives when it is asked so often, and its parts.
 fn push_feed(alloc: Global, text: &mut Page, case: &Case, count: usize) -> Result<(), Refused> {
-    let Ok(mut feed) = parts_of_case(alloc, case, &[])?.open(alloc) else {
-        return Err(Refused::BadPart);
-    };
+    let mut feed = parts_of_case(alloc, case, &[])?.opened(alloc)?;
     ask_often(&mut feed, count, text);
     let (logs, window) = feed.into_parts();
     show_parts(text, &logs, window.as_slice());

@@ -106,6 +106,20 @@ impl<L: Logs + Drop> Parts<L> {
         }
     }
 
+    /// Opens a feed that has to open.
+    pub fn opened(self, alloc: Global) -> Result<Feed<L>, Refused> {
+        let Parts {
+            logs,
+            filter,
+            start,
+            window,
+        } = self;
+        match Feed::open(alloc, logs, filter, start, window) {
+            Ok(feed) => Ok(feed),
+            Err(_) => Err(Refused::BadPart),
+        }
+    }
+
     /// Opens a feed, or gives all back.
     pub fn open(self, alloc: Global) -> Result<Feed<L>, (OpenFeedFault, Parts<L>)> {
         let Parts {
@@ -206,7 +220,9 @@ fn tell_open<L: Logs + Drop>(
     told: &mut Told,
 ) -> Result<(), Refused> {
     let mut looking = Looking::new(alloc, feed, reading.looks, seen);
-    tell_opened(alloc, &mut looking, reading.way, seen, told)
+    let ended = tell_opened(alloc, &mut looking, reading.way, seen, told);
+    looking.close();
+    ended
 }
 
 /// What a feed of these parts tells, if it is opened.

@@ -61,7 +61,11 @@ pub fn push_answer(
     question: Question<'_>,
 ) -> u64 {
     match feed_of(alloc, files, reads, window) {
-        Ok(mut feed) => ask(alloc, text, &mut feed, question),
+        Ok(mut feed) => {
+            let failed_reads = ask(alloc, text, &mut feed, question);
+            let (_logs, _window) = feed.into_parts();
+            failed_reads
+        }
         Err(why) => {
             text.refuse(why);
             0
