@@ -21,6 +21,7 @@ enum Wants {
 
 #[derive(Drop)]
 pub struct Bench {
+    alloc: Global,
     pieces: Pieces,
     case: Option<Case>,
     wants: Wants,
@@ -30,6 +31,7 @@ pub struct Bench {
 impl Bench {
     pub fn new(alloc: Global) -> Bench {
         Bench {
+            alloc,
             pieces: Pieces::new(alloc),
             case: None,
             wants: Wants::Judged,
@@ -56,9 +58,9 @@ impl Bench {
         let (word, rest) = line.split_once(' ').unwrap_or((line, ""));
         match word {
             "" | "#" => Ok(None),
-            "case" => silent(self.begin(rt.alloc(), rest)),
+            "case" => silent(self.begin(rest)),
             "want" => silent(self.want(rest)),
-            _ => self.take_words(rt, verbs, line, word, &words_of(rt.alloc(), rest)?),
+            _ => self.take_words(rt, verbs, line, word, &words_of(self.alloc, rest)?),
         }
     }
 
@@ -72,9 +74,9 @@ impl Bench {
         words: &[String],
     ) -> Result<Option<String>, Refused> {
         match word {
-            "piece" => silent(self.pieces.take_piece(rt.alloc(), words)),
-            "event" => silent(self.pieces.take_event(rt.alloc(), words)),
-            "log" => silent(self.take_log(rt.alloc(), words)),
+            "piece" => silent(self.pieces.take_piece(self.alloc, words)),
+            "event" => silent(self.pieces.take_event(self.alloc, words)),
+            "log" => silent(self.take_log(words)),
             _ => self.take_in_case(rt, verbs, line, word, words),
         }
     }
@@ -100,7 +102,7 @@ impl Bench {
         }
         self.wants = Wants::Judged;
         self.count.count_verb(&verdict);
-        Ok(Some(said(rt.alloc(), case, line, &verdict)?))
+        Ok(Some(said(self.alloc, case, line, &verdict)?))
     }
 
     /// Ends a file. The pieces of a file without cases stay for all files to come.
@@ -128,12 +130,12 @@ impl Bench {
     }
 
     /// `case NAME`: ends the one before. The pieces in front of the first case are for all cases of the file.
-    fn begin(&mut self, alloc: Global, name: &str) -> Result<(), Refused> {
+    fn begin(&mut self, name: &str) -> Result<(), Refused> {
         if self.case.is_none() {
             self.pieces.keep_for_file();
         }
         let ended = self.end_case();
-        self.case = Some(Case::new(alloc, name)?);
+        self.case = Some(Case::new(self.alloc, name)?);
         self.wants = Wants::Missing;
         self.count.cases = self.count.cases.saturating_add(1);
         ended
@@ -150,14 +152,14 @@ impl Bench {
     }
 
     /// `log NAME PART..`: a file of the case.
-    fn take_log(&mut self, alloc: Global, words: &[String]) -> Result<(), Refused> {
+    fn take_log(&mut self, words: &[String]) -> Result<(), Refused> {
         let Some((name, parts)) = words.split_first() else {
             return Err(Refused::BadPart);
         };
-        let bytes = self.pieces.bytes_of(alloc, parts)?;
+        let bytes = self.pieces.bytes_of(self.alloc, parts)?;
         match &mut self.case {
             None => Err(Refused::NoCase),
-            Some(case) => case.add_file(alloc, name.as_str(), bytes),
+            Some(case) => case.add_file(self.alloc, name.as_str(), bytes),
         }
     }
 }

@@ -112,3 +112,16 @@ pub fn only_word(words: &[String]) -> Result<&str, Refused> {
         _ => Err(Refused::BadPart),
     }
 }
+
+/// Texts, and words behind them, borrowed one by one.
+pub fn borrowed<'a>(
+    alloc: Global,
+    front: &[&'a str],
+    words: &'a [String],
+) -> Result<Vec<&'a str>, AllocError> {
+    let mut borrowed = Vec::from_slice(alloc, front)?;
+    for word in words {
+        borrowed.push(word.as_str())?;
+    }
+    Ok(borrowed)
+}

@@ -1,5 +1,5 @@
 //! Words of the command line: what they ask for, and the run that they order.
-use crate::language::{Case, Named, Page, Refused, Verdict};
+use crate::language::{Case, Named, Page, Refused, Verdict, borrowed};
 use crate::program::outcome::{How, Outcome, prepared, run_changes, run_key, run_units};
 use crate::program::shown_orders::order_text;
 use binlog_frame::MemoryLogs;
@@ -7,15 +7,8 @@ use binlogfeed::words::{Order, read_words};
 use binlogfeed::words_fault::{WordsFault, words_line, words_status};
 use std::alloc::Global;
 
-/// The words as the system gives them: the program's name stands in front.
-fn borrowed<'a>(alloc: Global, words: &'a [String]) -> Result<Vec<&'a str>, Refused> {
-    let mut borrowed = Vec::new(alloc);
-    borrowed.push("binlogfeed")?;
-    for word in words {
-        borrowed.push(word.as_str())?;
-    }
-    Ok(borrowed)
-}
+/// What stands in front of the words that the system gives.
+const PROGRAM: &str = "binlogfeed";
 
 /// A copy of the file of a case with a name.
 fn file_named(alloc: Global, case: &Case, name: &str) -> Result<Named, Refused> {
@@ -104,13 +97,13 @@ fn answer_each(alloc: Global, case: &Case, words: &[&str]) -> Result<Verdict, Re
 
 /// `binlogfeed WORD..`: does what the words ask for, with each of the case's windows.
 pub fn answer_words(alloc: Global, case: &Case, words: &[String]) -> Result<Verdict, Refused> {
-    let words = borrowed(alloc, words)?;
+    let words = borrowed(alloc, &[PROGRAM], words)?;
     answer_each(alloc, case, &words)
 }
 
 /// `words WORD..`: what the words ask for.
 pub fn show_words(alloc: Global, case: &Case, words: &[String]) -> Result<Verdict, Refused> {
-    let words = borrowed(alloc, words)?;
+    let words = borrowed(alloc, &[PROGRAM], words)?;
     let came = answer(alloc, case, &words, None)?;
     Ok(Verdict::of(case, came))
 }

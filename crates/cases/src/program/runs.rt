@@ -36,14 +36,15 @@ pub fn text_once(alloc: Global, case: &Case, task: Task, how: How) -> Result<Str
 fn text_of(
     alloc: Global,
     case: &Case,
-    verb: &str,
+    is_measured: bool,
     task: Task,
     how: How,
 ) -> Result<String, Refused> {
     let outcome = run_once(alloc, case, task, how)?;
-    match verb {
-        "run" => outcome.text(alloc),
-        _ => outcome.measure(alloc),
+    if is_measured {
+        outcome.measure(alloc)
+    } else {
+        outcome.text(alloc)
     }
 }
 
@@ -51,7 +52,7 @@ fn text_of(
 pub fn run_task(
     alloc: Global,
     case: &Case,
-    verb: &str,
+    is_measured: bool,
     words: &[String],
 ) -> Result<Verdict, Refused> {
     let task = Task::read(only_word(words)?)?;
@@ -61,7 +62,7 @@ pub fn run_task(
             window: *window,
             ..How::of(case)
         };
-        let came = text_of(alloc, case, verb, task, how)?;
+        let came = text_of(alloc, case, is_measured, task, how)?;
         if !case.wants(came.as_str()) {
             return Ok(Verdict::Differs { came });
         }

@@ -41,7 +41,8 @@ fn sweep_beside(
         "each-room" => each_room(alloc, case, task, whole),
         "each-read" => each_read(alloc, case, task, whole),
         "each-short" => each_short(alloc, case, task),
-        _ => each_cut(alloc, case, task, ends),
+        "each-cut" => each_cut(alloc, case, task, ends),
+        _ => Err(Refused::UnknownWord),
     }
 }
 

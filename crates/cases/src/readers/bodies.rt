@@ -154,7 +154,7 @@ pub fn push_body(
     alloc: Global,
     text: &mut Page,
     pieces: &Pieces,
-    verb: &str,
+    asks_lengths: bool,
     words: &[String],
 ) -> Result<(), Refused> {
     let Some((kind, parts)) = words.split_first() else {
@@ -162,7 +162,7 @@ pub fn push_body(
     };
     let kind = kind_of(kind.as_str())?;
     let body = pieces.bytes_of(alloc, parts)?;
-    if verb == "lengths" {
+    if asks_lengths {
         return push_lengths(alloc, text, kind, &body);
     }
     text.push_named("kind ", kind as u64);

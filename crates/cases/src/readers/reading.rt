@@ -139,10 +139,9 @@ pub fn plain_of(alloc: Global, files: &[Named], layer: Layer) -> Result<Told, Re
 pub fn judge_reading(
     alloc: Global,
     case: &Case,
-    verb: &str,
+    layer: Layer,
     words: &[String],
 ) -> Result<Verdict, Refused> {
-    let layer = Layer::of(verb)?;
     let (word, options) = way_of(words);
     if !is_offered(layer, word, options) {
         return Err(Refused::UnknownWord);

@@ -108,37 +108,9 @@ impl<L: Logs + Drop> Parts<L> {
 
     /// Opens a feed that has to open.
     pub fn opened(self, alloc: Global) -> Result<Feed<L>, Refused> {
-        let Parts {
-            logs,
-            filter,
-            start,
-            window,
-        } = self;
-        match Feed::open(alloc, logs, filter, start, window) {
+        match Feed::open(alloc, self.logs, self.filter, self.start, self.window) {
             Ok(feed) => Ok(feed),
             Err(_) => Err(Refused::BadPart),
-        }
-    }
-
-    /// Opens a feed, or gives all back.
-    pub fn open(self, alloc: Global) -> Result<Feed<L>, (OpenFeedFault, Parts<L>)> {
-        let Parts {
-            logs,
-            filter,
-            start,
-            window,
-        } = self;
-        match Feed::open(alloc, logs, filter, start, window) {
-            Ok(feed) => Ok(feed),
-            Err((fault, logs, filter, start, window)) => Err((
-                fault,
-                Parts {
-                    logs,
-                    filter,
-                    start,
-                    window,
-                },
-            )),
         }
     }
 }
@@ -185,24 +157,6 @@ fn opens_again(
     false
 }
 
-/// What a refused opening leaves, where it is tried again; it `had` a window of that length.
-fn parts_again<L: Logs + Drop>(
-    alloc: Global,
-    refused: (OpenFeedFault, Parts<L>),
-    had: usize,
-    seen: &Cell<Seen>,
-    way: Way,
-    told: &mut Told,
-) -> Option<Parts<L>> {
-    let (fault, mut parts) = refused;
-    told.compare_windows(had, parts.window.len());
-    if opens_again(alloc, way, fault, &mut parts.window, seen, told) {
-        Some(parts)
-    } else {
-        None
-    }
-}
-
 /// What an attempt to read a feed came to.
 enum Attempt<L> {
     /// It was read, or will not be.
@@ -225,7 +179,7 @@ fn tell_open<L: Logs + Drop>(
     ended
 }
 
-/// What a feed of these parts tells, if it is opened.
+/// What a feed of these parts tells, if it is opened; or what is left of them, where the opening is tried again.
 fn tell_once<L: Logs + Drop>(
     alloc: Global,
     parts: Parts<L>,
@@ -234,12 +188,21 @@ fn tell_once<L: Logs + Drop>(
     told: &mut Told,
 ) -> Attempt<L> {
     let had = parts.window.len();
-    match parts.open(alloc) {
+    match Feed::open(alloc, parts.logs, parts.filter, parts.start, parts.window) {
         Ok(feed) => Attempt::Ended(tell_open(alloc, feed, seen, reading, told)),
-        Err(refused) => match parts_again(alloc, refused, had, seen, reading.way, told) {
-            Some(parts) => Attempt::Again(parts),
-            None => Attempt::Ended(Ok(())),
-        },
+        Err((fault, logs, filter, start, mut window)) => {
+            told.compare_windows(had, window.len());
+            if opens_again(alloc, reading.way, fault, &mut window, seen, told) {
+                Attempt::Again(Parts {
+                    logs,
+                    filter,
+                    start,
+                    window,
+                })
+            } else {
+                Attempt::Ended(Ok(()))
+            }
+        }
     }
 }
 

@@ -10,6 +10,7 @@ use crate::readers::reading::judge_reading;
 use crate::readers::reads::{push_names_of, push_reads};
 use crate::readers::sets::{push_holds, push_set};
 use crate::readers::tokens::push_token_parts;
+use crate::readers::ways::Layer;
 use std::alloc::Global;
 use std::rt::Files;
 
@@ -21,17 +22,26 @@ pub fn carry_out<R: Files + AllocGlobal>(
     verb: &str,
     words: &[String],
 ) -> Result<Verdict, Refused> {
-    match verb {
-        "frames" | "events" | "units" | "feed" | "looks" => {
-            judge_reading(rt.alloc(), case, verb, words)
-        }
-        "open" => judge_open(rt, case, words),
-        _ => {
-            let mut came = Page::new(rt.alloc());
-            let pushed = push_verb(rt.alloc(), &mut came, pieces, case, verb, words);
-            Verdict::of_page(case, came, pushed)
-        }
+    if verb == "open" {
+        return judge_open(rt, case, words);
     }
+    match Layer::of(verb) {
+        Ok(layer) => judge_reading(rt.alloc(), case, layer, words),
+        Err(_) => judge_text(rt.alloc(), pieces, case, verb, words),
+    }
+}
+
+/// Judges a verb that gives one text.
+fn judge_text(
+    alloc: Global,
+    pieces: &Pieces,
+    case: &Case,
+    verb: &str,
+    words: &[String],
+) -> Result<Verdict, Refused> {
+    let mut came = Page::new(alloc);
+    let pushed = push_verb(alloc, &mut came, pieces, case, verb, words);
+    Verdict::of_page(case, came, pushed)
 }
 
 /// What a verb gives that gives one text.
@@ -45,7 +55,8 @@ fn push_verb(
 ) -> Result<(), Refused> {
     match verb {
         "header" => push_header(alloc, text, pieces, words),
-        "body" | "lengths" => push_body(alloc, text, pieces, verb, words),
+        "body" => push_body(alloc, text, pieces, false, words),
+        "lengths" => push_body(alloc, text, pieces, true, words),
         "kinds" => push_kinds(text, words),
         "names" => push_names_of(alloc, text, case),
         "reads" => push_reads(alloc, text, case, words),

@@ -96,19 +96,28 @@ fn take_fault(
     text: &mut Page,
     feed: &mut Feed<MemoryLogs>,
     fault: FeedFault,
-) -> Result<Given, Refused> {
+) -> Given {
     match fault {
         FeedFault::Log(fault) => {
             text.push_debug(&fault.what);
             text.push('\n');
-            Ok(Given::End)
+            Given::End
         }
-        FeedFault::WindowTooSmall { needed } => {
-            let _ = feed.replace_window(vec![in alloc; 0u8; needed as usize]?);
-            Ok(Given::More)
+        FeedFault::WindowTooSmall { needed } => match vec![in alloc; 0u8; needed as usize] {
+            Ok(window) => {
+                let _ = feed.replace_window(window);
+                Given::More
+            }
+            Err(_) => {
+                text.refuse(Refused::OutOfMemory);
+                Given::End
+            }
+        },
+        FeedFault::Read { .. } => Given::FailedRead,
+        FeedFault::OutOfMemory => {
+            text.refuse(Refused::OutOfMemory);
+            Given::End
         }
-        FeedFault::Read { .. } => Ok(Given::FailedRead),
-        FeedFault::OutOfMemory => Err(Refused::OutOfMemory),
     }
 }
 
@@ -118,15 +127,15 @@ fn take_next(
     text: &mut Page,
     feed: &mut Feed<MemoryLogs>,
     writer: &mut LineWriter,
-) -> Result<Given, Refused> {
+) -> Given {
     match feed.next() {
         Ok(Some(change)) => {
             push_line(alloc, text, writer, &change);
-            Ok(Given::More)
+            Given::More
         }
         Ok(None) => {
             text.push_str("end\n");
-            Ok(Given::End)
+            Given::End
         }
         Err(fault) => take_fault(alloc, text, feed, fault),
     }
@@ -139,13 +148,9 @@ pub fn push_all_lines(alloc: Global, text: &mut Page, feed: &mut Feed<MemoryLogs
     let mut failed_reads = 0u64;
     for _ in 0..u32::MAX {
         match take_next(alloc, text, feed, &mut writer) {
-            Ok(Given::More) => {}
-            Ok(Given::FailedRead) => failed_reads = failed_reads.saturating_add(1),
-            Ok(Given::End) => break,
-            Err(why) => {
-                text.refuse(why);
-                break;
-            }
+            Given::More => {}
+            Given::FailedRead => failed_reads = failed_reads.saturating_add(1),
+            Given::End => break,
         }
     }
     failed_reads
