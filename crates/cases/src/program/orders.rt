@@ -2,7 +2,9 @@
 use crate::language::{Case, Named, Page, Refused, Verdict, borrowed};
 use crate::program::outcome::{How, Outcome, prepared, run_changes, run_key, run_units};
 use crate::program::shown_orders::order_text;
+use binlog_feed::Start;
 use binlog_frame::MemoryLogs;
+use binlog_select::Filter;
 use binlogfeed::words::{Order, read_words};
 use binlogfeed::words_fault::{WordsFault, words_line, words_status};
 use std::alloc::Global;
@@ -38,22 +40,50 @@ fn source_named(
     prepared(alloc, files_named(alloc, case, names)?, how)
 }
 
+/// Runs over the units of the files of a case with these names.
+fn units_named(alloc: Global, case: &Case, names: &[&str], how: How) -> Result<Outcome, Refused> {
+    let (logs, window) = source_named(alloc, case, names, how)?;
+    run_units(alloc, logs, window, how.room)
+}
+
+/// Runs over the changes of the files of a case with these names.
+fn changes_named(
+    alloc: Global,
+    case: &Case,
+    names: &[&str],
+    filter: Filter,
+    start: Start,
+    how: How,
+) -> Result<Outcome, Refused> {
+    match source_named(alloc, case, names, how) {
+        Ok((logs, window)) => run_changes(alloc, logs, filter, start, window, how.room),
+        Err(why) => Err(why),
+    }
+}
+
+/// Runs over the changes of a key in the files of a case with these names.
+fn key_named(
+    alloc: Global,
+    case: &Case,
+    names: &[&str],
+    table: (&str, &str),
+    key: &str,
+    how: How,
+) -> Result<Outcome, Refused> {
+    let (logs, window) = source_named(alloc, case, names, how)?;
+    run_key(alloc, logs, table, key, window, how.room)
+}
+
 /// Does what an order asks for, over the case's files.
 fn perform(alloc: Global, case: &Case, order: Order<'_>, how: How) -> Result<Outcome, Refused> {
     match order {
-        Order::Transactions { files } => {
-            let (logs, window) = source_named(alloc, case, &files, how)?;
-            run_units(alloc, logs, window, how.room)
-        }
+        Order::Transactions { files } => units_named(alloc, case, &files, how),
         Order::Read {
             filter,
             start,
             files,
             ..
-        } => match source_named(alloc, case, &files, how) {
-            Ok((logs, window)) => run_changes(alloc, logs, filter, start, window, how.room),
-            Err(why) => Err(why),
-        },
+        } => changes_named(alloc, case, &files, filter, start, how),
         // A run that follows reads an input, which cases have none of.
         Order::Follow { .. } => Err(Refused::UnknownWord),
         Order::History {
@@ -62,10 +92,7 @@ fn perform(alloc: Global, case: &Case, order: Order<'_>, how: How) -> Result<Out
             key,
             files,
             ..
-        } => {
-            let (logs, window) = source_named(alloc, case, &files, how)?;
-            run_key(alloc, logs, (schema, table), key.as_str(), window, how.room)
-        }
+        } => key_named(alloc, case, &files, (schema, table), key.as_str(), how),
     }
 }
 
