@@ -24,38 +24,24 @@ fn push_name(alloc: Global, names: &mut Vec<String>, name: &str) -> Result<(), R
     }
 }
 
-/// Appends the names between commas.
-fn push_names(alloc: Global, names: &mut Vec<String>, list: &str) -> Result<(), Refused> {
-    for name in list.split(',') {
-        push_name(alloc, names, name)?;
-    }
-    Ok(())
-}
-
 /// The names between commas; where nothing follows a list's name, no names.
 fn names_of(alloc: Global, list: Option<&str>) -> Result<Names, Refused> {
     let mut names = Vec::new(alloc);
     if let Some(list) = list {
-        push_names(alloc, &mut names, list)?;
-    }
-    Ok(Names::from(names))
-}
-
-/// Appends the kinds between commas.
-fn push_kinds(kinds: &mut Vec<ChangeKind>, list: &str) -> Result<(), Refused> {
-    for name in list.split(',') {
-        if kinds.push(kind_of(name)?).is_err() {
-            return Err(Refused::OutOfMemory);
+        for name in list.split(',') {
+            push_name(alloc, &mut names, name)?;
         }
     }
-    Ok(())
+    Ok(Names::from(names))
 }
 
 /// The kinds between commas; where nothing follows a list's name, no kinds.
 fn kinds_of(alloc: Global, list: Option<&str>) -> Result<Kinds, Refused> {
     let mut kinds = Vec::new(alloc);
     if let Some(list) = list {
-        push_kinds(&mut kinds, list)?;
+        for name in list.split(',') {
+            kinds.push(kind_of(name)?)?;
+        }
     }
     Ok(Kinds::from(kinds))
 }

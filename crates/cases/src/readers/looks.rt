@@ -221,7 +221,7 @@ impl<'a, L: Logs> Looking<'a, L> {
         }
     }
 
-    /// Takes the feed apart.
+    /// Takes the feed apart: the proof of a function that drops one is dear.
     pub fn close(self)
     where
         L: Drop,
