@@ -15,8 +15,8 @@ mod wide;
 
 pub use case::{Case, Full, Named, Reads, Room, SMALL_WINDOW};
 pub use judging::judge_input;
-pub use lines::{Refused, number, only_word, push_all};
-pub use memory::{copies_of, source};
+pub use lines::{Refused, borrowed, number, only_word};
+pub use memory::{copies_of, cut_copies, source};
 pub use page::Page;
 pub use pieces::{Pieces, push_event};
 pub use verbs::{Verbs, Verdict};

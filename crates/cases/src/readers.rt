@@ -21,4 +21,5 @@ mod verbs;
 mod watched;
 mod ways;
 
+pub use starts::Parts;
 pub use verbs::carry_out;

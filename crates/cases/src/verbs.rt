@@ -7,6 +7,39 @@ use std::rt::Files;
 #[derive(Clone, Copy)]
 pub struct AllVerbs;
 
+/// Whether a verb is one of runs or of words of the command line.
+fn is_of_program(verb: &str) -> bool {
+    matches!(
+        verb,
+        "run"
+            | "measure"
+            | "each-byte"
+            | "each-room"
+            | "each-read"
+            | "each-short"
+            | "each-cut"
+            | "binlogfeed"
+            | "words"
+    )
+}
+
+/// Whether a verb is one of what tables hold.
+fn is_of_tables(verb: &str) -> bool {
+    matches!(
+        verb,
+        "map"
+            | "map-cuts"
+            | "map-size"
+            | "rows"
+            | "rows-cuts"
+            | "images"
+            | "value"
+            | "lines"
+            | "lines-again"
+            | "history"
+    )
+}
+
 impl Verbs for AllVerbs {
     fn carry_out<R: Files + AllocGlobal>(
         &self,
@@ -16,27 +49,12 @@ impl Verbs for AllVerbs {
         verb: &str,
         words: &[String],
     ) -> Result<Verdict, Refused> {
-        match verb {
-            "run"
-            | "measure"
-            | "each-byte"
-            | "each-room"
-            | "each-read"
-            | "each-short"
-            | "each-cut"
-            | "binlogfeed"
-            | "words" => program::carry_out(rt, case, verb, words),
-            "map"
-            | "map-cuts"
-            | "map-size"
-            | "rows"
-            | "rows-cuts"
-            | "images"
-            | "value"
-            | "lines"
-            | "lines-again"
-            | "history" => tables::carry_out(rt, pieces, case, verb, words),
-            _ => readers::carry_out(rt, pieces, case, verb, words),
+        if is_of_program(verb) {
+            program::carry_out(rt.alloc(), case, verb, words)
+        } else if is_of_tables(verb) {
+            tables::carry_out(rt.alloc(), pieces, case, verb, words)
+        } else {
+            readers::carry_out(rt, pieces, case, verb, words)
         }
     }
 }

@@ -1,11 +1,11 @@
 //! The pieces and the case that the lines so far have described, and how many came out as they have to.
 use crate::language::case::Case;
 use crate::language::count::Count;
-use crate::language::lines::{Refused, push_all, words_of};
+use crate::language::lines::{Refused, words_of};
+use crate::language::page::Page;
 use crate::language::pieces::Pieces;
 use crate::language::verbs::{Verbs, Verdict};
-use std::alloc::{AllocError, Global};
-use std::fmt::Write;
+use std::alloc::Global;
 use std::rt::Files;
 
 /// Whether a case's `want` lines were judged by a verb.
@@ -21,6 +21,7 @@ enum Wants {
 
 #[derive(Drop)]
 pub struct Bench {
+    alloc: Global,
     pieces: Pieces,
     case: Option<Case>,
     wants: Wants,
@@ -30,6 +31,7 @@ pub struct Bench {
 impl Bench {
     pub fn new(alloc: Global) -> Bench {
         Bench {
+            alloc,
             pieces: Pieces::new(alloc),
             case: None,
             wants: Wants::Judged,
@@ -54,22 +56,12 @@ impl Bench {
         line: &str,
     ) -> Result<Option<String>, Refused> {
         let (word, rest) = line.split_once(' ').unwrap_or((line, ""));
-        if self.take_text(rt.alloc(), word, rest)? {
-            return Ok(None);
-        }
-        let words = words_of(rt.alloc(), rest)?;
-        self.take_words(rt, verbs, line, word, &words)
-    }
-
-    /// Takes a line in behind whose first word stands a text, or nothing to take in, and says whether it is one.
-    fn take_text(&mut self, alloc: Global, word: &str, rest: &str) -> Result<bool, Refused> {
         match word {
-            "" | "#" => {}
-            "case" => self.begin(alloc, rest)?,
-            "want" => self.want(rest)?,
-            _ => return Ok(false),
+            "" | "#" => Ok(None),
+            "case" => silent(self.begin(rest)),
+            "want" => silent(self.want(rest)),
+            _ => self.take_words(rt, verbs, line, word, &words_of(self.alloc, rest)?),
         }
-        Ok(true)
     }
 
     /// A line whose first word has words behind it.
@@ -81,23 +73,36 @@ impl Bench {
         word: &str,
         words: &[String],
     ) -> Result<Option<String>, Refused> {
-        if self.take_bytes(rt.alloc(), word, words)? || self.take_setting(word, words)? {
-            return Ok(None);
+        match word {
+            "piece" => silent(self.pieces.take_piece(self.alloc, words)),
+            "event" => silent(self.pieces.take_event(self.alloc, words)),
+            "log" => silent(self.take_log(words)),
+            _ => self.take_in_case(rt, verbs, line, word, words),
         }
-        let verdict = self.verdict(rt, verbs, word, words)?;
-        self.judged(rt.alloc(), line, &verdict)
     }
 
-    /// Takes a line of bytes in, and says whether the word begins one.
-    fn take_bytes(&mut self, alloc: Global, word: &str, words: &[String]) -> Result<bool, Refused> {
-        let taken = match word {
-            "piece" => self.pieces.take_piece(alloc, words),
-            "event" => self.pieces.take_event(alloc, words),
-            "log" => self.take_log(alloc, words),
-            _ => return Ok(false),
+    /// A setting of the case, or a verb.
+    fn take_in_case<R: Files + AllocGlobal, V: Verbs>(
+        &mut self,
+        rt: &R,
+        verbs: &V,
+        line: &str,
+        word: &str,
+        words: &[String],
+    ) -> Result<Option<String>, Refused> {
+        let Some(case) = &mut self.case else {
+            return Err(Refused::NoCase);
         };
-        taken?;
-        Ok(true)
+        if case.set(word, words)? {
+            return Ok(None);
+        }
+        let verdict = verbs.carry_out(rt, &self.pieces, case, word, words)?;
+        if matches!(&self.wants, Wants::Missing) {
+            return Err(Refused::NothingWanted);
+        }
+        self.wants = Wants::Judged;
+        self.count.count_verb(&verdict);
+        Ok(Some(said(self.alloc, case, line, &verdict)?))
     }
 
     /// Ends a file. The pieces of a file without cases stay for all files to come.
@@ -125,12 +130,12 @@ impl Bench {
     }
 
     /// `case NAME`: ends the one before. The pieces in front of the first case are for all cases of the file.
-    fn begin(&mut self, alloc: Global, name: &str) -> Result<(), Refused> {
+    fn begin(&mut self, name: &str) -> Result<(), Refused> {
         if self.case.is_none() {
             self.pieces.keep_for_file();
         }
         let ended = self.end_case();
-        self.case = Some(Case::new(alloc, name)?);
+        self.case = Some(Case::new(self.alloc, name)?);
         self.wants = Wants::Missing;
         self.count.cases = self.count.cases.saturating_add(1);
         ended
@@ -147,98 +152,47 @@ impl Bench {
     }
 
     /// `log NAME PART..`: a file of the case.
-    fn take_log(&mut self, alloc: Global, words: &[String]) -> Result<(), Refused> {
+    fn take_log(&mut self, words: &[String]) -> Result<(), Refused> {
         let Some((name, parts)) = words.split_first() else {
             return Err(Refused::BadPart);
         };
-        let bytes = self.pieces.bytes_of(alloc, parts)?;
+        let bytes = self.pieces.bytes_of(self.alloc, parts)?;
         match &mut self.case {
             None => Err(Refused::NoCase),
-            Some(case) => case.add_file(alloc, name.as_str(), bytes),
+            Some(case) => case.add_file(self.alloc, name.as_str(), bytes),
         }
     }
+}
 
-    /// Takes a setting of the case in, and says whether the word is one.
-    fn take_setting(&mut self, word: &str, words: &[String]) -> Result<bool, Refused> {
-        match &mut self.case {
-            Some(case) => case.set(word, words),
-            None => Err(Refused::NoCase),
-        }
-    }
-
-    /// What comes of a verb.
-    fn verdict<R: Files + AllocGlobal, V: Verbs>(
-        &self,
-        rt: &R,
-        verbs: &V,
-        word: &str,
-        words: &[String],
-    ) -> Result<Verdict, Refused> {
-        match &self.case {
-            Some(case) => verbs.carry_out(rt, &self.pieces, case, word, words),
-            None => Err(Refused::NoCase),
-        }
-    }
-
-    /// Takes in what came of a verb.
-    fn judged(
-        &mut self,
-        alloc: Global,
-        line: &str,
-        verdict: &Verdict,
-    ) -> Result<Option<String>, Refused> {
-        if matches!(&self.wants, Wants::Missing) {
-            return Err(Refused::NothingWanted);
-        }
-        self.wants = Wants::Judged;
-        self.count.count_verb(verdict);
-        match &self.case {
-            Some(case) => Ok(Some(said(alloc, case, line, verdict)?)),
-            None => Err(Refused::NoCase),
-        }
+/// There is nothing to say of a line that was taken in.
+fn silent(taken: Result<(), Refused>) -> Result<Option<String>, Refused> {
+    match taken {
+        Ok(()) => Ok(None),
+        Err(why) => Err(why),
     }
 }
 
 /// What there is to say of a verb.
-fn said(alloc: Global, case: &Case, line: &str, verdict: &Verdict) -> Result<String, AllocError> {
-    let name = case.name.as_str();
+fn said(alloc: Global, case: &Case, line: &str, verdict: &Verdict) -> Result<String, Refused> {
+    let mut said = Page::new(alloc);
+    said.push_str(match verdict {
+        Verdict::Well { .. } => "ok ",
+        Verdict::Differs { .. } => "DIFFERS ",
+    });
+    said.push_str(case.name.as_str());
+    said.push_str(": ");
+    said.push_str(line);
     match verdict {
-        Verdict::Well { runs } => said_well(alloc, name, line, *runs),
+        Verdict::Well { runs } => {
+            said.push_named(", ", *runs);
+            said.push_str(" runs");
+        }
         Verdict::Differs { came } => {
-            said_differing(alloc, name, line, came.as_str(), case.wanted.as_str())
+            said.push_str("\ncame:\n");
+            said.push_str(came.as_str());
+            said.push_str("wanted:\n");
+            said.push_str(case.wanted.as_str());
         }
     }
-}
-
-/// What there is to say of a verb that came out well.
-fn said_well(alloc: Global, name: &str, line: &str, runs: u64) -> Result<String, AllocError> {
-    let mut said = String::new(alloc);
-    push_all(&mut said, &["ok ", name, ": ", line])?;
-    write!(&mut said, ", {runs} runs")?;
-    Ok(said)
-}
-
-/// What there is to say of a verb of which something else came than what is wanted.
-fn said_differing(
-    alloc: Global,
-    name: &str,
-    line: &str,
-    came: &str,
-    wanted: &str,
-) -> Result<String, AllocError> {
-    let mut said = String::new(alloc);
-    push_all(
-        &mut said,
-        &[
-            "DIFFERS ",
-            name,
-            ": ",
-            line,
-            "\ncame:\n",
-            came,
-            "wanted:\n",
-            wanted,
-        ],
-    )?;
-    Ok(said)
+    said.into_text()
 }

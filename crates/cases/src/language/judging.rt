@@ -37,20 +37,6 @@ fn take_line<R: Print + Files + AllocGlobal, V: Verbs>(
     }
 }
 
-/// Carries out the lines of a file of cases.
-fn take_lines<R: Print + Files + AllocGlobal, V: Verbs>(
-    rt: &R,
-    verbs: &V,
-    bench: &mut Bench,
-    file: &str,
-    text: &str,
-) -> io::Result<()> {
-    for (before, line) in text.lines().enumerate() {
-        take_line(rt, verbs, bench, file, before.saturating_add(1), line)?;
-    }
-    end_file(rt, bench, file)
-}
-
 /// Carries out the cases of a file.
 fn take_file<R: Print + Files + AllocGlobal, V: Verbs>(
     rt: &R,
@@ -59,7 +45,10 @@ fn take_file<R: Print + Files + AllocGlobal, V: Verbs>(
     file: &str,
 ) -> io::Result<()> {
     let text = fs::read_to_string(rt, file)?;
-    take_lines(rt, verbs, bench, file, text.as_str())
+    for (before, line) in text.as_str().lines().enumerate() {
+        take_line(rt, verbs, bench, file, before.saturating_add(1), line)?;
+    }
+    end_file(rt, bench, file)
 }
 
 /// Ends a file of cases.

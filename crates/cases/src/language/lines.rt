@@ -113,10 +113,15 @@ pub fn only_word(words: &[String]) -> Result<&str, Refused> {
     }
 }
 
-/// Appends texts, one behind the other.
-pub fn push_all(text: &mut String, parts: &[&str]) -> Result<(), AllocError> {
-    for part in parts {
-        text.push_str(part)?;
+/// Texts, and words behind them, borrowed one by one.
+pub fn borrowed<'a>(
+    alloc: Global,
+    front: &[&'a str],
+    words: &'a [String],
+) -> Result<Vec<&'a str>, AllocError> {
+    let mut borrowed = Vec::from_slice(alloc, front)?;
+    for word in words {
+        borrowed.push(word.as_str())?;
     }
-    Ok(())
+    Ok(borrowed)
 }

@@ -21,6 +21,15 @@ pub fn copies_of(alloc: Global, files: &[Named]) -> Result<Vec<Named>, Refused> 
     Ok(copies)
 }
 
+/// Copies of files, the last of them cut to so many bytes.
+pub fn cut_copies(alloc: Global, files: &[Named], length: usize) -> Result<Vec<Named>, Refused> {
+    let mut copies = copies_of(alloc, files)?;
+    if let Some(last) = copies.last_mut() {
+        last.1.truncate(length);
+    }
+    Ok(copies)
+}
+
 /// Files in memory, which are read like that.
 pub fn source(files: Vec<Named>, reads: Reads) -> Result<MemoryLogs, Refused> {
     let Ok(mut logs) = MemoryLogs::new(files) else {

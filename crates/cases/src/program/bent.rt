@@ -1,6 +1,6 @@
 //! Runs over a file of which one byte is another.
 use crate::language::{Case, Named, Refused, Verdict, copies_of};
-use crate::program::outcome::{How, Job, Outcome, run_files};
+use crate::program::outcome::{How, Outcome, run_files};
 use crate::program::runs::{Task, run_once};
 use crate::program::sweeps::differs;
 use binlogfeed::fault::RunFault;
@@ -37,13 +37,13 @@ fn bend_last(files: &mut [Named], at: usize, bend: Bend) {
 fn run_bent(
     alloc: Global,
     case: &Case,
-    job: Job<'_>,
+    task: Task,
     at: usize,
     bend: Bend,
 ) -> Result<Outcome, Refused> {
     let mut files = copies_of(alloc, &case.files)?;
     bend_last(&mut files, at, bend);
-    run_files(alloc, files, job, How::of(case))
+    run_files(alloc, files, task, How::of(case))
 }
 
 /// Whether changes end no later than units, where those end at a fault of the log: changes judge more of an event.
@@ -70,27 +70,14 @@ pub fn each_byte(alloc: Global, case: &Case, words: &[String]) -> Result<Verdict
     bend_each(alloc, case)
 }
 
-/// Runs over units and over changes, where the last file has another byte. Gives the run over changes if its end isn't in order.
-fn disordered(
-    alloc: Global,
-    case: &Case,
-    at: usize,
-    bend: Bend,
-) -> Result<Option<Outcome>, Refused> {
-    let units = run_bent(alloc, case, Job::Transactions, at, bend)?.fault;
-    let changes = run_bent(alloc, case, Task::Changes.job(), at, bend)?;
-    if end_in_order(units, changes.fault) {
-        Ok(None)
-    } else {
-        Ok(Some(changes))
-    }
-}
-
+/// Runs over units and over changes for each byte and each bend.
 fn bend_each(alloc: Global, case: &Case) -> Result<Verdict, Refused> {
     let mut runs = 0u64;
     for bend in &[Bend::Zero, Bend::Full, Bend::TopBit] {
         for at in 0..case.last_length() {
-            if let Some(changes) = disordered(alloc, case, at, *bend)? {
+            let units = run_bent(alloc, case, Task::Transactions, at, *bend)?;
+            let changes = run_bent(alloc, case, Task::Changes, at, *bend)?;
+            if !end_in_order(units.fault, changes.fault) {
                 return differs(alloc, "changes with another byte at", at, &changes);
             }
             runs = runs.saturating_add(2);

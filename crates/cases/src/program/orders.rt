@@ -1,20 +1,16 @@
 //! Words of the command line: what they ask for, and the run that they order.
-use crate::language::{Case, Named, Page, Refused, Verdict};
-use crate::program::outcome::{How, Job, Key, run_files};
+use crate::language::{Case, Named, Page, Refused, Verdict, borrowed};
+use crate::program::outcome::{How, Outcome, prepared, run_changes, run_key, run_units};
 use crate::program::shown_orders::order_text;
+use binlog_feed::Start;
+use binlog_frame::MemoryLogs;
+use binlog_select::Filter;
 use binlogfeed::words::{Order, read_words};
 use binlogfeed::words_fault::{WordsFault, words_line, words_status};
 use std::alloc::Global;
 
-/// The words as the system gives them: the program's name stands in front.
-fn borrowed<'a>(alloc: Global, words: &'a [String]) -> Result<Vec<&'a str>, Refused> {
-    let mut borrowed = Vec::new(alloc);
-    borrowed.push("binlogfeed")?;
-    for word in words {
-        borrowed.push(word.as_str())?;
-    }
-    Ok(borrowed)
-}
+/// What stands in front of the words that the system gives.
+const PROGRAM: &str = "binlogfeed";
 
 /// A copy of the file of a case with a name.
 fn file_named(alloc: Global, case: &Case, name: &str) -> Result<Named, Refused> {
@@ -34,28 +30,60 @@ fn files_named(alloc: Global, case: &Case, names: &[&str]) -> Result<Vec<Named>,
     Ok(files)
 }
 
-/// Does a job over the files of a case with these names, and says what came of it.
-fn perform_job(
+/// The files of a case with these names as a source, and a window.
+fn source_named(
     alloc: Global,
     case: &Case,
     names: &[&str],
-    job: Job<'_>,
     how: How,
-) -> Result<String, Refused> {
-    let files = files_named(alloc, case, names)?;
-    run_files(alloc, files, job, how)?.text(alloc)
+) -> Result<(MemoryLogs, Vec<u8>), Refused> {
+    prepared(alloc, files_named(alloc, case, names)?, how)
 }
 
-/// Does what an order asks for, over the case's files, and says what came of it.
-fn perform(alloc: Global, case: &Case, order: Order<'_>, how: How) -> Result<String, Refused> {
+/// Runs over the units of the files of a case with these names.
+fn units_named(alloc: Global, case: &Case, names: &[&str], how: How) -> Result<Outcome, Refused> {
+    let (logs, window) = source_named(alloc, case, names, how)?;
+    run_units(alloc, logs, window, how.room)
+}
+
+/// Runs over the changes of the files of a case with these names.
+fn changes_named(
+    alloc: Global,
+    case: &Case,
+    names: &[&str],
+    filter: Filter,
+    start: Start,
+    how: How,
+) -> Result<Outcome, Refused> {
+    match source_named(alloc, case, names, how) {
+        Ok((logs, window)) => run_changes(alloc, logs, filter, start, window, how.room),
+        Err(why) => Err(why),
+    }
+}
+
+/// Runs over the changes of a key in the files of a case with these names.
+fn key_named(
+    alloc: Global,
+    case: &Case,
+    names: &[&str],
+    table: (&str, &str),
+    key: &str,
+    how: How,
+) -> Result<Outcome, Refused> {
+    let (logs, window) = source_named(alloc, case, names, how)?;
+    run_key(alloc, logs, table, key, window, how.room)
+}
+
+/// Does what an order asks for, over the case's files.
+fn perform(alloc: Global, case: &Case, order: Order<'_>, how: How) -> Result<Outcome, Refused> {
     match order {
-        Order::Transactions { files } => perform_job(alloc, case, &files, Job::Transactions, how),
+        Order::Transactions { files } => units_named(alloc, case, &files, how),
         Order::Read {
             filter,
             start,
             files,
             ..
-        } => perform_job(alloc, case, &files, Job::Changes { filter, start }, how),
+        } => changes_named(alloc, case, &files, filter, start, how),
         // A run that follows reads an input, which cases have none of.
         Order::Follow { .. } => Err(Refused::UnknownWord),
         Order::History {
@@ -64,31 +92,16 @@ fn perform(alloc: Global, case: &Case, order: Order<'_>, how: How) -> Result<Str
             key,
             files,
             ..
-        } => {
-            let text = key.as_str();
-            let key = Key {
-                schema,
-                table,
-                text,
-            };
-            perform_job(alloc, case, &files, Job::History(key), how)
-        }
+        } => key_named(alloc, case, &files, (schema, table), key.as_str(), how),
     }
 }
 
-/// What comes of words that are carried out over a case's files.
-fn answer(alloc: Global, case: &Case, words: &[&str], how: How) -> Result<String, Refused> {
-    match read_words(alloc, words) {
-        Ok(order) => perform(alloc, case, order, how),
-        Err(fault) => fault_text(alloc, &fault),
-    }
-}
-
-/// What words ask for.
-fn asked(alloc: Global, words: &[&str]) -> Result<String, Refused> {
-    match read_words(alloc, words) {
-        Ok(order) => order_text(alloc, order),
-        Err(fault) => fault_text(alloc, &fault),
+/// What comes of words that are carried out over a case's files in a way; or, where there is none, what they ask for.
+fn answer(alloc: Global, case: &Case, words: &[&str], how: Option<How>) -> Result<String, Refused> {
+    match (read_words(alloc, words), how) {
+        (Ok(order), Some(how)) => perform(alloc, case, order, how)?.text(alloc),
+        (Ok(order), None) => order_text(alloc, order),
+        (Err(fault), _) => fault_text(alloc, &fault),
     }
 }
 
@@ -100,7 +113,7 @@ fn answer_each(alloc: Global, case: &Case, words: &[&str]) -> Result<Verdict, Re
             window: *window,
             ..How::of(case)
         };
-        let came = answer(alloc, case, words, how)?;
+        let came = answer(alloc, case, words, Some(how))?;
         if !case.wants(came.as_str()) {
             return Ok(Verdict::Differs { came });
         }
@@ -111,14 +124,14 @@ fn answer_each(alloc: Global, case: &Case, words: &[&str]) -> Result<Verdict, Re
 
 /// `binlogfeed WORD..`: does what the words ask for, with each of the case's windows.
 pub fn answer_words(alloc: Global, case: &Case, words: &[String]) -> Result<Verdict, Refused> {
-    let words = borrowed(alloc, words)?;
+    let words = borrowed(alloc, &[PROGRAM], words)?;
     answer_each(alloc, case, &words)
 }
 
 /// `words WORD..`: what the words ask for.
 pub fn show_words(alloc: Global, case: &Case, words: &[String]) -> Result<Verdict, Refused> {
-    let words = borrowed(alloc, words)?;
-    let came = asked(alloc, &words)?;
+    let words = borrowed(alloc, &[PROGRAM], words)?;
+    let came = answer(alloc, case, &words, None)?;
     Ok(Verdict::of(case, came))
 }
 

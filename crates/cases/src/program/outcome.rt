@@ -4,6 +4,7 @@ ghost use Rattle.binlog_frame.specs.Memory.{names_in_memory};
 ghost use Rattle.binlogfeed.specs.Faults.{IsNamed};
 
 use crate::language::{Case, Named, Page, Reads, Refused, Room, SMALL_WINDOW, source};
+use crate::program::runs::Task;
 use crate::program::writer::Narrow;
 use binlog_feed::Start;
 use binlog_frame::MemoryLogs;
@@ -39,22 +40,6 @@ impl How {
     }
 }
 
-/// The key of which a history is asked for.
-#[derive(Clone, Copy)]
-pub struct Key<'a> {
-    pub schema: &'a str,
-    pub table: &'a str,
-    pub text: &'a str,
-}
-
-/// What is run.
-#[derive(Drop)]
-pub enum Job<'a> {
-    Transactions,
-    Changes { filter: Filter, start: Start },
-    History(Key<'a>),
-}
-
 /// How a run came out: what the writer received, how often it was flushed, and how the run ended.
 #[derive(Drop)]
 pub struct Outcome {
@@ -66,33 +51,77 @@ pub struct Outcome {
     pub fault: Option<RunFault>,
 }
 
+/// The files as a source, and a window.
+pub fn prepared(
+    alloc: Global,
+    files: Vec<Named>,
+    how: How,
+) -> Result<(MemoryLogs, Vec<u8>), Refused> {
+    let window = vec![in alloc; 0u8; how.window]?;
+    Ok((source(files, how.reads)?, window))
+}
+
 /// Runs over files once.
 pub fn run_files(
     alloc: Global,
     files: Vec<Named>,
-    job: Job<'_>,
+    task: Task,
     how: How,
 ) -> Result<Outcome, Refused> {
     let (logs, window) = prepared(alloc, files, how)?;
-    run_prepared(alloc, logs, window, job, how.room)
+    match task {
+        Task::Transactions => run_units(alloc, logs, window, how.room),
+        Task::Changes => {
+            run_changes(
+                alloc,
+                logs,
+                Filter::new(),
+                Start::Beginning,
+                window,
+                how.room,
+            )
+        }
+    }
 }
 
-/// Runs over a source once, with a window.
-fn run_prepared(
+/// Runs over the units of a source once.
+pub fn run_units(
     alloc: Global,
     logs: MemoryLogs,
     window: Vec<u8>,
-    job: Job<'_>,
     room: Room,
 ) -> Result<Outcome, Refused> {
     let mut out = Narrow::new(alloc, room);
-    let (logs, answer) = match job {
-        Job::Transactions => run_transactions(alloc, logs, window, &mut out),
-        Job::Changes { filter, start } => run(alloc, logs, filter, start, window, &mut out),
-        Job::History(key) => run_history(
-            alloc, logs, key.schema, key.table, key.text, window, &mut out,
-        ),
-    };
+    let (logs, answer) = run_transactions(alloc, logs, window, &mut out);
+    outcome_of(alloc, &logs, out, answer)
+}
+
+/// Runs over the changes of a source once.
+pub fn run_changes(
+    alloc: Global,
+    logs: MemoryLogs,
+    filter: Filter,
+    start: Start,
+    window: Vec<u8>,
+    room: Room,
+) -> Result<Outcome, Refused> {
+    let mut out = Narrow::new(alloc, room);
+    let (logs, answer) = run(alloc, logs, filter, start, window, &mut out);
+    outcome_of(alloc, &logs, out, answer)
+}
+
+/// Runs over the changes of a table of a source that have a key, once.
+pub fn run_key(
+    alloc: Global,
+    logs: MemoryLogs,
+    table: (&str, &str),
+    key: &str,
+    window: Vec<u8>,
+    room: Room,
+) -> Result<Outcome, Refused> {
+    let (schema, table) = table;
+    let mut out = Narrow::new(alloc, room);
+    let (logs, answer) = run_history(alloc, logs, schema, table, key, window, &mut out);
     outcome_of(alloc, &logs, out, answer)
 }
 
@@ -113,12 +142,6 @@ fn outcome_of(
         end,
         fault: answer.err(),
     })
-}
-
-/// The files as a source, and a window.
-fn prepared(alloc: Global, files: Vec<Named>, how: How) -> Result<(MemoryLogs, Vec<u8>), Refused> {
-    let window = vec![in alloc; 0u8; how.window]?;
-    Ok((source(files, how.reads)?, window))
 }
 
 /// The status of a run, and its line on standard error or the number of its lines.
@@ -182,19 +205,14 @@ impl Outcome {
         text.push('\n');
     }
 
-    /// Appends the lines, and behind them a line that tells the end.
-    pub fn push_text(&self, text: &mut Page) {
+    /// The lines, and behind them a line that tells the end.
+    pub fn text(&self, alloc: Global) -> Result<String, Refused> {
+        let mut text = Page::new(alloc);
         match self.lines() {
             Ok(lines) => text.push_str(lines),
             Err(why) => text.refuse(why),
         }
-        self.push_end_line(text);
-    }
-
-    /// The lines, and behind them a line that tells the end.
-    pub fn text(&self, alloc: Global) -> Result<String, Refused> {
-        let mut text = Page::new(alloc);
-        self.push_text(&mut text);
+        self.push_end_line(&mut text);
         text.into_text()
     }
 

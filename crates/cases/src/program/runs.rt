@@ -1,8 +1,6 @@
 //! Runs over a case's files.
 use crate::language::{Case, Refused, Verdict, copies_of, only_word};
-use crate::program::outcome::{How, Job, Outcome, run_files};
-use binlog_feed::Start;
-use binlog_select::Filter;
+use crate::program::outcome::{How, Outcome, run_files};
 use std::alloc::Global;
 
 /// What is run.
@@ -22,35 +20,31 @@ impl Task {
             _ => Err(Refused::UnknownWord),
         }
     }
-
-    pub fn job(self) -> Job<'static> {
-        match self {
-            Task::Transactions => Job::Transactions,
-            Task::Changes => Job::Changes {
-                filter: Filter::new(),
-                start: Start::Beginning,
-            },
-        }
-    }
 }
 
 /// Runs over the files of a case once.
 pub fn run_once(alloc: Global, case: &Case, task: Task, how: How) -> Result<Outcome, Refused> {
-    run_files(alloc, copies_of(alloc, &case.files)?, task.job(), how)
+    run_files(alloc, copies_of(alloc, &case.files)?, task, how)
+}
+
+/// What comes of a run over the files of a case.
+pub fn text_once(alloc: Global, case: &Case, task: Task, how: How) -> Result<String, Refused> {
+    run_once(alloc, case, task, how)?.text(alloc)
 }
 
 /// What comes of a run: all of it, or its measure alone.
 fn text_of(
     alloc: Global,
     case: &Case,
-    verb: &str,
+    is_measured: bool,
     task: Task,
     how: How,
 ) -> Result<String, Refused> {
     let outcome = run_once(alloc, case, task, how)?;
-    match verb {
-        "run" => outcome.text(alloc),
-        _ => outcome.measure(alloc),
+    if is_measured {
+        outcome.measure(alloc)
+    } else {
+        outcome.text(alloc)
     }
 }
 
@@ -58,7 +52,7 @@ fn text_of(
 pub fn run_task(
     alloc: Global,
     case: &Case,
-    verb: &str,
+    is_measured: bool,
     words: &[String],
 ) -> Result<Verdict, Refused> {
     let task = Task::read(only_word(words)?)?;
@@ -68,7 +62,7 @@ pub fn run_task(
             window: *window,
             ..How::of(case)
         };
-        let came = text_of(alloc, case, verb, task, how)?;
+        let came = text_of(alloc, case, is_measured, task, how)?;
         if !case.wants(came.as_str()) {
             return Ok(Verdict::Differs { came });
         }

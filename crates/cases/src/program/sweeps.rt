@@ -1,7 +1,7 @@
 //! Sweeps: runs in which the writer's room, the reads or a file's length go through all values.
-use crate::language::{Case, Full, Page, Reads, Refused, Room, Verdict, copies_of, number};
+use crate::language::{Case, Full, Page, Reads, Refused, Room, Verdict, cut_copies, number};
 use crate::program::outcome::{How, Outcome, run_files};
-use crate::program::runs::{Task, run_once};
+use crate::program::runs::{Task, run_once, text_once};
 use binlogfeed::fault::RunFault;
 use std::alloc::Global;
 
@@ -41,20 +41,15 @@ fn sweep_beside(
         "each-room" => each_room(alloc, case, task, whole),
         "each-read" => each_read(alloc, case, task, whole),
         "each-short" => each_short(alloc, case, task),
-        _ => each_cut(alloc, case, task, ends),
+        "each-cut" => each_cut(alloc, case, task, ends),
+        _ => Err(Refused::UnknownWord),
     }
 }
 
 /// What came of a run of a sweep, and which run it was.
 pub fn differs(alloc: Global, which: &str, at: usize, came: &Outcome) -> Result<Verdict, Refused> {
-    let mut text = Page::new(alloc);
-    text.push_str(which);
-    text.push_named(" ", at as u64);
-    text.push_str(":\n");
-    came.push_text(&mut text);
-    Ok(Verdict::Differs {
-        came: text.into_text()?,
-    })
+    let came = came.text(alloc)?;
+    Verdict::of_run(alloc, which, at as u64, came.as_str())
 }
 
 /// Whether a run was cut by its writer: so many bytes of the whole were received, and nothing was flushed.
@@ -155,31 +150,29 @@ fn each_short(alloc: Global, case: &Case, task: Task) -> Result<Verdict, Refused
             reads,
             ..How::of(case)
         };
-        let came = run_once(alloc, case, task, how)?;
-        if came.text(alloc)?.as_str() != case.wanted.as_str() {
-            return differs(alloc, "reads of", most, &came);
+        let came = text_once(alloc, case, task, how)?;
+        if !case.wants(came.as_str()) {
+            return Verdict::of_run(alloc, "reads of", most as u64, came.as_str());
         }
         runs = runs.saturating_add(1);
     }
     Ok(Verdict::Well { runs })
 }
 
-/// Runs over the beginning of a case's last file.
-fn run_cut(alloc: Global, case: &Case, task: Task, length: usize) -> Result<Outcome, Refused> {
-    let mut files = copies_of(alloc, &case.files)?;
-    if let Some(last) = files.last_mut() {
-        last.1.truncate(length);
-    }
-    run_files(alloc, files, task.job(), How::of(case))
+/// What comes of a run over the beginning of a case's last file.
+fn text_of_cut(alloc: Global, case: &Case, task: Task, length: usize) -> Result<String, Refused> {
+    let files = cut_copies(alloc, &case.files, length)?;
+    run_files(alloc, files, task, How::of(case))?.text(alloc)
 }
 
-/// The text that comes of a beginning: the first lines of the whole, as many as have their end there.
-fn wanted_of_cut(
+/// Whether this came of a beginning: the first lines of the whole, as many as have their end there.
+fn is_wanted_of_cut(
     alloc: Global,
     case: &Case,
     ends: &[String],
     length: usize,
-) -> Result<String, Refused> {
+    came: &str,
+) -> Result<bool, Refused> {
     let mut text = Page::new(alloc);
     let mut lines = 0u64;
     for (end, line) in ends.iter().zip(case.wanted.as_str().lines()) {
@@ -195,7 +188,8 @@ fn wanted_of_cut(
     }
     text.push_named("end 0, flushes 1, lines ", lines);
     text.push('\n');
-    text.into_text()
+    text.whole()?;
+    Ok(text.as_str() == came)
 }
 
 /// `each-cut TASK END..`: cuts the last file to each length. END says for each line of the whole how long the file must be for it.
@@ -205,10 +199,9 @@ fn each_cut(alloc: Global, case: &Case, task: Task, ends: &[String]) -> Result<V
     }
     let mut runs = 0u64;
     for length in 0..=case.last_length() {
-        let came = run_cut(alloc, case, task, length)?;
-        let wanted = wanted_of_cut(alloc, case, ends, length)?;
-        if came.text(alloc)?.as_str() != wanted.as_str() {
-            return differs(alloc, "cut to", length, &came);
+        let came = text_of_cut(alloc, case, task, length)?;
+        if !is_wanted_of_cut(alloc, case, ends, length, came.as_str())? {
+            return Verdict::of_run(alloc, "cut to", length as u64, came.as_str());
         }
         runs = runs.saturating_add(1);
     }

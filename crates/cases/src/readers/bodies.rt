@@ -98,35 +98,24 @@ fn kind_of(word: &str) -> Result<u8, Refused> {
 }
 
 /// `header PART..`: the parts of a header, and its class.
-pub fn header_text(alloc: Global, pieces: &Pieces, words: &[String]) -> Result<String, Refused> {
-    told_header(alloc, &pieces.bytes_of(alloc, words)?)
-}
-
-/// The line of a header.
-fn told_header(alloc: Global, bytes: &[u8]) -> Result<String, Refused> {
+pub fn push_header(
+    alloc: Global,
+    text: &mut Page,
+    pieces: &Pieces,
+    words: &[String],
+) -> Result<(), Refused> {
+    let bytes = pieces.bytes_of(alloc, words)?;
     if bytes.len() != Header::LEN {
         return Err(Refused::BadPart);
     }
     let mut head = [0u8; 19];
-    head.copy_from_slice(bytes);
+    head.copy_from_slice(&bytes);
     let header = Header::read(&head);
-    let mut text = Page::new(alloc);
     text.push_named("length ", header.length as u64);
     text.push_str(", ");
-    show_header(&mut text, &header);
+    show_header(text, &header);
     text.push('\n');
-    text.into_text()
-}
-
-/// The line of a body.
-fn told_body(alloc: Global, kind: &str, body: &[u8]) -> Result<String, Refused> {
-    let number = kind_of(kind)?;
-    let mut text = Page::new(alloc);
-    text.push_str("kind ");
-    text.push_str(kind);
-    show_body(&mut text, number, body);
-    text.push('\n');
-    text.into_text()
+    Ok(())
 }
 
 /// The numbers at which a list has `true`, neighbours as a range.
@@ -141,54 +130,45 @@ fn show_ranges(text: &mut Page, members: &[bool]) {
     text.push('\n');
 }
 
-fn has_reading(alloc: Global, kind: u8, body: &[u8]) -> Result<bool, Refused> {
-    let mut text = Page::new(alloc);
-    show_body(&mut text, kind, body);
-    text.whole()?;
-    Ok(text.as_str() != BAD_BODY)
+fn has_reading(alloc: Global, text: &mut Page, kind: u8, body: &[u8]) -> bool {
+    let mut said = Page::new(alloc);
+    show_body(&mut said, kind, body);
+    text.carry(&said);
+    said.as_str() != BAD_BODY
 }
 
 /// Which beginnings of a body have a reading.
-fn readable(alloc: Global, kind: u8, body: &[u8]) -> Result<Vec<bool>, Refused> {
+fn push_lengths(alloc: Global, text: &mut Page, kind: u8, body: &[u8]) -> Result<(), Refused> {
     let mut readable = Vec::new(alloc);
     for length in 0..=body.len() {
-        readable.push(has_reading(alloc, kind, &body[..length])?)?;
+        readable.push(has_reading(alloc, text, kind, &body[..length]))?;
     }
-    Ok(readable)
-}
-
-/// The line of the lengths of a body's readable beginnings.
-fn told_lengths(alloc: Global, kind: &str, body: &[u8]) -> Result<String, Refused> {
-    let readable = readable(alloc, kind_of(kind)?, body)?;
-    let mut text = Page::new(alloc);
     text.push_str("readable");
-    show_ranges(&mut text, &readable);
-    text.into_text()
+    show_ranges(text, &readable);
+    Ok(())
 }
 
 /// `body KIND PART..`: what the body of an event of that kind says. `lengths KIND PART..`: which beginnings of it have a reading, by
 /// their lengths.
-pub fn body_text(
+pub fn push_body(
     alloc: Global,
+    text: &mut Page,
     pieces: &Pieces,
-    verb: &str,
+    asks_lengths: bool,
     words: &[String],
-) -> Result<String, Refused> {
+) -> Result<(), Refused> {
     let Some((kind, parts)) = words.split_first() else {
         return Err(Refused::BadPart);
     };
-    match pieces.bytes_of(alloc, parts) {
-        Ok(body) => told_of_body(alloc, verb, kind.as_str(), &body),
-        Err(why) => Err(why),
+    let kind = kind_of(kind.as_str())?;
+    let body = pieces.bytes_of(alloc, parts)?;
+    if asks_lengths {
+        return push_lengths(alloc, text, kind, &body);
     }
-}
-
-/// What `body` or `lengths` gives.
-fn told_of_body(alloc: Global, verb: &str, kind: &str, body: &[u8]) -> Result<String, Refused> {
-    match verb {
-        "body" => told_body(alloc, kind, body),
-        _ => told_lengths(alloc, kind, body),
-    }
+    text.push_named("kind ", kind as u64);
+    show_body(text, kind, &body);
+    text.push('\n');
+    Ok(())
 }
 
 /// The class of a kind, where a header has these flags.
@@ -214,11 +194,10 @@ fn members_of(class: Class, flags: u16) -> [bool; 256] {
 }
 
 /// `kinds FLAGS`: the kinds of each class, where a header has these flags.
-pub fn kinds_text(alloc: Global, words: &[String]) -> Result<String, Refused> {
+pub fn push_kinds(text: &mut Page, words: &[String]) -> Result<(), Refused> {
     let Ok(flags) = only_word(words)?.parse::<u16>() else {
         return Err(Refused::BadPart);
     };
-    let mut text = Page::new(alloc);
     for class in [
         Class::Transaction,
         Class::End,
@@ -226,7 +205,7 @@ pub fn kinds_text(alloc: Global, words: &[String]) -> Result<String, Refused> {
         Class::OutOfProfile,
     ] {
         text.push_debug(&class);
-        show_ranges(&mut text, &members_of(class, flags));
+        show_ranges(text, &members_of(class, flags));
     }
-    text.into_text()
+    Ok(())
 }

@@ -1,9 +1,8 @@
 //! Filters: which changes pass.
 use crate::language::{Page, Refused};
-use crate::readers::sets::{answer_of, gtid_of, set_of};
+use crate::readers::sets::{gtid_of, push_answer, set_of};
 use binlog_select::{ChangeKind, Filter, Kinds, Names};
 use std::alloc::Global;
-use uuid::Uuid;
 
 fn kind_of(word: &str) -> Result<ChangeKind, Refused> {
     match word {
@@ -25,38 +24,24 @@ fn push_name(alloc: Global, names: &mut Vec<String>, name: &str) -> Result<(), R
     }
 }
 
-/// Appends the names between commas.
-fn push_names(alloc: Global, names: &mut Vec<String>, list: &str) -> Result<(), Refused> {
-    for name in list.split(',') {
-        push_name(alloc, names, name)?;
-    }
-    Ok(())
-}
-
 /// The names between commas; where nothing follows a list's name, no names.
 fn names_of(alloc: Global, list: Option<&str>) -> Result<Names, Refused> {
     let mut names = Vec::new(alloc);
     if let Some(list) = list {
-        push_names(alloc, &mut names, list)?;
-    }
-    Ok(Names::from(names))
-}
-
-/// Appends the kinds between commas.
-fn push_kinds(kinds: &mut Vec<ChangeKind>, list: &str) -> Result<(), Refused> {
-    for name in list.split(',') {
-        if kinds.push(kind_of(name)?).is_err() {
-            return Err(Refused::OutOfMemory);
+        for name in list.split(',') {
+            push_name(alloc, &mut names, name)?;
         }
     }
-    Ok(())
+    Ok(Names::from(names))
 }
 
 /// The kinds between commas; where nothing follows a list's name, no kinds.
 fn kinds_of(alloc: Global, list: Option<&str>) -> Result<Kinds, Refused> {
     let mut kinds = Vec::new(alloc);
     if let Some(list) = list {
-        push_kinds(&mut kinds, list)?;
+        for name in list.split(',') {
+            kinds.push(kind_of(name)?)?;
+        }
     }
     Ok(Kinds::from(kinds))
 }
@@ -105,42 +90,20 @@ fn set_words(alloc: Global, filter: &mut Filter, words: &[String]) -> Result<(),
     Ok(())
 }
 
-/// Whether a change of a kind, a table of a schema and a GTID passes a filter.
-fn is_passed(
-    filter: &Filter,
-    kind: &str,
-    table: (&str, &str),
-    gtid: Option<(Uuid, u64)>,
-) -> Result<bool, Refused> {
-    let (schema, table) = table;
-    Ok(filter.passes(kind_of(kind)?, schema, table, gtid))
-}
-
-/// The filter that words give its lists.
-fn filter_of(alloc: Global, words: &[String]) -> Result<Filter, Refused> {
-    let mut filter = Filter::new();
-    match set_words(alloc, &mut filter, words) {
-        Ok(()) => Ok(filter),
-        Err(why) => Err(why),
-    }
-}
-
-/// Whether a change of a kind, a schema, a table and a GTID passes a filter with the lists behind them.
-fn passes(alloc: Global, words: &[String]) -> Result<bool, Refused> {
+/// `passes KIND SCHEMA TABLE GTID LIST..`: whether such a change passes a filter with such lists.
+pub fn push_passes(alloc: Global, text: &mut Page, words: &[String]) -> Result<(), Refused> {
     let [kind, schema, table, gtid, lists @ ..] = words else {
         return Err(Refused::BadPart);
     };
+    let kind = kind_of(kind.as_str())?;
     let gtid = gtid_of(alloc, gtid.as_str())?;
-    let table = (schema.as_str(), table.as_str());
-    match filter_of(alloc, lists) {
-        Ok(filter) => is_passed(&filter, kind.as_str(), table, gtid),
-        Err(why) => Err(why),
-    }
-}
-
-/// `passes KIND SCHEMA TABLE GTID LIST..`: whether such a change passes such a filter.
-pub fn passes_text(alloc: Global, words: &[String]) -> Result<String, Refused> {
-    answer_of(alloc, passes(alloc, words)?)
+    let mut filter = Filter::new();
+    set_words(alloc, &mut filter, lists)?;
+    push_answer(
+        text,
+        filter.passes(kind, schema.as_str(), table.as_str(), gtid),
+    );
+    Ok(())
 }
 
 /// The set of these names.
@@ -152,17 +115,12 @@ fn set_of_names(alloc: Global, words: &[String]) -> Result<Names, Refused> {
     Ok(Names::from(names))
 }
 
-/// Names, a line each.
-fn show_names(alloc: Global, names: &[String]) -> Result<String, Refused> {
-    let mut text = Page::new(alloc);
-    for name in names {
+/// `name-set NAME..`: the names as a set of names gives them back, a line each.
+pub fn push_name_set(alloc: Global, text: &mut Page, words: &[String]) -> Result<(), Refused> {
+    let names = set_of_names(alloc, words)?.into_vec();
+    for name in &names {
         text.push_str(name.as_str());
         text.push('\n');
     }
-    text.into_text()
-}
-
-/// `name-set NAME..`: the names as a set of names gives them back, a line each.
-pub fn names_text(alloc: Global, words: &[String]) -> Result<String, Refused> {
-    show_names(alloc, &set_of_names(alloc, words)?.into_vec())
+    Ok(())
 }

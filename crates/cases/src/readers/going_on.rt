@@ -1,5 +1,5 @@
 //! A feed that goes on over files that have grown, and one that begins where a file ends.
-use crate::language::{Case, Named, Page, Refused, copies_of, number, source};
+use crate::language::{Case, Named, Page, Refused, cut_copies, number, source};
 use crate::readers::feed::show_change;
 use crate::readers::reads::first_window;
 use crate::readers::starts::Parts;
@@ -40,11 +40,7 @@ fn files_of(alloc: Global, case: &Case, list: List) -> Result<Vec<Named>, Refuse
     let Some(files) = case.files.get(list.first..list.behind) else {
         return Err(Refused::BadPart);
     };
-    let mut copies = copies_of(alloc, files)?;
-    if let Some(last) = copies.last_mut() {
-        last.1.truncate(list.bytes);
-    }
-    Ok(copies)
+    cut_copies(alloc, files, list.bytes)
 }
 
 /// A source of the files that a word names.
@@ -55,129 +51,132 @@ fn source_at(alloc: Global, case: &Case, word: &str) -> Result<MemoryLogs, Refus
 /// A feed of the files that a word names.
 fn feed_at(alloc: Global, case: &Case, word: &str) -> Result<Feed<MemoryLogs>, Refused> {
     let logs = source_at(alloc, case, word)?;
-    match Parts::first(alloc, logs, &[], first_window(case))?.open(alloc) {
-        Ok(feed) => Ok(feed),
-        Err(_) => Err(Refused::BadPart),
-    }
+    Parts::first(alloc, logs, &[], first_window(case))?.opened(alloc)
 }
 
 /// Gives a feed a window of another length.
-fn enlarge(alloc: Global, feed: &mut Feed<MemoryLogs>, needed: u32) -> Result<(), Refused> {
-    let window = window_of(alloc, needed as usize)?;
-    let _old = feed.replace_window(window);
-    Ok(())
+fn enlarge(alloc: Global, feed: &mut Feed<MemoryLogs>, needed: u32, text: &mut Page) {
+    match window_of(alloc, needed as usize) {
+        Ok(window) => {
+            let _old = feed.replace_window(window);
+        }
+        Err(why) => text.refuse(why),
+    }
 }
 
 /// One step of a feed, and whether it was the last one.
-fn tell_next(alloc: Global, feed: &mut Feed<MemoryLogs>, text: &mut Page) -> Result<bool, Refused> {
+fn tell_next(alloc: Global, feed: &mut Feed<MemoryLogs>, text: &mut Page) -> bool {
     match feed.next() {
-        Ok(Some(change)) => show_change(text, &change),
+        Ok(Some(change)) => {
+            show_change(text, &change);
+            text.push('\n');
+            false
+        }
         Ok(None) => {
             text.push_str("end\n");
-            return Ok(true);
+            true
         }
         Err(FeedFault::WindowTooSmall { needed }) => {
-            enlarge(alloc, feed, needed)?;
-            return Ok(false);
+            enlarge(alloc, feed, needed, text);
+            false
         }
         Err(fault) => {
             text.push_debug(&fault);
             text.push('\n');
-            return Ok(true);
+            true
         }
     }
-    text.push('\n');
-    Ok(false)
 }
 
 /// All that a feed gives, and its end.
-fn tell_all(alloc: Global, feed: &mut Feed<MemoryLogs>, text: &mut Page) -> Result<(), Refused> {
+fn tell_all(alloc: Global, feed: &mut Feed<MemoryLogs>, text: &mut Page) {
     for _ in 0..MOST_CHANGES {
-        if tell_next(alloc, feed, text)? {
-            return Ok(());
+        if tell_next(alloc, feed, text) {
+            return;
         }
     }
-    Err(Refused::BadPart)
+    text.refuse(Refused::BadPart);
 }
 
 /// Notes why a feed did not go on. Where its window was too small, it has a larger one then.
-fn note_refusal(
-    alloc: Global,
-    feed: &mut Feed<MemoryLogs>,
-    fault: GoOnFault,
-    text: &mut Page,
-) -> Result<(), Refused> {
+fn note_refusal(alloc: Global, feed: &mut Feed<MemoryLogs>, fault: GoOnFault, text: &mut Page) {
     text.push_debug(&fault);
     text.push('\n');
     match fault {
-        GoOnFault::Earlier(FeedFault::WindowTooSmall { needed }) => enlarge(alloc, feed, needed),
-        GoOnFault::Later(FeedFault::WindowTooSmall { needed }) => enlarge(alloc, feed, needed),
-        _ => Ok(()),
+        GoOnFault::Earlier(FeedFault::WindowTooSmall { needed })
+        | GoOnFault::Later(FeedFault::WindowTooSmall { needed }) => {
+            enlarge(alloc, feed, needed, text);
+        }
+        _ => {}
     }
 }
 
-/// A feed that went on over the files that a word names, with all that it then gave; or as it was, and why it didn't.
+/// A feed that went on over a source, with all that it then gave; or as it was, and why it didn't.
 fn gone_on(
     alloc: Global,
-    case: &Case,
     feed: Feed<MemoryLogs>,
-    word: &str,
+    logs: MemoryLogs,
     text: &mut Page,
-) -> Result<Feed<MemoryLogs>, Refused> {
-    let logs = source_at(alloc, case, word)?;
+) -> Feed<MemoryLogs> {
     match feed.go_on(logs, Filter::new()) {
         Ok((mut feed, _earlier)) => {
-            tell_all(alloc, &mut feed, text)?;
-            Ok(feed)
+            tell_all(alloc, &mut feed, text);
+            feed
         }
         Err((fault, mut feed, _logs, _filter)) => {
-            note_refusal(alloc, &mut feed, fault, text)?;
-            Ok(feed)
+            note_refusal(alloc, &mut feed, fault, text);
+            feed
         }
     }
 }
 
 /// `go-on LIST..`: all that a feed of the first list gives, and what it gives when it goes on over each further one.
-pub fn going_on_text(alloc: Global, case: &Case, words: &[String]) -> Result<String, Refused> {
+pub fn push_going_on(
+    alloc: Global,
+    text: &mut Page,
+    case: &Case,
+    words: &[String],
+) -> Result<(), Refused> {
     let Some((first, further)) = words.split_first() else {
         return Err(Refused::BadPart);
     };
-    let mut text = Page::new(alloc);
     let mut feed = feed_at(alloc, case, first.as_str())?;
-    tell_all(alloc, &mut feed, &mut text)?;
+    tell_all(alloc, &mut feed, text);
     for word in further {
-        feed = gone_on(alloc, case, feed, word.as_str(), &mut text)?;
+        match source_at(alloc, case, word.as_str()) {
+            Ok(logs) => feed = gone_on(alloc, feed, logs, text),
+            Err(why) => text.refuse(why),
+        }
     }
-    text.into_text()
+    let (_logs, _window) = feed.into_parts();
+    Ok(())
 }
 
-/// All that a feed gives that begins behind the last whole unit of a token's file; or why it wasn't opened.
-fn tell_behind(
+/// `at-end TOKEN LIST`: all that a feed of a list gives that begins behind the last whole unit of the token's file; or why it wasn't
+/// opened.
+pub fn push_at_end(
     alloc: Global,
-    logs: MemoryLogs,
-    token: Token,
-    window: Vec<u8>,
-) -> Result<String, Refused> {
-    let mut text = Page::new(alloc);
+    text: &mut Page,
+    case: &Case,
+    words: &[String],
+) -> Result<(), Refused> {
+    let [token, list] = words else {
+        return Err(Refused::BadPart);
+    };
+    let logs = source_at(alloc, case, list.as_str())?;
+    let window = window_of(alloc, first_window(case))?;
+    let Ok(token) = Token::parse(alloc, token.as_str()) else {
+        return Err(Refused::BadPart);
+    };
     match Feed::open_at_end(alloc, logs, Filter::new(), token, window) {
-        Ok(mut feed) => tell_all(alloc, &mut feed, &mut text)?,
+        Ok(mut feed) => {
+            tell_all(alloc, &mut feed, text);
+            let (_logs, _window) = feed.into_parts();
+        }
         Err((fault, _logs, _filter, _token, _window)) => {
             text.push_debug(&fault);
             text.push('\n');
         }
     }
-    text.into_text()
-}
-
-/// `at-end TOKEN LIST`: what a feed of a list gives that begins behind the last whole unit of the token's file.
-pub fn at_end_text(alloc: Global, case: &Case, words: &[String]) -> Result<String, Refused> {
-    let [token, list] = words else {
-        return Err(Refused::BadPart);
-    };
-    let Ok(token) = Token::parse(alloc, token.as_str()) else {
-        return Err(Refused::BadPart);
-    };
-    let logs = source_at(alloc, case, list.as_str())?;
-    let window = window_of(alloc, first_window(case))?;
-    tell_behind(alloc, logs, token, window)
+    Ok(())
 }

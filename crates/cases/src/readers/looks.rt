@@ -221,6 +221,14 @@ impl<'a, L: Logs> Looking<'a, L> {
         }
     }
 
+    /// Takes the feed apart: the proof of a function that drops one is dear.
+    pub fn close(self)
+    where
+        L: Drop,
+    {
+        let (_logs, _window) = self.feed.into_parts();
+    }
+
     /// Lets reads be seen from a reach on.
     fn see_from(&self, reach: Place) {
         let seen = self.seen.get();

@@ -56,33 +56,19 @@ fn show_order(alloc: Global, feed: &mut Feed<MemoryLogs>, order: &str, line: &mu
     }
 }
 
-/// What a feed gives for each order, a line each.
-fn show_orders(
+/// `look-up OPTION.. ORDER..`: what a feed with these options gives for each order, which is `next` or a token to look up.
+pub fn push_lookups(
     alloc: Global,
-    feed: &mut Feed<MemoryLogs>,
-    orders: &[String],
-) -> Result<String, Refused> {
-    let mut text = Page::new(alloc);
+    text: &mut Page,
+    case: &Case,
+    words: &[String],
+) -> Result<(), Refused> {
+    let (options, orders) = parts_of(words);
+    let mut feed = parts_of_case(alloc, case, options)?.opened(alloc)?;
     for order in orders {
-        show_order(alloc, feed, order.as_str(), &mut text);
+        show_order(alloc, &mut feed, order.as_str(), text);
         text.push('\n');
     }
-    text.into_text()
-}
-
-/// What a feed of these parts gives for each order.
-fn look_up(alloc: Global, parts: Parts<MemoryLogs>, orders: &[String]) -> Result<String, Refused> {
-    match parts.open(alloc) {
-        Ok(mut feed) => show_orders(alloc, &mut feed, orders),
-        Err(_) => Err(Refused::BadPart),
-    }
-}
-
-/// `look-up OPTION.. ORDER..`: what a feed with these options gives for each order, which is `next` or a token to look up.
-pub fn lookups_text(alloc: Global, case: &Case, words: &[String]) -> Result<String, Refused> {
-    let (options, orders) = parts_of(words);
-    match parts_of_case(alloc, case, options) {
-        Ok(parts) => look_up(alloc, parts, orders),
-        Err(why) => Err(why),
-    }
+    let (_logs, _window) = feed.into_parts();
+    Ok(())
 }

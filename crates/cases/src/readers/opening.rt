@@ -1,9 +1,8 @@
 //! Files of the system: their names and lengths, and what the layers tell of them.
-use crate::language::{Case, Named, Page, Refused, Verdict};
+use crate::language::{Case, Named, Page, Refused, Verdict, borrowed};
 use crate::readers::looks::looks_of;
 use crate::readers::reading::{plain_of, tell_source};
 use crate::readers::reads::show_names;
-use crate::readers::steps::Told;
 use crate::readers::watched::{Seen, Watched};
 use crate::readers::ways::{Layer, Reading};
 use binlog_frame::{FileLogs, OpenFault};
@@ -21,16 +20,7 @@ pub fn judge_open<R: Files + AllocGlobal>(
     let Some((what, paths)) = words.split_first() else {
         return Err(Refused::BadPart);
     };
-    open_at(rt, case, what.as_str(), &borrowed(rt.alloc(), paths)?)
-}
-
-/// Paths, borrowed one by one.
-fn borrowed(alloc: Global, paths: &[String]) -> Result<Vec<&str>, Refused> {
-    let mut borrowed: Vec<&str> = Vec::new(alloc);
-    for path in paths {
-        borrowed.push(path.as_str())?;
-    }
-    Ok(borrowed)
+    open_at(rt, case, what.as_str(), &borrowed(rt.alloc(), &[], paths)?)
 }
 
 /// Opens the files of paths, and tells their names, or what a layer reads of them.
@@ -89,7 +79,7 @@ fn held_at<R: Files + AllocGlobal>(rt: &R, paths: &[&str]) -> Result<Vec<Named>,
     Ok(held)
 }
 
-/// Reads the files of paths, which hold so much.
+/// Reads the files of paths, which hold so much, with the looks at what a plain feed tells.
 fn read_opened<R: Files + AllocGlobal>(
     rt: &R,
     case: &Case,
@@ -97,26 +87,8 @@ fn read_opened<R: Files + AllocGlobal>(
     paths: &[&str],
     held: &[Named],
 ) -> Result<Verdict, Refused> {
-    read_with(
-        rt,
-        case,
-        layer,
-        paths,
-        held,
-        &plain_of(rt.alloc(), held, layer)?,
-    )
-}
-
-/// Reads the files of paths, with the looks at what a plain feed told.
-fn read_with<R: Files + AllocGlobal>(
-    rt: &R,
-    case: &Case,
-    layer: Layer,
-    paths: &[&str],
-    held: &[Named],
-    plain: &Told,
-) -> Result<Verdict, Refused> {
-    let looks = looks_of(rt.alloc(), plain)?;
+    let plain = plain_of(rt.alloc(), held, layer)?;
+    let looks = looks_of(rt.alloc(), &plain)?;
     let reading = Reading {
         looks: &looks,
         ..Reading::plain(layer, case.reads, 0)

@@ -3,22 +3,24 @@ use crate::language::{Case, Page, Refused, number};
 use crate::readers::lookups::parts_of_case;
 use crate::readers::reads::{first_window, source_of};
 use crate::readers::steps::{Answer, Steps, window_of};
-use binlog_feed::{Feed, Units};
+use binlog_feed::Units;
 use binlog_frame::{Logs, MemoryLogs};
 use std::alloc::Global;
 
 /// `parts units COUNT` and `parts feed COUNT`: the source and the window after so many calls, with the first of the case's windows.
-pub fn parts_text(alloc: Global, case: &Case, words: &[String]) -> Result<String, Refused> {
-    match words {
-        [layer, count] => parts_of(alloc, case, layer.as_str(), number(count.as_str())?),
-        _ => Err(Refused::BadPart),
-    }
-}
-
-fn parts_of(alloc: Global, case: &Case, layer: &str, count: usize) -> Result<String, Refused> {
-    match layer {
-        "units" => parts_of_units(alloc, case, count),
-        "feed" => parts_of_feed(alloc, case, count),
+pub fn push_parts(
+    alloc: Global,
+    text: &mut Page,
+    case: &Case,
+    words: &[String],
+) -> Result<(), Refused> {
+    let [layer, count] = words else {
+        return Err(Refused::BadPart);
+    };
+    let count = number(count.as_str())?;
+    match layer.as_str() {
+        "units" => push_units(alloc, text, case, count),
+        "feed" => push_feed(alloc, text, case, count),
         _ => Err(Refused::UnknownWord),
     }
 }
@@ -52,41 +54,25 @@ fn show_parts(text: &mut Page, logs: &MemoryLogs, window: &[u8]) {
     text.push('\n');
 }
 
-fn parts_of_units(alloc: Global, case: &Case, count: usize) -> Result<String, Refused> {
-    let window = window_of(alloc, first_window(case))?;
-    match Units::open(alloc, source_of(alloc, case)?, window) {
-        Ok(units) => told_units(alloc, units, count),
-        Err(_) => Err(Refused::BadPart),
-    }
-}
-
 /// What units give when they are asked so often, the reach of their source, and their parts.
-fn told_units(
-    alloc: Global,
-    mut units: Units<MemoryLogs>,
-    count: usize,
-) -> Result<String, Refused> {
-    let mut text = Page::new(alloc);
-    ask_often(&mut units, count, &mut text);
+fn push_units(alloc: Global, text: &mut Page, case: &Case, count: usize) -> Result<(), Refused> {
+    let window = window_of(alloc, first_window(case))?;
+    let Ok(mut units) = Units::open(alloc, source_of(alloc, case)?, window) else {
+        return Err(Refused::BadPart);
+    };
+    ask_often(&mut units, count, text);
     text.push_place("reach ", units.logs().reach());
     text.push('\n');
     let (logs, window) = units.into_parts();
-    show_parts(&mut text, &logs, window.as_slice());
-    text.into_text()
-}
-
-fn parts_of_feed(alloc: Global, case: &Case, count: usize) -> Result<String, Refused> {
-    match parts_of_case(alloc, case, &[])?.open(alloc) {
-        Ok(feed) => told_feed(alloc, feed, count),
-        Err(_) => Err(Refused::BadPart),
-    }
+    show_parts(text, &logs, window.as_slice());
+    Ok(())
 }
 
 /// What a feed gives when it is asked so often, and its parts.
-fn told_feed(alloc: Global, mut feed: Feed<MemoryLogs>, count: usize) -> Result<String, Refused> {
-    let mut text = Page::new(alloc);
-    ask_often(&mut feed, count, &mut text);
+fn push_feed(alloc: Global, text: &mut Page, case: &Case, count: usize) -> Result<(), Refused> {
+    let mut feed = parts_of_case(alloc, case, &[])?.opened(alloc)?;
+    ask_often(&mut feed, count, text);
     let (logs, window) = feed.into_parts();
-    show_parts(&mut text, &logs, window.as_slice());
-    text.into_text()
+    show_parts(text, &logs, window.as_slice());
+    Ok(())
 }

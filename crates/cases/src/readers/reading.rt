@@ -96,7 +96,11 @@ fn tell_units<L: Logs + Drop>(
 ) -> Result<(), Refused> {
     let bytes = window_of(alloc, window)?;
     match Units::open(alloc, logs, bytes) {
-        Ok(mut units) => tell_all(alloc, &mut units, seen, told),
+        Ok(mut units) => {
+            let ended = tell_all(alloc, &mut units, seen, told);
+            let (_logs, _window) = units.into_parts();
+            ended
+        }
         Err((fault, _logs, back)) => {
             told.compare_windows(window, back.len());
             told.note_opening(fault, false, seen);
@@ -139,10 +143,9 @@ pub fn plain_of(alloc: Global, files: &[Named], layer: Layer) -> Result<Told, Re
 pub fn judge_reading(
     alloc: Global,
     case: &Case,
-    verb: &str,
+    layer: Layer,
     words: &[String],
 ) -> Result<Verdict, Refused> {
-    let layer = Layer::of(verb)?;
     let (word, options) = way_of(words);
     if !is_offered(layer, word, options) {
         return Err(Refused::UnknownWord);

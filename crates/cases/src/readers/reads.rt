@@ -28,17 +28,15 @@ pub fn first_window(case: &Case) -> usize {
 }
 
 /// `names`: the names and lengths of the case's files, or that they are refused.
-pub fn names_of_files(alloc: Global, case: &Case) -> Result<String, Refused> {
-    let files = copies_of(alloc, &case.files)?;
-    let mut text = Page::new(alloc);
-    match MemoryLogs::new(files) {
-        Ok(logs) => show_names(&mut text, &logs),
+pub fn push_names_of(alloc: Global, text: &mut Page, case: &Case) -> Result<(), Refused> {
+    match MemoryLogs::new(copies_of(alloc, &case.files)?) {
+        Ok(logs) => show_names(text, &logs),
         Err(fault) => {
             text.push_debug(&fault);
             text.push('\n');
         }
     }
-    text.into_text()
+    Ok(())
 }
 
 /// How many bytes a read gave, and which.
@@ -121,11 +119,15 @@ fn take_step(
 }
 
 /// `reads STEP..`: reads of the case's files, one after the other.
-pub fn reads_text(alloc: Global, case: &Case, words: &[String]) -> Result<String, Refused> {
+pub fn push_reads(
+    alloc: Global,
+    text: &mut Page,
+    case: &Case,
+    words: &[String],
+) -> Result<(), Refused> {
     let mut logs = source_of(alloc, case)?;
-    let mut text = Page::new(alloc);
     for step in words {
-        take_step(alloc, &mut logs, step.as_str(), &mut text)?;
+        take_step(alloc, &mut logs, step.as_str(), text)?;
     }
-    text.into_text()
+    Ok(())
 }

@@ -74,7 +74,7 @@ fn show_second(alloc: Global, once: &mut Page) {
 }
 
 /// The line of the set that a text names, with the source in full. A written form may be empty.
-fn line_of(alloc: Global, spelled: &str) -> Result<String, Refused> {
+fn line_of(alloc: Global, spelled: &str) -> Page {
     let mut once = Page::new(alloc);
     if show_form(alloc, &mut once, spelled) {
         show_second(alloc, &mut once);
@@ -83,42 +83,45 @@ fn line_of(alloc: Global, spelled: &str) -> Result<String, Refused> {
         once.push_str("nothing");
     }
     once.push('\n');
-    once.into_text()
-}
-
-/// The line of the set that a text names, with `U` for the source in both.
-fn told_set(alloc: Global, text: &str) -> Result<String, Refused> {
-    let line = line_of(alloc, &with_source(alloc, text)?)?;
-    Ok(shortened(alloc, line.as_str())?)
+    once
 }
 
 /// `set PART..`: the written form of the set that a text names, or its fault. Behind a written form stands what it names, where that is
-/// written in another way.
-pub fn set_text(alloc: Global, pieces: &Pieces, words: &[String]) -> Result<String, Refused> {
-    told_set(alloc, &pieces.text_of(alloc, words)?)
+/// written in another way. In both `U` stands for the source.
+pub fn push_set(
+    alloc: Global,
+    text: &mut Page,
+    pieces: &Pieces,
+    words: &[String],
+) -> Result<(), Refused> {
+    let spelled = with_source(alloc, pieces.text_of(alloc, words)?.as_str())?;
+    let line = line_of(alloc, spelled.as_str());
+    text.carry(&line);
+    text.push_str(shortened(alloc, line.as_str())?.as_str());
+    Ok(())
 }
 
 /// An answer as text.
-pub fn answer_of(alloc: Global, answer: bool) -> Result<String, Refused> {
-    let word = if answer { "yes\n" } else { "no\n" };
-    Ok(String::from_str(alloc, word)?)
+pub fn push_answer(text: &mut Page, answer: bool) {
+    text.push_str(if answer { "yes\n" } else { "no\n" });
 }
 
 /// `holds GTID PART..`: whether the set that the parts spell has a GTID.
-pub fn holds_text(alloc: Global, pieces: &Pieces, words: &[String]) -> Result<String, Refused> {
-    answer_of(alloc, holds(alloc, pieces, words)?)
-}
-
-/// Whether the set that the parts spell has a GTID.
-fn holds(alloc: Global, pieces: &Pieces, words: &[String]) -> Result<bool, Refused> {
+pub fn push_holds(
+    alloc: Global,
+    text: &mut Page,
+    pieces: &Pieces,
+    words: &[String],
+) -> Result<(), Refused> {
     let [gtid, parts @ ..] = words else {
         return Err(Refused::BadPart);
     };
     let Some((source, number)) = gtid_of(alloc, gtid.as_str())? else {
         return Err(Refused::BadPart);
     };
-    let Ok(set) = set_of(alloc, &pieces.text_of(alloc, parts)?) else {
+    let Ok(set) = set_of(alloc, pieces.text_of(alloc, parts)?.as_str()) else {
         return Err(Refused::BadPart);
     };
-    Ok(set.contains(source, number))
+    push_answer(text, set.contains(source, number));
+    Ok(())
 }

@@ -106,25 +106,11 @@ impl<L: Logs + Drop> Parts<L> {
         }
     }
 
-    /// Opens a feed, or gives all back.
-    pub fn open(self, alloc: Global) -> Result<Feed<L>, (OpenFeedFault, Parts<L>)> {
-        let Parts {
-            logs,
-            filter,
-            start,
-            window,
-        } = self;
-        match Feed::open(alloc, logs, filter, start, window) {
+    /// Opens a feed that has to open.
+    pub fn opened(self, alloc: Global) -> Result<Feed<L>, Refused> {
+        match Feed::open(alloc, self.logs, self.filter, self.start, self.window) {
             Ok(feed) => Ok(feed),
-            Err((fault, logs, filter, start, window)) => Err((
-                fault,
-                Parts {
-                    logs,
-                    filter,
-                    start,
-                    window,
-                },
-            )),
+            Err(_) => Err(Refused::BadPart),
         }
     }
 }
@@ -171,24 +157,6 @@ fn opens_again(
     false
 }
 
-/// What a refused opening leaves, where it is tried again; it `had` a window of that length.
-fn parts_again<L: Logs + Drop>(
-    alloc: Global,
-    refused: (OpenFeedFault, Parts<L>),
-    had: usize,
-    seen: &Cell<Seen>,
-    way: Way,
-    told: &mut Told,
-) -> Option<Parts<L>> {
-    let (fault, mut parts) = refused;
-    told.compare_windows(had, parts.window.len());
-    if opens_again(alloc, way, fault, &mut parts.window, seen, told) {
-        Some(parts)
-    } else {
-        None
-    }
-}
-
 /// What an attempt to read a feed came to.
 enum Attempt<L> {
     /// It was read, or will not be.
@@ -206,10 +174,12 @@ fn tell_open<L: Logs + Drop>(
     told: &mut Told,
 ) -> Result<(), Refused> {
     let mut looking = Looking::new(alloc, feed, reading.looks, seen);
-    tell_opened(alloc, &mut looking, reading.way, seen, told)
+    let ended = tell_opened(alloc, &mut looking, reading.way, seen, told);
+    looking.close();
+    ended
 }
 
-/// What a feed of these parts tells, if it is opened.
+/// What a feed of these parts tells, if it is opened; or what is left of them, where the opening is tried again.
 fn tell_once<L: Logs + Drop>(
     alloc: Global,
     parts: Parts<L>,
@@ -218,12 +188,21 @@ fn tell_once<L: Logs + Drop>(
     told: &mut Told,
 ) -> Attempt<L> {
     let had = parts.window.len();
-    match parts.open(alloc) {
+    match Feed::open(alloc, parts.logs, parts.filter, parts.start, parts.window) {
         Ok(feed) => Attempt::Ended(tell_open(alloc, feed, seen, reading, told)),
-        Err(refused) => match parts_again(alloc, refused, had, seen, reading.way, told) {
-            Some(parts) => Attempt::Again(parts),
-            None => Attempt::Ended(Ok(())),
-        },
+        Err((fault, logs, filter, start, mut window)) => {
+            told.compare_windows(had, window.len());
+            if opens_again(alloc, reading.way, fault, &mut window, seen, told) {
+                Attempt::Again(Parts {
+                    logs,
+                    filter,
+                    start,
+                    window,
+                })
+            } else {
+                Attempt::Ended(Ok(()))
+            }
+        }
     }
 }
 

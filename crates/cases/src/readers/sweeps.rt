@@ -1,5 +1,5 @@
 //! Sweeps over frames, units and the feed: reads that fail, are short or turn to other bytes, and files that are cut or changed.
-use crate::language::{Case, Named, Page, Reads, Refused, Verdict, copies_of};
+use crate::language::{Case, Page, Reads, Refused, Verdict, cut_copies};
 use crate::readers::reading::tell;
 use crate::readers::steps::{Told, differing};
 use crate::readers::watched::{Place, Turning};
@@ -45,13 +45,6 @@ fn sweep_from(
     }
 }
 
-/// What came of a run of a sweep, and which run it was.
-fn differs(alloc: Global, which: &str, at: u64, came: &Told) -> Result<Verdict, Refused> {
-    let text = came.text.as_str();
-    let came = format!(in alloc; "{which} {at}:\n{text}")?;
-    Ok(Verdict::Differs { came })
-}
-
 /// Lets each read fail in turn, until none is left that could: it is tried again. Or lets each read give few bytes at most. Neither
 /// changes anything.
 fn each_read(
@@ -65,7 +58,7 @@ fn each_read(
         let reads = disturbed(reading.reads, is_short, number);
         let told = tell(alloc, &case.files, Reading { reads, ..reading })?;
         if !case.wants(told.text.as_str()) {
-            return differs(alloc, read_name(is_short), number, &told);
+            return Verdict::of_run(alloc, read_name(is_short), number, told.text.as_str());
         }
         if !is_short && told.failed_reads == 0 {
             return Ok(Verdict::Well { runs: number - 1 });
@@ -93,15 +86,6 @@ fn read_name(is_short: bool) -> &'static str {
     if is_short { "reads of" } else { "read" }
 }
 
-/// The files of a case, the last of them cut to so many bytes.
-fn cut_files(alloc: Global, files: &[Named], length: usize) -> Result<Vec<Named>, Refused> {
-    let mut copies = copies_of(alloc, files)?;
-    if let Some(last) = copies.last_mut() {
-        last.1.truncate(length);
-    }
-    Ok(copies)
-}
-
 /// The text of what was given up to a place of a list of files, and the last place that was reached for it.
 fn given_before(told: &Told, place: Place) -> (usize, Place) {
     let mut last = (0, (0, 0));
@@ -113,24 +97,23 @@ fn given_before(told: &Told, place: Place) -> (usize, Place) {
     last
 }
 
-/// What is told of a beginning of so many bytes: all that has its end there, and then the end, which is no fault.
-fn wanted_of_cut(
+/// Whether what is told of a beginning is all that has its end there, and then the end, which is no fault.
+fn is_told_of_cut(
     alloc: Global,
     layer: Layer,
     whole: &Told,
     place: Place,
-) -> Result<String, Refused> {
+    told: &Told,
+) -> Result<bool, Refused> {
     let (length, reached) = given_before(whole, place);
-    let Some(given) = whole.text.as_str().get(..length) else {
-        return Err(Refused::NoText);
-    };
-    let mut text = Page::new(alloc);
-    text.push_str(given);
+    let mut wanted = Page::new(alloc);
+    wanted.push_str(whole.text.as_str().get(..length).unwrap_or(""));
     match layer {
-        Layer::Frames(_) => show_tail(&mut text, place, reached),
-        _ => text.push_str("end\n"),
+        Layer::Frames(_) => show_tail(&mut wanted, place, reached),
+        _ => wanted.push_str("end\n"),
     }
-    text.into_text()
+    wanted.whole()?;
+    Ok(told.text.as_str() == wanted.as_str())
 }
 
 /// How the frames of a beginning of a file end. The first event stands behind four bytes.
@@ -158,19 +141,7 @@ fn tell_cut(
     reading: Reading<'_>,
     length: usize,
 ) -> Result<Told, Refused> {
-    tell(alloc, &cut_files(alloc, &case.files, length)?, reading)
-}
-
-/// Whether what is told of a beginning is what is wanted of it.
-fn is_told_of_cut(
-    alloc: Global,
-    layer: Layer,
-    whole: &Told,
-    place: Place,
-    told: &Told,
-) -> Result<bool, Refused> {
-    let wanted = wanted_of_cut(alloc, layer, whole, place)?;
-    Ok(told.text.as_str() == wanted.as_str())
+    tell(alloc, &cut_copies(alloc, &case.files, length)?, reading)
 }
 
 /// Cuts the last file to each length.
@@ -188,7 +159,7 @@ fn each_cut(
     for length in 0..=case.last_length() {
         let told = tell_cut(alloc, case, reading, length)?;
         if !is_told_of_cut(alloc, reading.layer, whole, (last, length as u64), &told)? {
-            return differs(alloc, "cut to", length as u64, &told);
+            return Verdict::of_run(alloc, "cut to", length as u64, told.text.as_str());
         }
         runs = runs.saturating_add(1);
     }
@@ -226,7 +197,7 @@ fn each_turn(
             let turning = Turning { true_reads, byte };
             let told = tell(alloc, &case.files, Reading { turning, ..reading })?;
             if !is_beginning(&told, whole) {
-                return differs(alloc, "true reads", true_reads, &told);
+                return Verdict::of_run(alloc, "true reads", true_reads, told.text.as_str());
             }
             if told.text.as_str().ends_with(" SourceChanged\n") {
                 changed = changed.saturating_add(1);

@@ -28,17 +28,17 @@ fn show_token(alloc: Global, text: &mut Page, token: Token) {
 }
 
 /// `token PART..`: what the token of a text says, or its fault.
-pub fn token_text(alloc: Global, pieces: &Pieces, words: &[String]) -> Result<String, Refused> {
-    told_token(alloc, &pieces.text_of(alloc, words)?)
-}
-
-/// What a token says, or its fault.
-fn told_token(alloc: Global, spelled: &str) -> Result<String, Refused> {
-    let mut text = Page::new(alloc);
-    match Token::parse(alloc, spelled) {
-        Ok(token) => show_token(alloc, &mut text, token),
+pub fn push_token_parts(
+    alloc: Global,
+    text: &mut Page,
+    pieces: &Pieces,
+    words: &[String],
+) -> Result<(), Refused> {
+    let spelled = pieces.text_of(alloc, words)?;
+    match Token::parse(alloc, spelled.as_str()) {
+        Ok(token) => show_token(alloc, text, token),
         Err(fault) => text.push_debug(&fault),
     }
     text.push('\n');
-    text.into_text()
+    Ok(())
 }

@@ -1,15 +1,16 @@
 //! The verbs of readers.
-use crate::language::{Case, Pieces, Refused, Verdict};
-use crate::readers::bodies::{body_text, header_text, kinds_text};
-use crate::readers::filters::{names_text, passes_text};
-use crate::readers::going_on::{at_end_text, going_on_text};
-use crate::readers::lookups::lookups_text;
+use crate::language::{Case, Page, Pieces, Refused, Verdict};
+use crate::readers::bodies::{push_body, push_header, push_kinds};
+use crate::readers::filters::{push_name_set, push_passes};
+use crate::readers::going_on::{push_at_end, push_going_on};
+use crate::readers::lookups::push_lookups;
 use crate::readers::opening::judge_open;
-use crate::readers::parts::parts_text;
+use crate::readers::parts::push_parts;
 use crate::readers::reading::judge_reading;
-use crate::readers::reads::{names_of_files, reads_text};
-use crate::readers::sets::{holds_text, set_text};
-use crate::readers::tokens::token_text;
+use crate::readers::reads::{push_names_of, push_reads};
+use crate::readers::sets::{push_holds, push_set};
+use crate::readers::tokens::push_token_parts;
+use crate::readers::ways::Layer;
 use std::alloc::Global;
 use std::rt::Files;
 
@@ -21,38 +22,53 @@ pub fn carry_out<R: Files + AllocGlobal>(
     verb: &str,
     words: &[String],
 ) -> Result<Verdict, Refused> {
-    match verb {
-        "frames" | "events" | "units" | "feed" | "looks" => {
-            judge_reading(rt.alloc(), case, verb, words)
-        }
-        "open" => judge_open(rt, case, words),
-        _ => Ok(Verdict::of(case, text_of(rt.alloc(), pieces, case, verb, words)?)),
+    if verb == "open" {
+        return judge_open(rt, case, words);
+    }
+    match Layer::of(verb) {
+        Ok(layer) => judge_reading(rt.alloc(), case, layer, words),
+        Err(_) => judge_text(rt.alloc(), pieces, case, verb, words),
     }
 }
 
-/// What a verb gives that gives one text.
-fn text_of(
+/// Judges a verb that gives one text.
+fn judge_text(
     alloc: Global,
     pieces: &Pieces,
     case: &Case,
     verb: &str,
     words: &[String],
-) -> Result<String, Refused> {
+) -> Result<Verdict, Refused> {
+    let mut came = Page::new(alloc);
+    let pushed = push_verb(alloc, &mut came, pieces, case, verb, words);
+    Verdict::of_page(case, came, pushed)
+}
+
+/// What a verb gives that gives one text.
+fn push_verb(
+    alloc: Global,
+    text: &mut Page,
+    pieces: &Pieces,
+    case: &Case,
+    verb: &str,
+    words: &[String],
+) -> Result<(), Refused> {
     match verb {
-        "header" => header_text(alloc, pieces, words),
-        "body" | "lengths" => body_text(alloc, pieces, verb, words),
-        "kinds" => kinds_text(alloc, words),
-        "names" => names_of_files(alloc, case),
-        "reads" => reads_text(alloc, case, words),
-        "parts" => parts_text(alloc, case, words),
-        "look-up" => lookups_text(alloc, case, words),
-        "go-on" => going_on_text(alloc, case, words),
-        "at-end" => at_end_text(alloc, case, words),
-        "set" => set_text(alloc, pieces, words),
-        "holds" => holds_text(alloc, pieces, words),
-        "token" => token_text(alloc, pieces, words),
-        "passes" => passes_text(alloc, words),
-        "name-set" => names_text(alloc, words),
+        "header" => push_header(alloc, text, pieces, words),
+        "body" => push_body(alloc, text, pieces, false, words),
+        "lengths" => push_body(alloc, text, pieces, true, words),
+        "kinds" => push_kinds(text, words),
+        "names" => push_names_of(alloc, text, case),
+        "reads" => push_reads(alloc, text, case, words),
+        "parts" => push_parts(alloc, text, case, words),
+        "look-up" => push_lookups(alloc, text, case, words),
+        "go-on" => push_going_on(alloc, text, case, words),
+        "at-end" => push_at_end(alloc, text, case, words),
+        "set" => push_set(alloc, text, pieces, words),
+        "holds" => push_holds(alloc, text, pieces, words),
+        "token" => push_token_parts(alloc, text, pieces, words),
+        "passes" => push_passes(alloc, text, words),
+        "name-set" => push_name_set(alloc, text, words),
         _ => Err(Refused::UnknownWord),
     }
 }

@@ -7,34 +7,10 @@ use binlog_json::{HistoryFault, KeyIndex};
 use binlog_select::Token;
 use std::alloc::Global;
 
-/// Puts a change in an index, and gives its place.
-fn absorb(
-    alloc: Global,
-    text: &mut Page,
-    index: &mut KeyIndex,
-    change: &Change<'_>,
-) -> Option<Token> {
-    if index.absorb(change).is_err() {
-        text.take(index.absorb(change));
-    }
-    let place = change.token().to_token(alloc).ok();
-    if place.is_none() {
+/// Puts a change in an index.
+fn absorb(text: &mut Page, index: &mut KeyIndex, change: &Change<'_>) {
+    if index.absorb(change).is_err() && index.absorb(change).is_err() {
         text.refuse(Refused::OutOfMemory);
-    }
-    place
-}
-
-/// Puts the next change of a feed in an index, and gives its place. There is none at the end.
-fn absorb_next(
-    alloc: Global,
-    text: &mut Page,
-    feed: &mut Feed<MemoryLogs>,
-    index: &mut KeyIndex,
-) -> Result<Option<Token>, FeedFault> {
-    match feed.next() {
-        Ok(Some(change)) => Ok(absorb(alloc, text, index, &change)),
-        Ok(None) => Ok(None),
-        Err(fault) => Err(fault),
     }
 }
 
@@ -67,11 +43,18 @@ fn absorb_all(
     index: &mut KeyIndex,
 ) -> Option<FeedFault> {
     for _ in 0..u32::MAX {
-        match absorb_next(alloc, text, feed, index) {
-            Ok(Some(place)) => look(text, feed, &place),
+        let place = match feed.next() {
+            Ok(Some(change)) => {
+                absorb(text, index, &change);
+                change.token().to_token(alloc)
+            }
             Ok(None) => return None,
-            Err(FeedFault::OutOfMemory) => {}
+            Err(FeedFault::OutOfMemory) => continue,
             Err(fault) => return Some(fault),
+        };
+        match place {
+            Ok(place) => look(text, feed, &place),
+            Err(_) => text.refuse(Refused::OutOfMemory),
         }
     }
     None

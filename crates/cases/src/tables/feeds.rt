@@ -1,11 +1,11 @@
 //! What a feed of all changes of files in memory answers.
 use crate::language::{Case, Named, Page, Reads, Refused, copies_of, source};
+use crate::readers::Parts;
 use crate::tables::absorbing::push_absorbed;
 use crate::tables::histories::{Key, push_indexed, push_visited};
 use crate::tables::json_lines::push_all_lines;
-use binlog_feed::{Feed, Start};
+use binlog_feed::Feed;
 use binlog_frame::MemoryLogs;
-use binlog_select::Filter;
 use std::alloc::Global;
 
 /// What is asked of a feed.
@@ -21,14 +21,6 @@ pub enum Question<'a> {
     Absorb(Key<'a>),
 }
 
-/// A feed of all changes, with a window.
-fn open(alloc: Global, logs: MemoryLogs, window: Vec<u8>) -> Result<Feed<MemoryLogs>, Refused> {
-    match Feed::open(alloc, logs, Filter::new(), Start::Beginning, window) {
-        Ok(feed) => Ok(feed),
-        Err(_) => Err(Refused::NameTaken),
-    }
-}
-
 /// A feed of all changes of files, with a window of so many bytes.
 fn feed_of(
     alloc: Global,
@@ -37,7 +29,7 @@ fn feed_of(
     window: usize,
 ) -> Result<Feed<MemoryLogs>, Refused> {
     let logs = source(files, reads)?;
-    open(alloc, logs, vec![in alloc; 0u8; window]?)
+    Parts::first(alloc, logs, &[], window)?.opened(alloc)
 }
 
 /// What a feed answers, and how many of its reads failed and were tried again.
@@ -61,7 +53,11 @@ pub fn push_answer(
     question: Question<'_>,
 ) -> u64 {
     match feed_of(alloc, files, reads, window) {
-        Ok(mut feed) => ask(alloc, text, &mut feed, question),
+        Ok(mut feed) => {
+            let failed_reads = ask(alloc, text, &mut feed, question);
+            let (_logs, _window) = feed.into_parts();
+            failed_reads
+        }
         Err(why) => {
             text.refuse(why);
             0

@@ -5,21 +5,10 @@ use binlog_feed::{Change, Feed, FeedFault};
 use binlog_frame::MemoryLogs;
 use binlog_json::{LineWriter, line};
 use serde_json::Value;
-use std::alloc::{AllocError, Global};
+use std::alloc::Global;
 
 /// What stands in the buffer before a line is appended to it.
 const BEFORE: &str = "before ";
-
-/// The line of a change as it is appended, behind what stood there.
-fn appended(
-    alloc: Global,
-    writer: &mut LineWriter,
-    change: &Change<'_>,
-) -> Result<Vec<u8>, AllocError> {
-    let mut out = Vec::from_slice(alloc, BEFORE.as_bytes())?;
-    writer.append_line(change, &mut out)?;
-    Ok(out)
-}
 
 /// The line as serde_json writes a value that it has read, where that is another.
 fn push_again(alloc: Global, text: &mut Page, one: &str, value: &Value) {
@@ -59,7 +48,7 @@ fn push_line(alloc: Global, text: &mut Page, writer: &mut LineWriter, change: &C
     }
 }
 
-/// The line of a change that is appended, where it is another than one.
+/// The line of a change that is appended behind what stood there, where it is another than one.
 fn push_appended(
     alloc: Global,
     text: &mut Page,
@@ -67,10 +56,13 @@ fn push_appended(
     change: &Change<'_>,
     one: &str,
 ) {
-    match appended(alloc, writer, change) {
-        Ok(other) => push_other(text, one, &other),
-        Err(_) => text.refuse(Refused::OutOfMemory),
+    let mut out = Vec::new(alloc);
+    if out.extend_from_slice(BEFORE.as_bytes()).is_err()
+        || writer.append_line(change, &mut out).is_err()
+    {
+        return text.refuse(Refused::OutOfMemory);
     }
+    push_other(text, one, &out);
 }
 
 /// A line that was appended, where it is another, or where what stood before it is gone.
@@ -104,19 +96,28 @@ fn take_fault(
     text: &mut Page,
     feed: &mut Feed<MemoryLogs>,
     fault: FeedFault,
-) -> Result<Given, Refused> {
+) -> Given {
     match fault {
         FeedFault::Log(fault) => {
             text.push_debug(&fault.what);
             text.push('\n');
-            Ok(Given::End)
+            Given::End
         }
-        FeedFault::WindowTooSmall { needed } => {
-            let _ = feed.replace_window(vec![in alloc; 0u8; needed as usize]?);
-            Ok(Given::More)
+        FeedFault::WindowTooSmall { needed } => match vec![in alloc; 0u8; needed as usize] {
+            Ok(window) => {
+                let _ = feed.replace_window(window);
+                Given::More
+            }
+            Err(_) => {
+                text.refuse(Refused::OutOfMemory);
+                Given::End
+            }
+        },
+        FeedFault::Read { .. } => Given::FailedRead,
+        FeedFault::OutOfMemory => {
+            text.refuse(Refused::OutOfMemory);
+            Given::End
         }
-        FeedFault::Read { .. } => Ok(Given::FailedRead),
-        FeedFault::OutOfMemory => Err(Refused::OutOfMemory),
     }
 }
 
@@ -126,15 +127,15 @@ fn take_next(
     text: &mut Page,
     feed: &mut Feed<MemoryLogs>,
     writer: &mut LineWriter,
-) -> Result<Given, Refused> {
+) -> Given {
     match feed.next() {
         Ok(Some(change)) => {
             push_line(alloc, text, writer, &change);
-            Ok(Given::More)
+            Given::More
         }
         Ok(None) => {
             text.push_str("end\n");
-            Ok(Given::End)
+            Given::End
         }
         Err(fault) => take_fault(alloc, text, feed, fault),
     }
@@ -147,13 +148,9 @@ pub fn push_all_lines(alloc: Global, text: &mut Page, feed: &mut Feed<MemoryLogs
     let mut failed_reads = 0u64;
     for _ in 0..u32::MAX {
         match take_next(alloc, text, feed, &mut writer) {
-            Ok(Given::More) => {}
-            Ok(Given::FailedRead) => failed_reads = failed_reads.saturating_add(1),
-            Ok(Given::End) => break,
-            Err(why) => {
-                text.refuse(why);
-                break;
-            }
+            Given::More => {}
+            Given::FailedRead => failed_reads = failed_reads.saturating_add(1),
+            Given::End => break,
         }
     }
     failed_reads

@@ -7,37 +7,25 @@ use crate::tables::maps::{push_map_cuts, push_map_of, push_map_size};
 use crate::tables::rows::{push_rows, push_rows_cuts};
 use crate::tables::values::{byte_of, push_value};
 use std::alloc::Global;
-use std::rt::Files;
 use std::slice;
 
 /// Carries out a verb of table maps, rows, values, lines or histories, with the words behind it.
-pub fn carry_out<R: Files + AllocGlobal>(
-    rt: &R,
-    pieces: &Pieces,
-    case: &Case,
-    verb: &str,
-    words: &[String],
-) -> Result<Verdict, Refused> {
-    match verb {
-        "lines" => judge_lines(rt.alloc(), case),
-        "lines-again" => judge_lines_again(rt.alloc(), case),
-        _ => judge_text(rt.alloc(), pieces, case, verb, words),
-    }
-}
-
-/// Judges a verb that gives one text.
-fn judge_text(
+pub fn carry_out(
     alloc: Global,
     pieces: &Pieces,
     case: &Case,
     verb: &str,
     words: &[String],
 ) -> Result<Verdict, Refused> {
-    let mut came = Page::new(alloc);
-    if let Err(why) = push_verb(alloc, &mut came, pieces, case, verb, words) {
-        came.refuse(why);
+    match verb {
+        "lines" => judge_lines(alloc, case),
+        "lines-again" => judge_lines_again(alloc, case),
+        _ => {
+            let mut came = Page::new(alloc);
+            let pushed = push_verb(alloc, &mut came, pieces, case, verb, words);
+            Verdict::of_page(case, came, pushed)
+        }
     }
-    Ok(Verdict::of(case, came.into_text()?))
 }
 
 /// What a verb gives that gives one text.
