@@ -1,5 +1,6 @@
 pub mod PlainText
 pub mod PlainStrings
+pub mod Placing
 pub mod Quoting
 pub mod Texts
 pub mod Lengths

@@ -1,13 +1,14 @@
 -- From a vector's mask to text that stands in a string as it is.
-use Rattle.std.proofs.Common.{◌≡◌, ℕ, zero, suc, ◌+◌, ◌-◌, ◌%◌, ◌^◌, ◌<◌, ◌≤◌, Bool, true, false, not, cond, ◌==◌, ◌||◌, nat_lt, nat_le, List, [], ◌∷◌, length, drop, get_or, map, replicate, bit_or, refl, sym, ap, ap₂, ◌∙◌, arith, get_or-take, get_or-drop}
-use Rattle.std.proofs.lemmas.Bool.{or_parts, not-true, eqb-true, leb-false}
+use Rattle.std.proofs.Common.{◌≡◌, ℕ, zero, suc, ◌+◌, ◌-◌, ◌%◌, ◌^◌, ◌<◌, ◌≤◌, Bool, true, false, not, cond, ◌==◌, ◌||◌, nat_lt, nat_le, List, [], ◌∷◌, length, drop, get_or, map, replicate, bit_or, refl, sym, ap, ap₂, ◌∙◌, subst, inl, inr, zero-add, arith, get_or-take, get_or-drop}
+use Rattle.std.proofs.lemmas.Bool.{or_parts, not-true, eqb-true, leb-false, leb-true, cases_eq}
 use Rattle.std.proofs.lemmas.List.{length-map}
-use Rattle.std.proofs.lemmas.List.Sums.{prefix_len-le-length}
-use Rattle.std.proofs.lemmas.Simd.{length-chunk, leading_from_mask_l, zip2_splat, zip2_splat_left, mask_l-mod}
+use Rattle.std.proofs.lemmas.List.Sums.{prefix_len-le-length, prefix_len_passes}
+use Rattle.std.proofs.lemmas.Simd.{length-chunk, leading_from_mask_l, trailing_mask_l, zip2_splat, zip2_splat_left, mask_l-mod}
 use Rattle.std.proofs.lemmas.Str.{IsUtf8-from_ascii, is_utf8-from_IsUtf8}
 use Rattle.std.specs.Bool.{OnTrue}
 use Rattle.std.specs.List.{prefix_len}
 use Rattle.std.specs.Str.{IsUtf8, is_utf8}
+use lib.Count.{count_trailing_zeros}
 use lib.Lanes.{chunk, mask_l, zip2, top}
 use Rattle.json.specs.Print.{escape}
 use Rattle.json.proofs.Printed.Plain.{escape_on_plain}
@@ -60,12 +61,14 @@ tops : (p : ℕ → Bool) (v : List ℕ) → map (top 7) (map (λ x. lane (p x))
 tops p [] = refl
 tops p (x ∷ v) = ap₂ (λ y ys. y ∷ ys) (top_of (p x)) (tops p v)
 
--- the four tests of a vector of n lanes, as the code makes them
-pub from_lanes : (limit : ℕ) (text : List ℕ) (at n : ℕ) → at + n ≤ length text → n ≤ 64
-    → OnTrue (mask_l (map (top 7) (zip2 bit_or (zip2 bit_or (zip2 bit_or (zip2 (λ a b. lane (a == b)) (chunk at n text) (replicate n 34)) (zip2 (λ a b. lane (a == b)) (chunk at n text) (replicate n 92)))
-    (zip2 (λ a b. lane (nat_lt a b)) (chunk at n text) (replicate n 32))) (zip2 (λ a b. lane (nat_le a b)) (replicate n limit) (chunk at n text)))) % 2 ^ 64 == 0)
-    (PlainBetween limit text at (at + n))
-from_lanes limit text at n room few =
+-- the mask of the four tests of a vector of n lanes, as the code makes them
+abbrev pub care_mask : ℕ → List ℕ → ℕ → ℕ → ℕ
+care_mask limit text at n =
+    mask_l (map (top 7) (zip2 bit_or (zip2 bit_or (zip2 bit_or (zip2 (λ a b. lane (a == b)) (chunk at n text) (replicate n 34)) (zip2 (λ a b. lane (a == b)) (chunk at n text) (replicate n 92)))
+    (zip2 (λ a b. lane (nat_lt a b)) (chunk at n text) (replicate n 32))) (zip2 (λ a b. lane (nat_le a b)) (replicate n limit) (chunk at n text)))) % 2 ^ 64
+
+mask_is : (limit : ℕ) (text : List ℕ) (at n : ℕ) → at + n ≤ length text → n ≤ 64 → care_mask limit text at n ≡ mask_l (map (needs_care limit) (chunk at n text))
+mask_is limit text at n room few =
     let v = chunk at n text in
     let long = length-chunk at n text room in
     let quote = zip2_splat (λ a b. lane (a == b)) v n 34 long in
@@ -74,8 +77,29 @@ from_lanes limit text at n room few =
     let wide = zip2_splat_left (λ a b. lane (nat_le a b)) limit n v long in
     let stops = both (λ x. (x == 34) || (x == 92)) (λ x. nat_lt x 32) v (both (λ x. x == 34) (λ x. x == 92) v quote backslash) control in
     let lanes = both (λ x. ((x == 34) || (x == 92)) || nat_lt x 32) (λ x. nat_le limit x) v stops wide in
-    let mask = ap (λ l. mask_l (map (top 7) l) % 2 ^ 64) lanes ∙ ap (λ l. mask_l l % 2 ^ 64) (tops (needs_care limit) v) ∙ mask_l-mod (map (needs_care limit) v) 64 (omega (arith, length-map v (needs_care limit))) in
-    on_true _ _ (λ e. from_mask limit text at n room (sym mask ∙ eqb-true _ 0 e))
+    ap (λ l. mask_l (map (top 7) l) % 2 ^ 64) lanes ∙ ap (λ l. mask_l l % 2 ^ 64) (tops (needs_care limit) v) ∙ mask_l-mod (map (needs_care limit) v) 64 (omega (arith, length-map v (needs_care limit)))
+
+pub from_lanes : (limit : ℕ) (text : List ℕ) (at n : ℕ) → at + n ≤ length text → n ≤ 64 → OnTrue (care_mask limit text at n == 0) (PlainBetween limit text at (at + n))
+from_lanes limit text at n room few = on_true _ _ (λ e. from_mask limit text at n room (sym (mask_is limit text at n room few) ∙ eqb-true _ 0 e))
+
+-- as many lanes as come before the lowest set bit
+enough : (limit : ℕ) (v : List ℕ) (count : ℕ) → length v ≡ 16 → count ≤ 16 → count ≤ count_trailing_zeros 64 (mask_l (map (needs_care limit) v)) → count ≤ prefix_len (λ x. not (needs_care limit x)) v
+enough limit v count long few below =
+    elim (cases_eq (mask_l (map (needs_care limit) v)) 0) [
+      | inl none ↦ omega (arith, leading_from_mask_l (needs_care limit) v none)
+      | inr some ↦ omega (arith, trailing_mask_l (needs_care limit) 64 v (omega arith) (omega arith))
+    ]
+
+plain_first : (limit : ℕ) (text : List ℕ) (count : ℕ) → 16 ≤ length text → count ≤ 16 → nat_le count (count_trailing_zeros 64 (care_mask limit text 0 16)) ≡ true → PlainBetween limit text 0 count
+plain_first limit text count room few e k p q =
+    let below : count ≤ count_trailing_zeros 64 (mask_l (map (needs_care limit) (chunk 0 16 text))) =
+    subst (λ (m : ℕ). count ≤ count_trailing_zeros 64 m) (mask_is limit text 0 16 room (omega arith)) (leb-true count _ e) in
+    let front : k < prefix_len (λ x. not (needs_care limit x)) (chunk 0 16 text) = omega (arith, q, enough limit (chunk 0 16 text) count (length-chunk 0 16 text room) few below) in
+    let place : get_or (chunk 0 16 text) k 0 ≡ get_or text k 0 = get_or-take 16 (drop 0 text) k 0 (omega arith) ∙ get_or-drop 0 text k 0 ∙ ap (λ j. get_or text j 0) (zero-add k) in
+    ap (λ x. not (needs_care limit x)) (sym place) ∙ prefix_len_passes (λ x. not (needs_care limit x)) (chunk 0 16 text) k 0 front
+
+pub from_first : (limit : ℕ) (text : List ℕ) (count : ℕ) → 16 ≤ length text → count ≤ 16 → OnTrue (nat_le count (count_trailing_zeros 64 (care_mask limit text 0 16))) (PlainBetween limit text 0 count)
+from_first limit text count room few = on_true _ (PlainBetween limit text 0 count) (plain_first limit text count room few)
 
 -- plain text needs no escape
 pub plain_escape : (limit : ℕ) (text : List ℕ) → IsPlainBelow limit text → escape text ≡ text

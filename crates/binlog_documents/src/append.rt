@@ -1,5 +1,5 @@
 //! Scalars as JSON, at the end of a text.
-ghost use Rattle.std.specs.Prelude.{◌≡◌, ◌++◌, OnOk, IfOk, decimal};
+ghost use Rattle.std.specs.Prelude.{◌≡◌, ◌++◌, ◌≤◌, OnOk, IfOk, decimal, length, take};
 ghost use Rattle.std.specs.Fmt.{signed_decimal};
 ghost use Rattle.json.specs.Print.{quoted};
 ghost use Rattle.binlog_documents.specs.Appended.{AppendsText};
@@ -11,7 +11,7 @@ ghost use Rattle.binlog_documents.specs.ScalarShown.{scalar_view};
 use crate::bytes::utf8_text;
 use crate::draft::Draft;
 use crate::opaque::push_opaque;
-use crate::plain::is_plain;
+use crate::plain::{is_plain, is_plain_front};
 use crate::quote::push_quoted;
 use crate::scalar::{Finite, Scalar};
 use float_text::push_number;
@@ -23,7 +23,7 @@ pub(crate) fn append_comma(out: &mut Draft, later: bool) -> Result<(), AllocErro
     ensures { OnOk result (said out.new ≡ said out.old ++ comma_if later) }
 {
     if later {
-        out.push(b",")?;
+        out.push_byte(b',')?;
     }
     Ok(())
 }
@@ -51,22 +51,27 @@ fn append_double(out: &mut Draft, double: Finite) -> Result<(), AllocError>
     out.push_piece()
 }
 
-/// The bytes as a string, where they are UTF-8. False, and nothing is appended, where they aren't.
+/// The first bytes of others as a string, where they are UTF-8. False, and nothing is appended, where they aren't.
 #[inline(always)]
-pub(crate) fn append_text(out: &mut Draft, bytes: &[u8]) -> Result<bool, AllocError>
-    ensures { IfOk result (AppendsText (said out.old) (said out.new) (string_text bytes.now)) }
+pub(crate) fn append_text(out: &mut Draft, bytes: &[u8], len: usize) -> Result<bool, AllocError>
+    requires { len ≤ length bytes.now }
+    ensures { IfOk result (AppendsText (said out.old) (said out.new) (string_text (take len bytes.now))) }
 {
-    if is_plain::<0x80>(bytes) {
-        out.push_string(bytes)?;
+    if len <= 16 && bytes.len() >= 16 && is_plain_front::<0x80>(bytes, len) {
+        out.push_first_string(bytes, len)?;
         return Ok(true);
     }
-    append_any_text(out, bytes)
+    append_any_text(out, &bytes[..len])
 }
 
 #[inline(never)]
 fn append_any_text(out: &mut Draft, bytes: &[u8]) -> Result<bool, AllocError>
     ensures { IfOk result (AppendsText (said out.old) (said out.new) (string_text bytes.now)) }
 {
+    if is_plain::<0x80>(bytes) {
+        out.push_string(bytes)?;
+        return Ok(true);
+    }
     let Some(text) = utf8_text(bytes) else {
         return Ok(false);
     };
@@ -74,19 +79,20 @@ fn append_any_text(out: &mut Draft, bytes: &[u8]) -> Result<bool, AllocError>
     Ok(true)
 }
 
-/// The bytes as a key with its colon, where they are UTF-8. False, and nothing is appended, where they aren't.
+/// The first bytes of others as a key with its colon, where they are UTF-8. False where they aren't.
 #[inline(always)]
-pub(crate) fn append_key(out: &mut Draft, bytes: &[u8]) -> Result<bool, AllocError>
-    ensures { IfOk result (AppendsText (said out.old) (said out.new) (key_text bytes.now)) }
+pub(crate) fn append_key(out: &mut Draft, bytes: &[u8], len: usize) -> Result<bool, AllocError>
+    requires { len ≤ length bytes.now }
+    ensures { IfOk result (AppendsText (said out.old) (said out.new) (key_text (take len bytes.now))) }
 {
-    if is_plain::<0x80>(bytes) {
-        out.push_key(bytes)?;
+    if len <= 16 && bytes.len() >= 16 && is_plain_front::<0x80>(bytes, len) {
+        out.push_first_key(bytes, len)?;
         return Ok(true);
     }
-    if !append_any_text(out, bytes)? {
+    if !append_any_text(out, &bytes[..len])? {
         return Ok(false);
     }
-    out.push(b":")?;
+    out.push_byte(b':')?;
     Ok(true)
 }
 

@@ -4,7 +4,7 @@ ghost use Rattle.binlog_documents.specs.Scalars.{length_at, counted_at, utf8_tex
 
 /// A length of at most so many bytes, and how many it takes. MySQL's `read_variable_length` looks at five.
 #[tactic(auto, unfolding(crate::specs::Scalars::length_at))]
-fn length_at(bytes: &[u8], most: usize) -> Option<(usize, usize)>
+pub(crate) fn length_at(bytes: &[u8], most: usize) -> Option<(usize, usize)>
     requires { most ≤ 5 }
     ensures value { result ≡ length_at most bytes.now }
     ensures few { IfSome result (λ l. l.0 < 128 ^ most) }

@@ -9,7 +9,7 @@ ghost use Rattle.binlog_documents.specs.Appended.{IsAppended, IsKeyAppended, IsR
 ghost use Rattle.binlog_documents.specs.Drafts.{said};
 
 use crate::append::{append_comma, append_key, append_scalar, append_text};
-use crate::bytes::counted_at;
+use crate::bytes::length_at;
 use crate::container::{
     Container, Width, container_at, is_inlined, key_entry, keys_end, value_place,
 };
@@ -26,13 +26,17 @@ fn append_text_at(out: &mut Draft, bytes: &[u8]) -> Result<Option<usize>, AllocE
     ensures text { IfOk result (IsAppended (said out.old) (said out.new) (text_at bytes.now)) }
     ensures within { IfOk result (λ end. IfSome end (λ len. len ≤ length bytes.now)) }
 {
-    let Some((text, len)) = counted_at(bytes) else {
+    let Some((len, begin)) = length_at(bytes, 5) else {
         return Ok(None);
     };
-    if !append_text(out, text)? {
+    let text = &bytes[begin..];
+    if len > text.len() {
         return Ok(None);
     }
-    Ok(Some(len))
+    if !append_text(out, text, len)? {
+        return Ok(None);
+    }
+    Ok(Some(begin + len))
 }
 
 /// The value at the front of the bytes, where it has no parts, and where it ends.
@@ -70,13 +74,14 @@ fn append_key_in(
     if place < from || place + len > bytes.len() {
         return Ok(None);
     }
-    if !append_key(out, &bytes[place..place + len])? {
+    if !append_key(out, &bytes[place..], len)? {
         return Ok(None);
     }
     Ok(Some(place + len))
 }
 
 /// The value at the front of the bytes, with at most so many arrays and objects in one another, and where it ends.
+#[inline(always)]
 #[cycle(values)]
 #[tactic(auto, unfolding(crate::specs::Containers::value_at))]
 pub(crate) fn append_value(
@@ -115,11 +120,11 @@ fn append_array(
     let Some(array) = container_at(bytes, width, width.bytes() + 1) else {
         return Ok(None);
     };
-    out.push(b"[")?;
+    out.push_byte(b'[')?;
     if !append_elements(out, array, width, depth)? {
         return Ok(None);
     }
-    out.push(b"]")?;
+    out.push_byte(b']')?;
     Ok(Some(array.bytes.len()))
 }
 
@@ -166,11 +171,11 @@ fn append_object(
     let Some(object) = container_at(bytes, width, entries) else {
         return Ok(None);
     };
-    out.push(b"{")?;
+    out.push_byte(b'{')?;
     if !append_members(out, object, width, depth)? {
         return Ok(None);
     }
-    out.push(b"}")?;
+    out.push_byte(b'}')?;
     Ok(Some(object.bytes.len()))
 }
 
@@ -210,6 +215,7 @@ fn append_members(
 }
 
 /// The value of the entry at a place, and where the next value may begin.
+#[inline(always)]
 #[cycle(values)]
 #[tactic(auto, unfolding(crate::specs::Containers::value_in))]
 fn append_value_in(

@@ -1,9 +1,10 @@
 //! Text that grows at its end by pieces that are mostly short.
-ghost use Rattle.std.specs.Prelude.{◌+◌, ◌≤◌, ◌++◌, ◌∷◌, [], length};
+ghost use Rattle.std.specs.Prelude.{◌+◌, ◌<◌, ◌≤◌, ◌++◌, ◌∷◌, [], length, take};
 ghost use Rattle.json.specs.Filled.{Placed};
 
 use std::alloc::{AllocError, Global};
 use std::mem;
+use std::simd::prelude::*;
 
 /// A text whose room is written before, so that a short piece is stored into it without a call.
 #[derive(Drop)]
@@ -17,7 +18,7 @@ pub(crate) struct Draft {
 }
 
 impl Draft {
-    ghost use Rattle.std.specs.Prelude.{◌≡◌, ◌+◌, ◌≤◌, ◌++◌, ◌∷◌, [], length, OnOk};
+    ghost use Rattle.std.specs.Prelude.{◌≡◌, ◌+◌, ◌≤◌, ◌++◌, ◌∷◌, [], length, take, OnOk};
     ghost use Rattle.binlog_documents.specs.Drafts.{said};
 
     /// An empty text. It takes no memory.
@@ -69,6 +70,15 @@ impl Draft {
         }
     }
 
+    #[inline(always)]
+    pub(crate) fn push_byte(&mut self, byte: u8) -> Result<(), AllocError>
+        ensures { OnOk result (said self.new ≡ said self.old ++ byte ∷ []) }
+    {
+        self.make_room(1)?;
+        self.len = put_byte(self.bytes.as_mut_slice(), self.len, byte);
+        Ok(())
+    }
+
     /// Appends a text. Where its length is known, it takes no call.
     #[inline(always)]
     pub(crate) fn push(&mut self, text: &[u8]) -> Result<(), AllocError>
@@ -89,13 +99,27 @@ impl Draft {
         Ok(())
     }
 
-    /// Appends a text between quotation marks, and a colon.
+    /// Appends the first bytes of sixteen or more between quotation marks.
     #[inline(always)]
-    pub(crate) fn push_key(&mut self, text: &[u8]) -> Result<(), AllocError>
-        ensures { OnOk result (said self.new ≡ said self.old ++ 34 ∷ (text.now ++ 34 ∷ 58 ∷ [])) }
+    pub(crate) fn push_first_string(&mut self, text: &[u8], count: usize) -> Result<(), AllocError>
+        requires text { 16 ≤ length text.now }
+        requires count { count ≤ 16 }
+        ensures { OnOk result (said self.new ≡ said self.old ++ 34 ∷ (take count text.now ++ 34 ∷ [])) }
     {
-        self.make_room(text.len() + 3)?;
-        self.len = put_key(self.bytes.as_mut_slice(), self.len, text);
+        self.make_room(18)?;
+        self.len = put_first_string(self.bytes.as_mut_slice(), self.len, text, count);
+        Ok(())
+    }
+
+    /// Appends the first bytes of sixteen or more between quotation marks, and a colon.
+    #[inline(always)]
+    pub(crate) fn push_first_key(&mut self, text: &[u8], count: usize) -> Result<(), AllocError>
+        requires text { 16 ≤ length text.now }
+        requires count { count ≤ 16 }
+        ensures { OnOk result (said self.new ≡ said self.old ++ 34 ∷ (take count text.now ++ 34 ∷ 58 ∷ [])) }
+    {
+        self.make_room(19)?;
+        self.len = put_first_key(self.bytes.as_mut_slice(), self.len, text, count);
         Ok(())
     }
 
@@ -109,6 +133,16 @@ impl Draft {
         self.piece = piece;
         pushed
     }
+}
+
+/// Puts a byte to a place. Where it ends.
+#[inline(always)]
+fn put_byte(bytes: &mut [u8], at: usize, byte: u8) -> usize
+    requires { at < length bytes.old }
+    ensures { Placed bytes.old bytes.new at (byte ∷ []) result }
+{
+    bytes[at] = byte;
+    at + 1
 }
 
 /// Puts a text to a place. Where it ends.
@@ -128,18 +162,53 @@ fn put_string(bytes: &mut [u8], at: usize, text: &[u8]) -> usize
     requires { at + length text.now + 2 ≤ length bytes.old }
     ensures { Placed bytes.old bytes.new at (34 ∷ (text.now ++ 34 ∷ [])) result }
 {
-    let begin = put(bytes, at, b"\"");
+    let begin = put_byte(bytes, at, b'"');
     let end = put(bytes, begin, text);
-    put(bytes, end, b"\"")
+    put_byte(bytes, end, b'"')
 }
 
-/// Puts a text between quotation marks, and a colon, to a place. Where they end.
+/// Puts the first bytes of sixteen or more to a place, by one copy. Where they end.
 #[inline(always)]
-fn put_key(bytes: &mut [u8], at: usize, text: &[u8]) -> usize
-    requires { at + length text.now + 3 ≤ length bytes.old }
-    ensures { Placed bytes.old bytes.new at (34 ∷ (text.now ++ 34 ∷ 58 ∷ [])) result }
+fn put_first(bytes: &mut [u8], at: usize, text: &[u8], count: usize) -> usize
+    requires count { count ≤ 16 }
+    requires text { 16 ≤ length text.now }
+    requires room { at + 16 ≤ length bytes.old }
+    ensures { Placed bytes.old bytes.new at (take count text.now) result }
 {
-    let begin = put(bytes, at, b"\"");
-    let end = put(bytes, begin, text);
+    put_sixteen(bytes, at, text);
+    at + count
+}
+
+#[inline(always)]
+fn put_sixteen(bytes: &mut [u8], at: usize, text: &[u8]) -> usize
+    requires text { 16 ≤ length text.now }
+    requires room { at + 16 ≤ length bytes.old }
+    ensures { Placed bytes.old bytes.new at (take 16 text.now) result }
+{
+    u8x16::from_slice(text).copy_to_slice(&mut bytes[at..]);
+    at + 16
+}
+
+#[inline(always)]
+fn put_first_string(bytes: &mut [u8], at: usize, text: &[u8], count: usize) -> usize
+    requires count { count ≤ 16 }
+    requires text { 16 ≤ length text.now }
+    requires room { at + 18 ≤ length bytes.old }
+    ensures { Placed bytes.old bytes.new at (34 ∷ (take count text.now ++ 34 ∷ [])) result }
+{
+    let begin = put_byte(bytes, at, b'"');
+    let end = put_first(bytes, begin, text, count);
+    put_byte(bytes, end, b'"')
+}
+
+#[inline(always)]
+fn put_first_key(bytes: &mut [u8], at: usize, text: &[u8], count: usize) -> usize
+    requires count { count ≤ 16 }
+    requires text { 16 ≤ length text.now }
+    requires room { at + 19 ≤ length bytes.old }
+    ensures { Placed bytes.old bytes.new at (34 ∷ (take count text.now ++ 34 ∷ 58 ∷ [])) result }
+{
+    let begin = put_byte(bytes, at, b'"');
+    let end = put_first(bytes, begin, text, count);
     put(bytes, end, b"\":")
 }

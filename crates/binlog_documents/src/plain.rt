@@ -22,6 +22,21 @@ pub fn is_plain<const LIMIT: u8>(text: &[u8]) -> bool
     }
 }
 
+/// Whether so many bytes at the front of sixteen or more are so, by one load.
+#[inline(always)]
+pub(crate) fn is_plain_front<const LIMIT: u8>(text: &[u8], count: usize) -> bool
+    requires text { 16 ≤ length text.now }
+    requires count { count ≤ 16 }
+    ensures { OnTrue result (PlainBetween LIMIT text.now 0 count) }
+{
+    let bytes = u8x16::from_slice(text);
+    let mask = (bytes.simd_eq(u8x16::splat(b'"'))
+        | bytes.simd_eq(u8x16::splat(b'\\'))
+        | bytes.simd_lt(u8x16::splat(0x20))
+        | bytes.simd_ge(u8x16::splat(LIMIT))).to_bitmask();
+    count <= mask.trailing_zeros() as usize
+}
+
 #[inline(always)]
 fn is_plain_long<const LIMIT: u8>(text: &[u8]) -> bool
     requires { 16 ≤ length text.now }

@@ -2,4 +2,4 @@ use Rattle.json.proofs.Printed.Places.{Placed-then}
 use Rattle.binlog_documents.proofs.draft.put_string.Goals as goal
 
 pub returns : goal.returns
-returns c = Placed-then c.put-begin.ensures (Placed-then c.put-end.ensures c.put.ensures)
+returns c = Placed-then c.put_byte-begin.ensures (Placed-then c.put-end.ensures c.put_byte.ensures)
