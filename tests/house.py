@@ -4,7 +4,8 @@
 usage: tests/house.py [--list NAME]
 
 The figures are of what a reader meets: definitions that share a name, long clauses, calls with many of them, long functions and files,
-lines of proofs and documents, words of the glossary. --list prints what a figure counts. The last line is `N passed, M failed`.
+lines of proofs and documents, clauses that docs/GUARANTEES.md names and
+the code hasn't, words of the glossary. --list prints what a figure counts. The last line is `N passed, M failed`.
 """
 import argparse
 import re
@@ -13,6 +14,8 @@ from collections import Counter, defaultdict
 from collections.abc import Iterable, Iterator
 from pathlib import Path
 from typing import NamedTuple
+
+from promises import unknown_clauses
 
 TOP = Path(__file__).resolve().parent.parent
 MOST = Path(__file__).resolve().parent / "house.txt"
@@ -25,7 +28,7 @@ LONG_FUNCTION = 40
 LONG_FILE = 800
 
 # A definition of specs/, by the line that says its type.
-DEFINED = re.compile(r"^(?:(?:abbrev|record|data|unfoldable|opaque|pub) )+(?!mod |use )([^\s:(){}]+)")
+DEFINED = re.compile(r"^(?:(?:abbrev|record|data|unfoldable|opaque|pub) )+(?!mod |use |mutual$)([^\s:(){}]+)")
 FUNCTION = re.compile(r"^( *)(pub )?(?:pub\([^)]*\) )?(?:const )?fn (\w+)")
 CLAUSE = re.compile(r"^ *(?:requires|ensures|ghost)\b(?! use)")
 
@@ -201,6 +204,7 @@ FIGURES = {
     "lines_of_proofs": proof_lines,
     "lines_of_rows": lambda: lines_in([TOP / "tests/rows.jsonl"]),
     "lines_of_documents": lambda: lines_in(documents()),
+    "guarantees_of_no_clause": lambda: map(Item, unknown_clauses(TOP)),
     "glossary_words_unused": unused_words,
     "glossary_words_defined_again": words_defined_again,
 }

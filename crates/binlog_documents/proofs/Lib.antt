@@ -1,8 +1,13 @@
+pub mod PlainText
+pub mod PlainStrings
 pub mod Quoting
 pub mod Texts
 pub mod Lengths
 pub mod Steps
 pub mod Times
-pub mod Ascii
-pub mod OpaqueTexts
-pub mod DocumentTexts
+pub mod Digits
+pub mod NumberTexts
+pub mod PrintedDocuments
+pub mod FloatNumbers
+pub mod ReadDocuments
+pub mod JsonTexts

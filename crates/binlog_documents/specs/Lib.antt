@@ -7,3 +7,6 @@ pub mod ScalarShown
 pub mod Widths
 pub mod Appended
 pub mod Values
+pub mod PlainText
+pub mod Drafts
+pub mod AsJson

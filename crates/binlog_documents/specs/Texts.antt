@@ -1,14 +1,22 @@
 -- A document as compact JSON.
-use Rattle.std.specs.Prelude.{ℕ, List, [], ◌∷◌, ◌++◌, Bool, true, false, codes, if◌then◌else◌}
+use Rattle.std.specs.Prelude.{ℕ, List, [], ◌∷◌, ◌++◌, Bool, true, false, Option, option_map, codes, if◌then◌else◌}
 use Rattle.std.specs.Fmt.{signed_decimal}
 use Rattle.std.specs.Float.{binary64}
 use Rattle.json.specs.Print.{quoted}
 use Rattle.float_text.specs.Layout.{number_text}
 use Rattle.binlog_documents.specs.Opaques.{opaque_text}
+use Rattle.binlog_documents.specs.Scalars.{utf8_text}
 use Rattle.binlog_documents.specs.Document.{Document, null, boolean, integer, double, text, opaque, array, object, Elements, no_elements, element, Members, no_members, member}
 
 abbrev pub comma_if : Bool → List ℕ
 comma_if later = if later then 44 ∷ [] else []
+
+-- bytes as a string, and as a key with its colon, where they are UTF-8
+abbrev pub string_text : List ℕ → Option (List ℕ)
+string_text bytes = option_map quoted (utf8_text bytes)
+
+abbrev pub key_text : List ℕ → Option (List ℕ)
+key_text bytes = option_map (λ k. quoted k ++ 58 ∷ []) (utf8_text bytes)
 
 abbrev pub double_text : ℕ → List ℕ
 double_text bits = number_text binary64 bits

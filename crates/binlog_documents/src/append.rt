@@ -1,66 +1,129 @@
 //! Scalars as JSON, at the end of a text.
-ghost use Rattle.std.specs.Prelude.{◌≡◌, ◌++◌, OnOk, decimal};
+ghost use Rattle.std.specs.Prelude.{◌≡◌, ◌++◌, OnOk, IfOk, decimal};
 ghost use Rattle.std.specs.Fmt.{signed_decimal};
 ghost use Rattle.json.specs.Print.{quoted};
-ghost use Rattle.binlog_documents.specs.Texts.{comma_if, double_text, document_text};
+ghost use Rattle.binlog_documents.specs.Appended.{AppendsText};
+ghost use Rattle.binlog_documents.specs.Drafts.{said};
+ghost use Rattle.binlog_documents.specs.Opaques.{opaque_text};
+ghost use Rattle.binlog_documents.specs.Texts.{comma_if, double_text, document_text, key_text, string_text};
 ghost use Rattle.binlog_documents.specs.ScalarShown.{scalar_view};
 
-use crate::opaque::append_opaque;
+use crate::bytes::utf8_text;
+use crate::draft::Draft;
+use crate::opaque::push_opaque;
+use crate::plain::is_plain;
+use crate::quote::push_quoted;
 use crate::scalar::{Finite, Scalar};
 use float_text::push_number;
 use itoa::Buffer;
-use json::Writer;
 use std::alloc::AllocError;
 
 /// A comma, where something stands before it.
-pub(crate) fn append_comma(out: &mut Vec<u8>, later: bool) -> Result<(), AllocError>
-    ensures { OnOk result (out.new.items ≡ out.old.items ++ comma_if later) }
+pub(crate) fn append_comma(out: &mut Draft, later: bool) -> Result<(), AllocError>
+    ensures { OnOk result (said out.new ≡ said out.old ++ comma_if later) }
 {
     if later {
-        out.push(b',')?;
+        out.push(b",")?;
     }
     Ok(())
 }
 
-fn append_signed(out: &mut Vec<u8>, number: i64) -> Result<(), AllocError>
-    ensures { OnOk result (out.new.items ≡ out.old.items ++ signed_decimal number) }
+fn append_signed(out: &mut Draft, number: i64) -> Result<(), AllocError>
+    ensures { OnOk result (said out.new ≡ said out.old ++ signed_decimal number) }
 {
     let mut buffer = Buffer::new();
-    out.extend_from_slice(buffer.format(number).as_bytes())
+    out.push(buffer.format(number).as_bytes())
 }
 
-pub(crate) fn append_unsigned(out: &mut Vec<u8>, number: u64) -> Result<(), AllocError>
-    ensures { OnOk result (out.new.items ≡ out.old.items ++ decimal number) }
+fn append_unsigned(out: &mut Draft, number: u64) -> Result<(), AllocError>
+    ensures { OnOk result (said out.new ≡ said out.old ++ decimal number) }
 {
     let mut buffer = Buffer::new();
-    out.extend_from_slice(buffer.format(number).as_bytes())
+    out.push(buffer.format(number).as_bytes())
 }
 
 /// The shortest decimal that reads back as the double.
-fn append_double(out: &mut Vec<u8>, double: Finite) -> Result<(), AllocError>
-    ensures { OnOk result (out.new.items ≡ out.old.items ++ double_text double.bits) }
+fn append_double(out: &mut Draft, double: Finite) -> Result<(), AllocError>
+    ensures { OnOk result (said out.new ≡ said out.old ++ double_text double.bits) }
 {
-    push_number::<f64>(out, double.bits)
+    out.piece.clear();
+    push_number::<f64>(&mut out.piece, double.bits)?;
+    out.push_piece()
+}
+
+/// The bytes as a string, where they are UTF-8. False, and nothing is appended, where they aren't.
+#[inline(always)]
+pub(crate) fn append_text(out: &mut Draft, bytes: &[u8]) -> Result<bool, AllocError>
+    ensures { IfOk result (AppendsText (said out.old) (said out.new) (string_text bytes.now)) }
+{
+    if is_plain::<0x80>(bytes) {
+        out.push_string(bytes)?;
+        return Ok(true);
+    }
+    append_any_text(out, bytes)
+}
+
+#[inline(never)]
+fn append_any_text(out: &mut Draft, bytes: &[u8]) -> Result<bool, AllocError>
+    ensures { IfOk result (AppendsText (said out.old) (said out.new) (string_text bytes.now)) }
+{
+    let Some(text) = utf8_text(bytes) else {
+        return Ok(false);
+    };
+    append_quoted(out, text)?;
+    Ok(true)
+}
+
+/// The bytes as a key with its colon, where they are UTF-8. False, and nothing is appended, where they aren't.
+#[inline(always)]
+pub(crate) fn append_key(out: &mut Draft, bytes: &[u8]) -> Result<bool, AllocError>
+    ensures { IfOk result (AppendsText (said out.old) (said out.new) (key_text bytes.now)) }
+{
+    if is_plain::<0x80>(bytes) {
+        out.push_key(bytes)?;
+        return Ok(true);
+    }
+    if !append_any_text(out, bytes)? {
+        return Ok(false);
+    }
+    out.push(b":")?;
+    Ok(true)
 }
 
 /// The text as a string, in quotes and escaped.
-pub(crate) fn append_quoted(out: &mut Vec<u8>, text: &str) -> Result<(), AllocError>
-    ensures { OnOk result (out.new.items ≡ out.old.items ++ quoted text.now) }
+fn append_quoted(out: &mut Draft, text: &str) -> Result<(), AllocError>
+    ensures { OnOk result (said out.new ≡ said out.old ++ quoted text.now) }
 {
-    // A writer makes room ahead, up to 16 KiB behind a long text: so it has a text of its own.
-    let mut writer = Writer::new(Vec::new(*out.allocator()));
-    writer.string(text)?;
-    out.extend_from_slice(&writer.into_inner())
+    if !is_plain::<0xff>(text.as_bytes()) {
+        return append_escaped(out, text);
+    }
+    out.push_string(text.as_bytes())
+}
+
+fn append_escaped(out: &mut Draft, text: &str) -> Result<(), AllocError>
+    ensures { OnOk result (said out.new ≡ said out.old ++ quoted text.now) }
+{
+    out.piece.clear();
+    push_quoted(&mut out.piece, text)?;
+    out.push_piece()
+}
+
+fn append_opaque(out: &mut Draft, kind: u8, bytes: &[u8]) -> Result<(), AllocError>
+    ensures { OnOk result (said out.new ≡ said out.old ++ opaque_text kind bytes.now) }
+{
+    out.piece.clear();
+    push_opaque(&mut out.piece, kind, bytes)?;
+    out.push_piece()
 }
 
 /// A value that has no parts.
-pub(crate) fn append_scalar(out: &mut Vec<u8>, scalar: Scalar<'_>) -> Result<(), AllocError>
-    ensures { OnOk result (out.new.items ≡ out.old.items ++ document_text (scalar_view scalar.entry)) }
+pub(crate) fn append_scalar(out: &mut Draft, scalar: Scalar<'_>) -> Result<(), AllocError>
+    ensures { OnOk result (said out.new ≡ said out.old ++ document_text (scalar_view scalar.entry)) }
 {
     match scalar {
-        Scalar::Null => out.extend_from_slice(b"null"),
-        Scalar::Boolean(true) => out.extend_from_slice(b"true"),
-        Scalar::Boolean(false) => out.extend_from_slice(b"false"),
+        Scalar::Null => out.push(b"null"),
+        Scalar::Boolean(true) => out.push(b"true"),
+        Scalar::Boolean(false) => out.push(b"false"),
         Scalar::Signed(number) => append_signed(out, number),
         Scalar::Unsigned(number) => append_unsigned(out, number),
         Scalar::Double(double) => append_double(out, double),

@@ -1,29 +1,52 @@
 //! Values of all types as JSON, at the end of a text. An array or object is read and written element by element. Where one of them is
 //! none, what was written of the others is left to the caller to take back.
 ghost use Rattle.std.specs.Prelude.{◌≡◌, ◌<◌, ◌≤◌, ◌+◌, ◌*◌, ◌^◌, length, IfOk, IfSome, option_map, false};
-ghost use Rattle.binlog_documents.specs.Scalars.{scalar_at};
+ghost use Rattle.binlog_documents.specs.Scalars.{scalar_at, text_at};
 ghost use Rattle.binlog_documents.specs.Containers.{value_in, key_in, elements_of, members_of, array_at, object_at, value_at, element_entry, member_entries};
 ghost use Rattle.binlog_documents.specs.Texts.{elements_text, members_text};
 ghost use Rattle.binlog_documents.specs.Widths.{bytes_of, container_view};
 ghost use Rattle.binlog_documents.specs.Appended.{IsAppended, IsKeyAppended, IsRead};
+ghost use Rattle.binlog_documents.specs.Drafts.{said};
 
-use crate::append::{append_comma, append_quoted, append_scalar};
-use crate::bytes::utf8_text;
+use crate::append::{append_comma, append_key, append_scalar, append_text};
+use crate::bytes::counted_at;
 use crate::container::{
     Container, Width, container_at, is_inlined, key_entry, keys_end, value_place,
 };
+use crate::draft::Draft;
 use crate::read::scalar_at;
 use std::alloc::AllocError;
 
+/// The type of a string.
+const TEXT: u8 = 12;
+
+/// The string at the front of the bytes, and where it ends.
+#[tactic(auto, unfolding(crate::specs::Scalars::text_at))]
+fn append_text_at(out: &mut Draft, bytes: &[u8]) -> Result<Option<usize>, AllocError>
+    ensures text { IfOk result (IsAppended (said out.old) (said out.new) (text_at bytes.now)) }
+    ensures within { IfOk result (λ end. IfSome end (λ len. len ≤ length bytes.now)) }
+{
+    let Some((text, len)) = counted_at(bytes) else {
+        return Ok(None);
+    };
+    if !append_text(out, text)? {
+        return Ok(None);
+    }
+    Ok(Some(len))
+}
+
 /// The value at the front of the bytes, where it has no parts, and where it ends.
 pub(crate) fn append_scalar_at(
-    out: &mut Vec<u8>,
+    out: &mut Draft,
     kind: u8,
     bytes: &[u8],
 ) -> Result<Option<usize>, AllocError>
-    ensures text { IfOk result (IsAppended out.old.items out.new.items (scalar_at kind bytes.now)) }
+    ensures text { IfOk result (IsAppended (said out.old) (said out.new) (scalar_at kind bytes.now)) }
     ensures within { IfOk result (λ end. IfSome end (λ len. len ≤ length bytes.now)) }
 {
+    if kind == TEXT {
+        return append_text_at(out, bytes);
+    }
     let Some((scalar, len)) = scalar_at(kind, bytes) else {
         return Ok(None);
     };
@@ -34,24 +57,22 @@ pub(crate) fn append_scalar_at(
 /// The key of the entry at a place with its colon, and where it ends.
 #[tactic(auto, unfolding(crate::specs::Containers::key_in))]
 fn append_key_in(
-    out: &mut Vec<u8>,
+    out: &mut Draft,
     bytes: &[u8],
     width: Width,
     entry: usize,
     from: usize,
 ) -> Result<Option<usize>, AllocError>
     requires { entry + (bytes_of width + 2) ≤ length bytes.now }
-    ensures { IfOk result (IsKeyAppended out.old.items out.new.items (key_in (bytes_of width) bytes.now entry from)) }
+    ensures { IfOk result (IsKeyAppended (said out.old) (said out.new) (key_in (bytes_of width) bytes.now entry from)) }
 {
     let (place, len) = key_entry(bytes, width, entry);
     if place < from || place + len > bytes.len() {
         return Ok(None);
     }
-    let Some(key) = utf8_text(&bytes[place..place + len]) else {
+    if !append_key(out, &bytes[place..place + len])? {
         return Ok(None);
-    };
-    append_quoted(out, key)?;
-    out.push(b':')?;
+    }
     Ok(Some(place + len))
 }
 
@@ -59,12 +80,12 @@ fn append_key_in(
 #[cycle(values)]
 #[tactic(auto, unfolding(crate::specs::Containers::value_at))]
 pub(crate) fn append_value(
-    out: &mut Vec<u8>,
+    out: &mut Draft,
     kind: u8,
     bytes: &[u8],
     depth: usize,
 ) -> Result<Option<usize>, AllocError>
-    ensures text { IfOk result (IsAppended out.old.items out.new.items (value_at depth kind bytes.now)) }
+    ensures text { IfOk result (IsAppended (said out.old) (said out.new) (value_at depth kind bytes.now)) }
     ensures within { IfOk result (λ end. IfSome end (λ len. len ≤ length bytes.now)) }
 {
     if depth == 0 {
@@ -83,36 +104,36 @@ pub(crate) fn append_value(
 #[cycle(values)]
 #[tactic(auto, unfolding(crate::specs::Containers::array_at))]
 fn append_array(
-    out: &mut Vec<u8>,
+    out: &mut Draft,
     bytes: &[u8],
     width: Width,
     depth: usize,
 ) -> Result<Option<usize>, AllocError>
-    ensures text { IfOk result (IsAppended out.old.items out.new.items (array_at (value_at depth) (bytes_of width) bytes.now)) }
+    ensures text { IfOk result (IsAppended (said out.old) (said out.new) (array_at (value_at depth) (bytes_of width) bytes.now)) }
     ensures within { IfOk result (λ end. IfSome end (λ len. len ≤ length bytes.now)) }
 {
     let Some(array) = container_at(bytes, width, width.bytes() + 1) else {
         return Ok(None);
     };
-    out.push(b'[')?;
+    out.push(b"[")?;
     if !append_elements(out, array, width, depth)? {
         return Ok(None);
     }
-    out.push(b']')?;
+    out.push(b"]")?;
     Ok(Some(array.bytes.len()))
 }
 
 /// The elements of an array, each but the first behind a comma.
 #[cycle(values)]
 fn append_elements(
-    out: &mut Vec<u8>,
+    out: &mut Draft,
     array: Container<'_>,
     width: Width,
     depth: usize,
 ) -> Result<bool, AllocError>
     requires room { 2 * bytes_of width + array.count * element_entry (bytes_of width) ≤ length array.bytes.now }
     requires few { array.count < 2 ^ 32 }
-    ensures text { IfOk result (IsRead out.old.items out.new.items
+    ensures text { IfOk result (IsRead (said out.old) (said out.new)
         (option_map (elements_text false) (elements_of (value_at depth) (bytes_of width) (container_view array.entry)))) }
 {
     let step = width.bytes() + 1;
@@ -133,37 +154,37 @@ fn append_elements(
 #[cycle(values)]
 #[tactic(auto, unfolding(crate::specs::Containers::object_at))]
 fn append_object(
-    out: &mut Vec<u8>,
+    out: &mut Draft,
     bytes: &[u8],
     width: Width,
     depth: usize,
 ) -> Result<Option<usize>, AllocError>
-    ensures text { IfOk result (IsAppended out.old.items out.new.items (object_at (value_at depth) (bytes_of width) bytes.now)) }
+    ensures text { IfOk result (IsAppended (said out.old) (said out.new) (object_at (value_at depth) (bytes_of width) bytes.now)) }
     ensures within { IfOk result (λ end. IfSome end (λ len. len ≤ length bytes.now)) }
 {
     let entries = (width.bytes() + 2) + (width.bytes() + 1);
     let Some(object) = container_at(bytes, width, entries) else {
         return Ok(None);
     };
-    out.push(b'{')?;
+    out.push(b"{")?;
     if !append_members(out, object, width, depth)? {
         return Ok(None);
     }
-    out.push(b'}')?;
+    out.push(b"}")?;
     Ok(Some(object.bytes.len()))
 }
 
 /// The members of an object, each but the first behind a comma.
 #[cycle(values)]
 fn append_members(
-    out: &mut Vec<u8>,
+    out: &mut Draft,
     object: Container<'_>,
     width: Width,
     depth: usize,
 ) -> Result<bool, AllocError>
     requires room { 2 * bytes_of width + object.count * member_entries (bytes_of width) ≤ length object.bytes.now }
     requires few { object.count < 2 ^ 32 }
-    ensures text { IfOk result (IsRead out.old.items out.new.items
+    ensures text { IfOk result (IsRead (said out.old) (said out.new)
         (option_map (members_text false) (members_of (value_at depth) (bytes_of width) (container_view object.entry)))) }
 {
     let key_step = width.bytes() + 2;
@@ -192,7 +213,7 @@ fn append_members(
 #[cycle(values)]
 #[tactic(auto, unfolding(crate::specs::Containers::value_in))]
 fn append_value_in(
-    out: &mut Vec<u8>,
+    out: &mut Draft,
     bytes: &[u8],
     width: Width,
     entry: usize,
@@ -200,7 +221,7 @@ fn append_value_in(
     depth: usize,
 ) -> Result<Option<usize>, AllocError>
     requires { entry + element_entry (bytes_of width) ≤ length bytes.now }
-    ensures text { IfOk result (IsAppended out.old.items out.new.items (value_in (value_at depth) (bytes_of width) bytes.now entry from)) }
+    ensures text { IfOk result (IsAppended (said out.old) (said out.new) (value_in (value_at depth) (bytes_of width) bytes.now entry from)) }
 {
     let kind = bytes[entry];
     if is_inlined(width, kind) {

@@ -6,11 +6,17 @@ mod bytes;
 mod container;
 mod decimal;
 mod documents;
+mod draft;
+mod laws;
 mod opaque;
 mod padded;
+mod plain;
+mod quote;
 mod read;
 mod scalar;
 mod time;
 mod writer;
 
+pub use laws::documents_are_json;
+pub use plain::is_plain;
 pub use writer::DocumentWriter;

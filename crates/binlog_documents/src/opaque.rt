@@ -1,37 +1,45 @@
 //! Values of MySQL's other types as JSON, at the end of a text.
-ghost use Rattle.std.specs.Prelude.{◌≡◌, ◌++◌, OnOk, OnErr, IfOk};
+ghost use Rattle.std.specs.Prelude.{◌≡◌, ◌++◌, OnOk, OnErr, IfOk, decimal};
 ghost use Rattle.json.specs.Print.{quoted};
 ghost use Rattle.base64.specs.Engines.{standard};
 ghost use Rattle.base64.specs.GeneralPurpose.{encode_of};
 ghost use Rattle.binlog_documents.specs.Opaques.{encoded_text, opaque_text};
 
-use crate::append::{append_quoted, append_unsigned};
 use crate::decimal::append_decimal;
+use crate::quote::push_quoted;
 use crate::time::append_time;
 use base64::engine::general_purpose::STANDARD;
+use itoa::Buffer;
 use std::alloc::AllocError;
 
 /// The bytes in base64, as a string.
-fn append_base64(out: &mut Vec<u8>, bytes: &[u8]) -> Result<(), AllocError>
+fn push_base64(out: &mut Vec<u8>, bytes: &[u8]) -> Result<(), AllocError>
     ensures { OnOk result (out.new.items ≡ out.old.items ++ quoted (encode_of standard bytes.now)) }
 {
     let text = STANDARD.encode(*out.allocator(), bytes)?;
-    append_quoted(out, text.as_str())
+    push_quoted(out, text.as_str())
+}
+
+fn push_unsigned(out: &mut Vec<u8>, number: u64) -> Result<(), AllocError>
+    ensures { OnOk result (out.new.items ≡ out.old.items ++ decimal number) }
+{
+    let mut buffer = Buffer::new();
+    out.extend_from_slice(buffer.format(number).as_bytes())
 }
 
 /// An object that has the bytes in base64, and the type.
-fn append_encoded(out: &mut Vec<u8>, kind: u8, bytes: &[u8]) -> Result<(), AllocError>
+fn push_encoded(out: &mut Vec<u8>, kind: u8, bytes: &[u8]) -> Result<(), AllocError>
     ensures { OnOk result (out.new.items ≡ out.old.items ++ encoded_text kind bytes.now) }
 {
     out.extend_from_slice(b"{\"base64\":")?;
-    append_base64(out, bytes)?;
+    push_base64(out, bytes)?;
     out.extend_from_slice(b",\"type\":")?;
-    append_unsigned(out, u64::from(kind))?;
+    push_unsigned(out, u64::from(kind))?;
     out.extend_from_slice(b"}")
 }
 
 /// A value of another of MySQL's types.
-pub(crate) fn append_opaque(out: &mut Vec<u8>, kind: u8, bytes: &[u8]) -> Result<(), AllocError>
+pub(crate) fn push_opaque(out: &mut Vec<u8>, kind: u8, bytes: &[u8]) -> Result<(), AllocError>
     ensures { OnOk result (out.new.items ≡ out.old.items ++ opaque_text kind bytes.now) }
 {
     let is_shown = match kind {
@@ -42,5 +50,5 @@ pub(crate) fn append_opaque(out: &mut Vec<u8>, kind: u8, bytes: &[u8]) -> Result
     if is_shown {
         return Ok(());
     }
-    append_encoded(out, kind, bytes)
+    push_encoded(out, kind, bytes)
 }

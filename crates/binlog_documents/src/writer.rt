@@ -2,9 +2,11 @@
 ghost use Rattle.std.specs.Prelude.{◌≡◌, IfOk, OnErr, option_map};
 ghost use Rattle.std.specs.Str.{IsUtf8};
 ghost use Rattle.binlog_documents.specs.Appended.{IsRead, AppendsText};
+ghost use Rattle.binlog_documents.specs.Drafts.{said};
 ghost use Rattle.binlog_documents.specs.Values.{value_text};
 
 use crate::documents::append_value;
+use crate::draft::Draft;
 use std::alloc::{AllocError, Global};
 
 /// How many arrays and objects may stand in one another: MySQL accepts no document that is nested deeper.
@@ -13,13 +15,13 @@ const GREATEST_DEPTH: usize = 100;
 /// Writes documents. It keeps its room for the next one.
 #[derive(Drop)]
 pub struct DocumentWriter {
-    text: Vec<u8>,
+    text: Draft,
 }
 
 impl DocumentWriter {
     pub fn new(alloc: Global) -> DocumentWriter {
         DocumentWriter {
-            text: Vec::new(alloc),
+            text: Draft::new(alloc),
         }
     }
 
@@ -29,7 +31,7 @@ impl DocumentWriter {
     {
         self.text.clear();
         if append_document(&mut self.text, value)? {
-            Ok(Some(&self.text))
+            Ok(Some(self.text.as_bytes()))
         } else {
             Ok(None)
         }
@@ -52,11 +54,11 @@ impl DocumentWriter {
 
 /// Appends the document, where the value is one; else the parts of it that could be read may have been appended.
 #[tactic(auto, unfolding(crate::specs::Containers::document_at))]
-fn append_document(out: &mut Vec<u8>, value: &[u8]) -> Result<bool, AllocError>
-    ensures { IfOk result (IsRead out.old.items out.new.items (value_text value.now)) }
+fn append_document(out: &mut Draft, value: &[u8]) -> Result<bool, AllocError>
+    ensures { IfOk result (IsRead (said out.old) (said out.new) (value_text value.now)) }
 {
     let [kind, bytes @ ..] = value else {
-        out.extend_from_slice(b"null")?;
+        out.push(b"null")?;
         return Ok(true);
     };
     let end = append_value(out, *kind, bytes, GREATEST_DEPTH)?;

@@ -1,7 +1,6 @@
 pub mod DigitLists
 pub mod ValueNames
 pub mod Utf8
-pub mod PlainText
 pub mod Folding
 pub mod Putting
 pub mod NameOrders

@@ -10,7 +10,6 @@ pub mod Listed
 pub mod Labels
 pub mod KeptLabels
 pub mod Written
-pub mod PlainText
 pub mod Unescaped
 pub mod Keys
 pub mod Histories

@@ -3,11 +3,11 @@ ghost use Rattle.std.specs.Prelude.{◌≡◌, OnOk, decimal};
 ghost use Rattle.std.specs.Fmt.{signed_decimal};
 ghost use Rattle.json.specs.Print.{escape};
 ghost use Rattle.binlog_json.specs.Joining.{comma_if};
-ghost use Rattle.binlog_json.specs.PlainText.{IsPlain};
+ghost use Rattle.binlog_documents.specs.PlainText.{IsPlain};
 ghost use Rattle.binlog_json.specs.Growth.{Gains, Quotes};
 
 use crate::lines::Line;
-use crate::plain::is_plain;
+use binlog_documents::is_plain;
 use json::Writer;
 use std::alloc::{AllocError, Global};
 use std::mem;

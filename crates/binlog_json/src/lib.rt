@@ -20,7 +20,6 @@ mod labels;
 mod lines;
 mod names;
 mod pieces;
-mod plain;
 mod room;
 mod style;
 mod texts;

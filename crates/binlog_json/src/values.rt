@@ -11,12 +11,12 @@ ghost use Rattle.binlog_json.specs.NamedValues.{cell_data, known_names};
 use crate::append::{Quoter, append_integer, append_number, append_plain};
 use crate::lines::Line;
 use crate::names::{append_names, enum_name, is_named};
-use crate::plain::is_plain;
 use crate::room::Room;
 use crate::texts::{
     append_date, append_date_time, append_decimal, append_time, append_timestamp, append_year,
 };
 use base64::engine::general_purpose::STANDARD;
+use binlog_documents::is_plain;
 use binlog_table::{Cell, RowView};
 use std::alloc::AllocError;
 

@@ -4,7 +4,7 @@ use Rattle.std.proofs.lemmas.Bool.{ne_eqb}
 use Rattle.std.proofs.lemmas.Bool.Decides.{nat_tests}
 use Rattle.std.proofs.lemmas.List.{append-nil, at_drop_all, at_drop_more}
 use Rattle.binlog_select.specs.declared.interval.Interval.{Interval}
-use Rattle.binlog_select.specs.SetForm.{interval_text, next_text, next_texts, source_text, written}
+use Rattle.binlog_select.specs.SetForm.{interval_text, next_text, next_texts, source_text}
 use Rattle.binlog_select.specs.SetText.{colon, comma, hyphen}
 use Rattle.binlog_select.specs.Text.{BeginsWith}
 use Rattle.binlog_select.specs.Token.{token_text, dot, at_sign}
@@ -48,13 +48,6 @@ begins_3 front one two three text a b d first second = begins_2 front two three 
 
 pub begins_4 : (front one two three four text a b d e : List ℕ) → one ≡ front ++ a → two ≡ one ++ b → three ≡ two ++ d → four ≡ three ++ e → text ≡ four → BeginsWith text front
 begins_4 front one two three four text a b d e first second = begins_3 front two three four text (a ++ b) d e (two_pieces front a b one two first second)
-
--- it begins so too where a later call only says that it begins with what it held then
-pub BeginsWith-after_1 : (front one text a : List ℕ) → one ≡ front ++ a → BeginsWith text one → BeginsWith text front
-BeginsWith-after_1 front one text a first also = BeginsWith-trans front one text (record { rest = a; is = first }) also
-
-pub BeginsWith-after_2 : (front one two text a b : List ℕ) → one ≡ front ++ a → two ≡ one ++ b → BeginsWith text two → BeginsWith text front
-BeginsWith-after_2 front one two text a b first second = BeginsWith-after_1 front two text (a ++ b) (two_pieces front a b one two first second)
 
 eqb-same : (a b : ℕ) → a ≡ b → eqb a b ≡ true
 eqb-same a b same = grind (arith, nat_tests)
@@ -102,15 +95,3 @@ token_pieces position count file text one two three four five first second third
     two_pieces text (decimal position ++ dot ∷ decimal count) (at_sign ∷ file) three five
     (two_pieces text (decimal position) (dot ∷ decimal count) one three first (two_pieces one (dot ∷ []) (decimal count) two three second third))
     (two_pieces three (at_sign ∷ []) file four five fourth fifth)
-
--- a list of one interval and more is written piece by piece
-pub written_pieces : (i : Interval) (rest set : List Interval) (text one two three : List ℕ) → set ≡ i ∷ rest → one ≡ text ++ source_text i.source → two ≡ one ++ colon ∷ interval_text i
-    → three ≡ two ++ next_texts i.source rest → three ≡ text ++ written set
-written_pieces i rest set text one two three is first second third =
-    two_pieces text (source_text i.source) (colon ∷ interval_text i ++ next_texts i.source rest) one three first
-    (two_pieces one (colon ∷ interval_text i) (next_texts i.source rest) two three second third)
-    ∙ ap (λ s. text ++ written s) (sym is)
-
-pub written_none : (set : List Interval) (text : List ℕ) → length set ≡ 0 → text ≡ text ++ written set
-written_none [] text none = sym (append-nil text)
-written_none (i ∷ rest) text none = absurd (omega arith)

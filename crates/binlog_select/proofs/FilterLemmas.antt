@@ -17,20 +17,14 @@ same_kind-true : (x y : ChangeKind) → same_kind x y ≡ true → x ≡ y
 same_kind-true Insert Insert e = refl
 same_kind-true Update Update e = refl
 same_kind-true Delete Delete e = refl
-same_kind-true Insert Update e = cc
-same_kind-true Insert Delete e = cc
-same_kind-true Update Insert e = cc
-same_kind-true Update Delete e = cc
-same_kind-true Delete Insert e = cc
-same_kind-true Delete Update e = cc
+same_kind-true x y e = cc
 
 same_kind_decides : (x y : ChangeKind) → Decides (same_kind x y) (x ≡ y)
 same_kind_decides x y = (same_kind-true x y, λ e. ap (λ (k : ChangeKind). same_kind x k) (sym e) ∙ same_kind-self x)
   where
     same_kind-self : (k : ChangeKind) → same_kind k k ≡ true
     same_kind-self Insert = refl
-    same_kind-self Update = refl
-    same_kind-self Delete = refl
+    same_kind-self other = refl
 
 has_kind : (kinds : List ChangeKind) (kind : ChangeKind) → Decides (list_any (λ one. same_kind one kind) kinds) (Contains kinds kind)
 has_kind kinds kind =
@@ -38,15 +32,10 @@ has_kind kinds kind =
     (Decides-by_or (λ one. same_kind one kind) (λ one. one ≡ kind) (λ l. list_any (λ one. same_kind one kind) l) (λ one. same_kind_decides one kind) refl (λ _ _. refl) kinds)
 
 holds_decides : (source number : ℕ) (i : Interval) → Decides (holds source number i) (Holds i source number)
-holds_decides source number i = (to, from)
-  where
-    to : holds source number i ≡ true → Holds i source number
-    to e = grind (arith, nat_tests)
+holds_decides source number i = (λ e. grind (arith, nat_tests), λ h. grind (arith, nat_tests))
 
-    from : Holds i source number → holds source number i ≡ true
-    from h = grind (arith, nat_tests)
-
-is_member : (source number : ℕ) (set : List Interval) → Decides (list_any (holds source number) set) (IsMember set source number)
+-- membership as a test, which doesn't depend on the order
+pub is_member : (source number : ℕ) (set : List Interval) → Decides (list_any (holds source number) set) (IsMember set source number)
 is_member source number [] = (λ e. absurd (false≢true e), λ h. absurd h)
 is_member source number (i ∷ is) = Decides-or (holds source number i) (list_any (holds source number) is) (holds_decides source number i) (is_member source number is)
 
@@ -80,12 +69,10 @@ is_passes result filter kind schema table gtid d = same_from_decides result (pas
 -- no list, as the copy of none; or a list that equals the one it is copied from
 abbrev pub IsCopied : {A : Type 0} → Option A → Option A → Type 0
 IsCopied None None = Unit {0}
-IsCopied None (Some copy) = ⊥
-IsCopied (Some list) None = ⊥
 IsCopied (Some list) (Some copy) = copy ≡ list
+IsCopied list copy = ⊥
 
 pub copied : {A : Type 0} (list copy : Option A) → IsCopied list copy → copy ≡ list
 copied None None same = refl
-copied None (Some copy) same = absurd same
-copied (Some list) None same = absurd same
 copied (Some list) (Some copy) same = ap (λ v. Some v) same
+copied list copy same = absurd same

@@ -1,5 +1,5 @@
 -- Joined intervals: what stands behind an interval, and where a binary search ends.
-use Rattle.std.proofs.Common.{◌≡◌, ℕ, zero, suc, ◌+◌, ◌<◌, ◌≤◌, Bool, true, false, ◌||◌, ◌&&◌, eqb, ltb, List, [], ◌∷◌, length, get_or, inl, inr, arith}
+use Rattle.std.proofs.Common.{◌≡◌, ℕ, zero, suc, ◌+◌, ◌<◌, ◌≤◌, Bool, true, false, ◌||◌, ◌&&◌, eqb, ltb, List, [], ◌∷◌, length, get_or, inl, inr, refl, arith}
 use Rattle.std.specs.List.Sorted.{IsPartitionedBy, IsPartitionPoint}
 use Rattle.std.proofs.lemmas.Bool.Decides.{nat_tests}
 use Rattle.binlog_select.specs.declared.interval.Interval.{Interval}
@@ -23,17 +23,22 @@ EndsBefore-member x (y ∷ ys) source number apart joined (inl holds) = (omega a
 EndsBefore-member x (y ∷ ys) source number apart joined (inr member) =
     EndsBefore-member x ys source number (StandsApart-tail x y ys apart joined.0 joined.1) joined.2 member
 
--- and before each of its intervals
-pub EndsBefore-each : (x : Interval) (xs : List Interval) → StandsApart x xs → IsJoined xs → (k : ℕ) (d : Interval) → k < length xs → EndsBefore x (get_or xs k d).source (get_or xs k d).first
-EndsBefore-each x [] apart joined k d below = absurd (omega arith)
-EndsBefore-each x (y ∷ ys) apart joined zero d below = apart
-EndsBefore-each x (y ∷ ys) apart joined (suc k) d below =
-    EndsBefore-each x ys (StandsApart-tail x y ys apart joined.0 joined.1) joined.2 k d (omega arith)
-
 pub IsInterval-each : (xs : List Interval) → IsJoined xs → (k : ℕ) (d : Interval) → k < length xs → IsInterval (get_or xs k d)
 IsInterval-each [] joined k d below = absurd (omega arith)
 IsInterval-each (x ∷ xs) joined zero d below = joined.0
 IsInterval-each (x ∷ xs) joined (suc k) d below = IsInterval-each xs joined.2 k d (omega arith)
+
+-- a number that is in an interval of the list is in this one
+pub IsMember-get_or : (xs : List Interval) (k : ℕ) (d : Interval) (source number : ℕ) → k < length xs → Holds (get_or xs k d) source number → IsMember xs source number
+IsMember-get_or [] k d source number below holds = absurd (omega arith)
+IsMember-get_or (x ∷ xs) zero d source number below holds = inl holds
+IsMember-get_or (x ∷ xs) (suc k) d source number below holds = inr (IsMember-get_or xs k d source number (omega arith) holds)
+
+-- and before each of its intervals
+pub EndsBefore-each : (x : Interval) (xs : List Interval) → StandsApart x xs → IsJoined xs → (k : ℕ) (d : Interval) → k < length xs → EndsBefore x (get_or xs k d).source (get_or xs k d).first
+EndsBefore-each x xs apart joined k d below =
+    let rising = (IsInterval-each xs joined k d below).rising in
+    EndsBefore-member x xs _ _ apart joined (IsMember-get_or xs k d _ _ below (refl, omega arith, rising))
 
 -- the interval has passed when a number comes
 abbrev pub has_passed : ℕ → ℕ → Interval → Bool
@@ -61,12 +66,6 @@ IsPartitionedBy-joined source number (x ∷ xs) joined zero (suc j) d order belo
 IsPartitionedBy-joined source number (x ∷ xs) joined (suc i) zero d order below past = absurd (omega arith)
 IsPartitionedBy-joined source number (x ∷ xs) joined (suc i) (suc j) d order below past =
     IsPartitionedBy-joined source number xs joined.2 i j d (omega arith) (omega arith) past
-
--- a number that is in an interval of the list is in this one
-pub IsMember-get_or : (xs : List Interval) (k : ℕ) (d : Interval) (source number : ℕ) → k < length xs → Holds (get_or xs k d) source number → IsMember xs source number
-IsMember-get_or [] k d source number below holds = absurd (omega arith)
-IsMember-get_or (x ∷ xs) zero d source number below holds = inl holds
-IsMember-get_or (x ∷ xs) (suc k) d source number below holds = inr (IsMember-get_or xs k d source number (omega arith) holds)
 
 -- where all intervals before a place have passed and none from there on, a number can only be in the one there
 pub only_there : (source number : ℕ) (xs : List Interval) (at : ℕ) → IsJoined xs

@@ -1,17 +1,18 @@
 -- Joining sorted intervals keeps their numbers and leaves gaps.
-use Rattle.std.proofs.Common.{◌≡◌, ◌⊎◌, ◌↔◌, ℕ, suc, ◌+◌, ◌<◌, ◌≤◌, Bool, true, false, cond, ◌||◌, ◌&&◌, eqb, leb, List, [], ◌∷◌, ◌++◌, length, get_or, drop, inl, inr, sym, ap, ◌∙◌, refl, subst, append_assoc, arith}
-use Rattle.std.specs.List.{All, list_any}
+use Rattle.std.proofs.Common.{◌≡◌, ◌⊎◌, ℕ, suc, ◌+◌, ◌<◌, ◌≤◌, true, false, cond, List, [], ◌∷◌, get_or, inl, inr, sym, ap, ◌∙◌, refl, subst, arith}
+use Rattle.std.specs.List.{All}
 use Rattle.std.specs.List.Sorted.{IsPermutation, IsSorted}
 use Rattle.std.specs.Ordering.{nat_cmp, ordering_then, is_lt}
 use Rattle.std.specs.declared.cmp.Ordering.{Ordering}
-use Rattle.std.proofs.lemmas.Bool.{true≢false, cases_lt}
+use Rattle.std.proofs.lemmas.Bool.{cases_lt}
 use Rattle.std.proofs.lemmas.Bool.Decides.{nat_tests}
-use Rattle.std.proofs.lemmas.List.{at_drop_more}
 use Rattle.std.proofs.lemmas.List.Elements.{All-head, All-tail}
 use Rattle.std.proofs.lemmas.List.Sorted.{list_any-IsPermutation}
 use Rattle.binlog_select.specs.declared.interval.Interval.{Interval}
-use Rattle.binlog_select.specs.Intervals.{Holds, IsMember, IsInterval, StandsApart, IsJoined, IsNotAbove, AreRising, SameNumbers}
+use Rattle.binlog_select.specs.Intervals.{Holds, IsInterval, StandsApart, IsJoined, IsNotAbove, AreRising, SameNumbers}
+use Rattle.binlog_select.specs.Filter.{holds}
 use Rattle.binlog_select.specs.Joining.{touches, united, merged}
+use Rattle.binlog_select.proofs.FilterLemmas.{is_member}
 
 touching : (i next : Interval) → touches i next ≡ true → (i.source ≡ next.source) × (next.first ≤ i.last + 1)
 touching i next is = grind (arith, nat_tests)
@@ -40,17 +41,6 @@ IsNotAbove-united : (i next : Interval) (rest : List Interval) → i.source ≡ 
 IsNotAbove-united i next [] same before after = tt
 IsNotAbove-united i next (x ∷ rest) same before after = (omega arith, λ also. omega arith)
 
-pub IsJoined-merged : (i : Interval) (rest : List Interval) → IsInterval i → All IsInterval rest → IsNotAbove i rest → AreRising rest → IsJoined (merged i rest)
-IsJoined-merged i [] is each above rising = (is, tt, tt)
-IsJoined-merged i (next ∷ rest) is each above rising =
-    let also = All-head IsInterval next rest each in
-    let others = All-tail IsInterval next rest each in
-    elim (touches i next) as (λ b. touches i next ≡ b → IsJoined (cond b (merged (united i next) rest) (i ∷ merged next rest))) [
-      | true ↦ λ t. IsJoined-merged (united i next) rest (IsInterval-united i next is also) others
-          (IsNotAbove-united i next rest (touching i next t).0 above rising.0) rising.1
-      | false ↦ λ t. (is, StandsApart-merged i next rest above.0 (apart i next t), IsJoined-merged next rest also others rising.0 rising.1)
-    ] refl
-
 -- two intervals that touch hold what they hold as one
 one_holds : (i next : Interval) (source number : ℕ) → (i.source ≡ next.source) × (next.first ≤ i.last + 1) → i.first ≤ next.first → i.first ≤ i.last → next.first ≤ next.last
     → Holds (united i next) source number → Holds i source number ⊎ Holds next source number
@@ -65,63 +55,54 @@ holds_one : (i next : Interval) (source number : ℕ) → (i.source ≡ next.sou
 holds_one i next source number touch low (inl holds) = (omega arith, omega arith, omega arith)
 holds_one i next source number touch low (inr holds) = (omega arith, omega arith, omega arith)
 
-pub Same-merged : (i : Interval) (rest : List Interval) → IsInterval i → All IsInterval rest → IsNotAbove i rest → AreRising rest → SameNumbers (merged i rest) (i ∷ rest)
-Same-merged i [] is each above rising source number = (λ m. m, λ m. m)
-Same-merged i (next ∷ rest) is each above rising source number =
+pub merges : (i : Interval) (rest : List Interval) → IsInterval i → All IsInterval rest → IsNotAbove i rest → AreRising rest
+    → IsJoined (merged i rest) × SameNumbers (merged i rest) (i ∷ rest)
+merges i [] is each above rising = ((is, tt, tt), λ source number. (λ m. m, λ m. m))
+merges i (next ∷ rest) is each above rising =
     let also = All-head IsInterval next rest each in
     let others = All-tail IsInterval next rest each in
-    elim (touches i next) as (λ b. touches i next ≡ b → IsMember (cond b (merged (united i next) rest) (i ∷ merged next rest)) source number ↔ IsMember (i ∷ next ∷ rest) source number) [
+    elim (touches i next) as (λ b. touches i next ≡ b → IsJoined (cond b (merged (united i next) rest) (i ∷ merged next rest))
+    × SameNumbers (cond b (merged (united i next) rest) (i ∷ merged next rest)) (i ∷ next ∷ rest)) [
       | true ↦ λ t.
           let touch = touching i next t in
           let low : i.first ≤ next.first = omega (arith, above.1 touch.0) in
-          let whole = Same-merged (united i next) rest (IsInterval-united i next is also) others (IsNotAbove-united i next rest touch.0 above rising.0) rising.1 source number in (
-            λ m. elim (whole.0 m) [
-              | inl h ↦ elim (one_holds i next source number touch low is.rising also.rising h) [ inl a ↦ inl a | inr b ↦ inr (inl b) ]
-              | inr r ↦ inr (inr r)
-            ],
-            λ m. whole.1 (elim m [
-              | inl a ↦ inl (holds_one i next source number touch low (inl a))
-              | inr o ↦ elim o [ inl b ↦ inl (holds_one i next source number touch low (inr b)) | inr r ↦ inr r ]
-            ]),
+          let whole = merges (united i next) rest (IsInterval-united i next is also) others
+          (IsNotAbove-united i next rest touch.0 above rising.0) rising.1 in (
+            whole.0,
+            λ source number. (
+              λ m. elim ((whole.1 source number).0 m) [
+                | inl h ↦ elim (one_holds i next source number touch low is.rising also.rising h) [ inl a ↦ inl a | inr b ↦ inr (inl b) ]
+                | inr r ↦ inr (inr r)
+              ],
+              λ m. (whole.1 source number).1 (elim m [
+                | inl a ↦ inl (holds_one i next source number touch low (inl a))
+                | inr o ↦ elim o [ inl b ↦ inl (holds_one i next source number touch low (inr b)) | inr r ↦ inr r ]
+              ]),
+            ),
           )
       | false ↦ λ t.
-          let others_same = Same-merged next rest also others rising.0 rising.1 source number in (
-            λ m. elim m [ inl a ↦ inl a | inr o ↦ inr (others_same.0 o) ],
-            λ m. elim m [ inl a ↦ inl a | inr o ↦ inr (others_same.1 o) ],
+          let behind = merges next rest also others rising.0 rising.1 in (
+            (is, StandsApart-merged i next rest above.0 (apart i next t), behind.0),
+            λ source number. (
+              λ m. elim m [ inl a ↦ inl a | inr o ↦ inr ((behind.1 source number).0 o) ],
+              λ m. elim m [ inl a ↦ inl a | inr o ↦ inr ((behind.1 source number).1 o) ],
+            ),
           )
     ] refl
 
--- membership as a test, which doesn't depend on the order
-has_number : ℕ → ℕ → Interval → Bool
-has_number source number i = eqb i.source source && (leb i.first number && leb number i.last)
-
-has_number-true : (i : Interval) (source number : ℕ) → Holds i source number → has_number source number i ≡ true
-unfolding has_number
-has_number-true i source number holds = grind (arith, nat_tests)
-
-Holds-from : (i : Interval) (source number : ℕ) → has_number source number i ≡ true → Holds i source number
-unfolding has_number
-Holds-from i source number is = grind (arith, nat_tests)
-
-any-member : (xs : List Interval) (source number : ℕ) → IsMember xs source number → list_any (has_number source number) xs ≡ true
-any-member [] source number member = absurd member
-any-member (x ∷ xs) source number (inl holds) = ap (λ b. b || list_any (has_number source number) xs) (has_number-true x source number holds)
-any-member (x ∷ xs) source number (inr member) =
-    elim (has_number source number x) as (λ b. (b || list_any (has_number source number) xs) ≡ true) [ true ↦ refl | false ↦ any-member xs source number member ]
-
-member-any : (xs : List Interval) (source number : ℕ) → list_any (has_number source number) xs ≡ true → IsMember xs source number
-member-any [] source number none = absurd (true≢false (sym none))
-member-any (x ∷ xs) source number any =
-    elim (has_number source number x) as (λ b. has_number source number x ≡ b → (b || list_any (has_number source number) xs) ≡ true → IsMember (x ∷ xs) source number) [
-      | true ↦ λ is _. inl (Holds-from x source number is)
-      | false ↦ λ is rest. inr (member-any xs source number rest)
-    ] refl any
+pub merges_sorted : (first : Interval) (rest sorted : List Interval) → sorted ≡ first ∷ rest → All IsInterval sorted → AreRising sorted
+    → IsJoined (merged first rest) × SameNumbers (merged first rest) sorted
+merges_sorted first rest sorted is valid rising =
+    let each = subst (All IsInterval) is valid in
+    let above = subst AreRising is rising in
+    subst (λ xs. IsJoined (merged first rest) × SameNumbers (merged first rest) xs) (sym is)
+    (merges first rest (All-head IsInterval first rest each) (All-tail IsInterval first rest each) above.0 above.1)
 
 pub Same-IsPermutation : (xs ys : List Interval) → IsPermutation xs ys → SameNumbers ys xs
 Same-IsPermutation xs ys moved source number =
-    let test = list_any-IsPermutation (has_number source number) xs ys moved in (
-      λ m. member-any xs source number (test ∙ any-member ys source number m),
-      λ m. member-any ys source number (sym test ∙ any-member xs source number m),
+    let test = list_any-IsPermutation (holds source number) xs ys moved in (
+      λ m. (is_member source number xs).0 (test ∙ (is_member source number ys).1 m),
+      λ m. (is_member source number ys).0 (sym test ∙ (is_member source number xs).1 m),
     )
 
 pub Same-trans : (xs ys zs : List Interval) → SameNumbers xs ys → SameNumbers ys zs → SameNumbers xs zs
@@ -144,22 +125,3 @@ AreRising-sorted (x ∷ y ∷ xs) sorted = (
       let next : suc k + 1 ≡ suc (k + 1) = omega arith in
       subst (λ m. is_lt (by_parts (get_or (x ∷ y ∷ xs) m d) (get_or (y ∷ xs) k d)) ≡ false) next (sorted (suc k) d (omega arith) (omega arith))),
 )
-
--- one interval more is looked at: it is joined to the current one where the two touch, and else the current one stands alone
-pub merged-touching : (rest : List Interval) (at : ℕ) (d current union : Interval) (items more : List Interval)
-    → at < length rest → true ≡ touches current (get_or rest at d) → more ≡ items → union ≡ united current (get_or rest at d)
-    → more ++ merged union (drop (at + 1) rest) ≡ items ++ merged current (drop at rest)
-merged-touching rest at d current union items more below touch same is =
-    let next = get_or rest at d in
-    let left = drop (at + 1) rest in
-    let step = at_drop_more (merged current) rest at d below ∙ ap (λ b. cond b (merged (united current next) left) (current ∷ merged next left)) (sym touch) in
-    rw (same, is) (ap (λ l. items ++ l) (sym step))
-
-pub merged-apart : (rest : List Interval) (at : ℕ) (d current last : Interval) (items more : List Interval)
-    → at < length rest → false ≡ touches current (get_or rest at d) → more ≡ items ++ (current ∷ []) → last ≡ get_or rest at d
-    → more ++ merged last (drop (at + 1) rest) ≡ items ++ merged current (drop at rest)
-merged-apart rest at d current last items more below touch one is =
-    let next = get_or rest at d in
-    let left = drop (at + 1) rest in
-    let step = at_drop_more (merged current) rest at d below ∙ ap (λ b. cond b (merged (united current next) left) (current ∷ merged next left)) (sym touch) in
-    rw (one, is) (append_assoc items (current ∷ []) (merged next left) ∙ ap (λ l. items ++ l) (sym step))

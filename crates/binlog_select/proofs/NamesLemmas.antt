@@ -69,9 +69,8 @@ IsCopied text copy = string_bytes copy ≡ string_bytes text
 
 pub bytes_of-copied : (texts copies : List (String Global)) → AllZip IsCopied texts copies → bytes_of copies ≡ bytes_of texts
 bytes_of-copied [] [] same = refl
-bytes_of-copied [] (c ∷ copies) same = absurd same
-bytes_of-copied (t ∷ texts) [] same = absurd same
 bytes_of-copied (t ∷ texts) (c ∷ copies) same = rw (same.0, bytes_of-copied texts copies same.1)
+bytes_of-copied texts copies same = absurd same
 
 -- copies of texts in the order of their bytes are in that order
 pub AreInByteOrder-copied : (texts copies : List (String Global)) → AllZip IsCopied texts copies → AreInByteOrder texts → AreInByteOrder copies

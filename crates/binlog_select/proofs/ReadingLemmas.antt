@@ -24,10 +24,8 @@ intervals_in-cut element source texts number cut is = ap element_of cut ∙ elem
 
 bind_both : (a b r : Option (List Interval))
     → (a >>= (λ is. (b >>= (λ old. appended old r)) >>= (λ rest. Some (is ++ rest)))) ≡ ((a >>= (λ is. b >>= (λ rest. Some (is ++ rest)))) >>= (λ old. appended old r))
-bind_both None b r = refl
-bind_both (Some is) None r = refl
-bind_both (Some is) (Some old) None = refl
 bind_both (Some is) (Some old) (Some new) = ap Some (sym (append_assoc is old new))
+bind_both a b r = refl
 
 one_read : (r : Option (List Interval)) → (r >>= (λ is. Some (is ++ []))) ≡ appended [] r
 one_read None = refl

@@ -1,7 +1,7 @@
 -- The written form of a set is read as the same intervals.
 use Rattle.std.proofs.Common.{◌≡◌, ◌≢◌, ◌==◌, ℕ, zero, suc, ◌-◌, ◌<◌, ◌≤◌, ◌^◌, true, false, cond, ◌&&◌, eqb, ltb, List, [], ◌∷◌, ◌++◌, length, reverse, Option, Some, None, option_map, decimal, inl, sym, ap, ◌∙◌, refl, subst, append_assoc, arith}
 use Rattle.std.specs.List.{All, onto_first}
-use Rattle.std.specs.Int.{IsInRange, to_be_bytes, from_be_bytes, byte_at, bytes_high_first, w128}
+use Rattle.std.specs.Int.{to_be_bytes, from_be_bytes, byte_at, bytes_high_first, w128}
 use Rattle.std.proofs.lemmas.Bool.Decides.{nat_tests}
 use Rattle.std.proofs.lemmas.List.{append-nil, reverse-reverse, get_or-reverse, length-reverse, length-append}
 use Rattle.std.proofs.lemmas.List.Elements.{All-from_get_or, All-append, All-cons, All-nil, All-head}
@@ -22,7 +22,7 @@ use Rattle.binlog_select.proofs.DecimalLemmas.{own_digits, number_of-decimal}
 use Rattle.binlog_select.proofs.PartsLemmas.{Lacks, parts-none, parts-append}
 use Rattle.binlog_select.proofs.TokenLemmas.{decimal-lacks}
 use Rattle.binlog_select.proofs.ReadingLemmas.{elements-some}
-use Rattle.binlog_select.proofs.SetTextLemmas.{between, interval_of-cut, between-rising}
+use Rattle.binlog_select.proofs.SetTextLemmas.{between, interval_of-cut, between-rising, no_digit_hyphen}
 use Rattle.binlog_select.proofs.UniqueLemmas.{same_interval}
 
 -- the bytes of sources and intervals: no blank, comma or colon
@@ -88,9 +88,6 @@ gtid_number-decimal n positive small =
     in_range : (n : ℕ) → 0 < n → n < 2 ^ 63 → cond (ltb 0 n && ltb n (2 ^ 63)) (Some n) None ≡ Some n
     in_range n positive small = grind (arith, nat_tests)
 
-no_digit_hyphen : ¬ (IsInRange 48 57 hyphen)
-no_digit_hyphen h = absurd (omega arith)
-
 interval_of-text : (i : Interval) → IsInterval i → interval_of i.source (parts hyphen (interval_text i)) ≡ Some i
 interval_of-text i is =
     let small = is.small in
@@ -147,9 +144,8 @@ parts-push c (x ∷ xs) ys =
 -- one interval more of an element
 one_more : (a : Option Interval) (b : Option (List Interval)) (i : Interval)
     → (a >>= (λ x. (b >>= (λ is. Some (is ++ i ∷ []))) >>= (λ rest. Some (x ∷ rest)))) ≡ ((a >>= (λ x. b >>= (λ rest. Some (x ∷ rest)))) >>= (λ is. Some (is ++ i ∷ [])))
-one_more None b i = refl
 one_more (Some x) None i = refl
-one_more (Some x) (Some is) i = refl
+one_more a b i = refl
 
 intervals_of-push : (source : ℕ) (texts : List (List ℕ)) (text : List ℕ) (i : Interval) → interval_of source (parts hyphen text) ≡ Some i
     → intervals_of source (texts ++ text ∷ []) ≡ (intervals_of source texts >>= (λ is. Some (is ++ i ∷ [])))

@@ -31,7 +31,7 @@ gtid_number-parted c ds outside parted =
       | false ↦ λ is. rw is refl
     ] refl
 
-no_digit_hyphen : ¬ (IsInRange 48 57 hyphen)
+pub no_digit_hyphen : ¬ (IsInRange 48 57 hyphen)
 no_digit_hyphen h = absurd (omega arith)
 
 -- an interval of two numbers
@@ -46,15 +46,11 @@ between-none source (Some first) = refl
 
 between-is : (source : ℕ) (a b : Option ℕ)
     → (a >>= (λ first. b >>= (λ last. cond (nat_le first last) (Some (record { source = source; first = first; last = last })) None))) ≡ between source a b
-between-is source None b = refl
 between-is source (Some first) None = refl
-between-is source (Some first) (Some last) = refl
+between-is source a b = refl
 
 interval_of-two : (source : ℕ) (n m : List ℕ) → interval_of source (n ∷ m ∷ []) ≡ between source (gtid_number n) (gtid_number m)
 interval_of-two source n m = between-is source (gtid_number n) (gtid_number m)
-
-more_parts : (m p q : List ℕ) (more : List (List ℕ)) → m ∷ [] ≡ p ∷ q ∷ more → ⊥
-more_parts m p q more e = absurd (omega (arith, ap length e))
 
 pub interval_of-cut : (source : ℕ) (n m : List ℕ) → interval_of source (n ∷ parts hyphen m) ≡ between source (gtid_number n) (gtid_number m)
 interval_of-cut source n m =
@@ -63,7 +59,7 @@ interval_of-cut source n m =
       | ◌∷◌ p rest ↦ λ is. elim rest as (λ r. parts hyphen m ≡ p ∷ r → interval_of source (n ∷ p ∷ r) ≡ between source (gtid_number n) (gtid_number m)) [
         | [] ↦ λ one. let same : m ≡ p = sym (join-parts hyphen m) ∙ ap (join_with_byte hyphen) one in interval_of-two source n p ∙ ap (λ x. between source (gtid_number n) (gtid_number x)) (sym same)
         | ◌∷◌ q more ↦ λ many.
-            sym (ap (between source (gtid_number n)) (gtid_number-parted hyphen m no_digit_hyphen (λ one. more_parts m p q more (sym one ∙ many))) ∙ between-none source (gtid_number n))
+            sym (ap (between source (gtid_number n)) (gtid_number-parted hyphen m no_digit_hyphen (λ one. let e = sym one ∙ many in cc)) ∙ between-none source (gtid_number n))
       ] is
     ] refl
 
@@ -79,13 +75,11 @@ between-rising source first last rising = grind (arith, nat_tests)
 pub between-falling : (source first last : ℕ) → last < first → None ≡ between source (Some first) (Some last)
 between-falling source first last falling = grind (arith, nat_tests)
 
-parsed_36 : (text : List ℕ) → length text ≡ 36 → parsed text ≡ parsed_hyphenated text
-parsed_36 text len = rw len refl
-
 -- a text of 36 characters without a reading is no source
 pub source_of-none : (text : List ℕ) → length text ≡ 36 → ((uuid : List ℕ) → parsed text ≡ Some uuid → ⊥) → None ≡ source_of text
 source_of-none text len unread =
+    let same : parsed text ≡ parsed_hyphenated text = rw len refl in
     elim (parsed_hyphenated text) as (λ o. parsed_hyphenated text ≡ o → None ≡ option_map source_number o) [
       | None ↦ λ is. refl
-      | Some uuid ↦ λ is. absurd (unread uuid (parsed_36 text len ∙ is))
+      | Some uuid ↦ λ is. absurd (unread uuid (same ∙ is))
     ] refl

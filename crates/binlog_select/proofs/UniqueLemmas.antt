@@ -1,5 +1,5 @@
 -- Joined intervals with the same numbers are the same list.
-use Rattle.std.proofs.Common.{◌≡◌, ℕ, ◌+◌, ◌≤◌, List, [], ◌∷◌, Some, inl, inr, sym, ap, ◌∙◌, refl, subst, arith}
+use Rattle.std.proofs.Common.{◌≡◌, ℕ, ◌+◌, ◌≤◌, List, [], ◌∷◌, inl, inr, sym, ap, ◌∙◌, refl, subst, arith}
 use Rattle.std.proofs.lemmas.Bool.{cases_lt}
 use Rattle.binlog_select.specs.declared.interval.Interval.{Interval}
 use Rattle.binlog_select.specs.Intervals.{IsMember, IsJoined, SameNumbers}
@@ -74,12 +74,10 @@ same_list (x ∷ xs) (y ∷ ys) x-joined y-joined same =
     λ i. heads i ∷ tails i
 
 -- a text that names two sets names one
-some_is : (a b : List Interval) → Some a ≡ Some b → a ≡ b
-some_is a b e = cc
-
 pub Same-named : (text : List ℕ) (xs ys : List Interval) → IsSetText text xs → IsSetText text ys → SameNumbers xs ys
 Same-named text xs ys x-names y-names source number =
-    let one : x-names.named ≡ y-names.named = some_is x-names.named y-names.named (sym x-names.reads ∙ y-names.reads) in
+    let both = sym x-names.reads ∙ y-names.reads in
+    let one : x-names.named ≡ y-names.named = cc in
     let same : SameNumbers x-names.named ys = subst (λ named. SameNumbers named ys) (sym one) (flipped ys y-names.named y-names.same) in (
       λ m. (same source number).0 ((x-names.same source number).0 m),
       λ m. (x-names.same source number).1 ((same source number).1 m),

@@ -10,7 +10,7 @@ use Rattle.clap.specs.declared.parser.matches.SubCommand.{SubCommand}
 use Rattle.clap.specs.declared.error.Error.{Error}
 use Rattle.clap.specs.declared.error.kind.ErrorKind.{ErrorKind}
 use Rattle.clap.specs.declared.error.kind.ErrorKind.TheVariants as kind
-use Rattle.binlogfeed.specs.Words.{program_app, IsFaultOf, AnswersFound, AnswersParse}
+use Rattle.binlogfeed.specs.Words.{program_app, IsParserFault, AnswersFound, AnswersParse}
 use Rattle.binlogfeed.specs.declared.words.Order.{Order}
 use Rattle.binlogfeed.specs.declared.words_fault.WordsFault.{WordsFault}
 use Rattle.binlogfeed.specs.declared.words_fault.WordsFault.TheVariants.{Help, CommandLine, EventName, Set, Token, Key, OutOfMemory}
@@ -23,7 +23,7 @@ help_is_no_memory : (k : ErrorKind) → k ≡ kind.DisplayHelp → k ≡ kind.Ou
 help_is_no_memory k h m = true≢false (ap is_help (sym h ∙ m))
 
 pub parse_refused : (faults : Kinds) (found : Option (Text × List Row)) (error : Error) (fault : WordsFault)
-    → HasKind faults error → IsFaultOf error fault → AnswersParse faults found (Err fault)
+    → HasKind faults error → IsParserFault error fault → AnswersParse faults found (Err fault)
 parse_refused faults found error (Help shown) (inl memory) h = absurd (help_is_no_memory (kind_of error) h.1 memory)
 parse_refused faults found error (Help shown) (inr among) h = (subst (λ (k : ErrorKind). IsAmong k faults) h.1 among, ap kind_of h.0 ∙ h.1)
 parse_refused faults found error (CommandLine said) (inl memory) h = absurd (h.2 memory)
@@ -47,7 +47,7 @@ parse_taken faults found (Err OutOfMemory) none h = tt
 
 -- where only memory may be wanting
 pub parse_without_memory : (found : Option (Text × List Row)) (error : Error) (fault : WordsFault)
-    → kind_of error ≡ kind.OutOfMemory → IsFaultOf error fault → AnswersFound found (Err fault)
+    → kind_of error ≡ kind.OutOfMemory → IsParserFault error fault → AnswersFound found (Err fault)
 parse_without_memory found error (Help shown) memory h = absurd (help_is_no_memory (kind_of error) h.1 memory)
 parse_without_memory found error (CommandLine said) memory h = absurd (h.2 memory)
 parse_without_memory found error (EventName word) memory h = absurd h

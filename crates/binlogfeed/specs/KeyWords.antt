@@ -1,10 +1,12 @@
 -- The key that `--key` names, and how its text is refused.
-use Rattle.std.specs.Prelude.{◌≡◌, ℕ, List, Some, option_and_then, is_some, unwrap_or, Bool, true, false, not, ◌&&◌, ◌||◌, ◌==◌, codes}
+use Rattle.std.specs.Prelude.{◌≡◌, ℕ, List, Some, IfOk, IfErr, Result, String, string_bytes, option_and_then, is_some, unwrap_or, Bool, true, false, not, ◌&&◌, ◌||◌, ◌==◌, codes}
 use Rattle.serde_json.specs.Data.{Data, null, boolean, number, string, array, object, Items, no_items, item}
 use Rattle.serde_json.specs.Events.{members_len}
 use Rattle.serde_json.specs.Find.{as_str, get, is_float}
 use Rattle.serde_json.specs.Read.{read}
+use Rattle.serde_json.specs.View.{view}
 use Rattle.serde_json.specs.Written.{compact_text}
+use Rattle.serde_json.specs.declared.value.Value.{Value}
 use Rattle.clap.specs.Words.{Row, Text, first_of}
 use Rattle.binlog_json.specs.declared.style.Style.{Style}
 use Rattle.binlog_json.specs.declared.style.Style.TheVariants.{Plain, Full}
@@ -71,3 +73,10 @@ IsKeyFault style text (Set at) = ⊥
 IsKeyFault style text Token = ⊥
 IsKeyFault style text (CommandLine said) = ⊥
 IsKeyFault style text (Help error) = ⊥
+
+-- the key, or the fault, of each text that is read as a value
+abbrev pub GivesKey : {A E : Type 0} → Style → Value → Result (String A) E → Type 0
+GivesKey style value result = (text : Text) → read text ≡ Some (view value) → IfOk result (λ key. IsKeyText style text (string_bytes key))
+
+abbrev pub RefusesKey : {K : Type 0} → Style → Value → Result K WordsFault → Type 0
+RefusesKey style value result = (text : Text) → read text ≡ Some (view value) → IfErr result (IsKeyFault style text)

@@ -18,3 +18,10 @@ pub mod Turns
 pub mod Follow
 pub mod FollowSteps
 pub mod Endings
+pub mod LineSteps
+pub mod RunAnswers
+pub mod Openings
+pub mod LookSteps
+pub mod RunsOn
+pub mod FollowReads
+pub mod ProgramSteps

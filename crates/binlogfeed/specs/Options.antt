@@ -3,7 +3,8 @@ use Rattle.std.specs.Prelude.{◌≡◌, ◌≢◌, List, ◌∷◌, ◌++◌, m
 use Rattle.std.specs.Ordering.{nat_cmp}
 use Rattle.std.specs.Cmp.Lexicographic.{slice_cmp}
 use Rattle.std.specs.FinSet as set
-use Rattle.clap.specs.Words.{Row, Text, first_of}
+use Rattle.clap.specs.Words.{Row, Text, first_of, found_of, rows_of}
+use Rattle.clap.specs.declared.parser.matches.ArgMatches.{ArgMatches}
 use Rattle.binlog_select.specs.Parts.{parts}
 use Rattle.binlog_select.specs.SetText.{comma, elements, IsSetText, IsFirstBad}
 use Rattle.binlog_select.specs.declared.filter.Filter.{Filter}
@@ -19,6 +20,14 @@ words_in list = parts comma list
 -- the words of a list as a set
 abbrev pub names_in : Text → set.FinSet (slice_cmp nat_cmp)
 names_in list = set.from_list (words_in list)
+
+-- the values that a subcommand was given
+abbrev pub rows_given : ArgMatches → List Row
+rows_given matches = rows_of (found_of matches)
+
+-- the names that an option lists
+abbrev pub names_listed : Text → ArgMatches → Option (set.FinSet (slice_cmp nat_cmp))
+names_listed id matches = option_map names_in (first_of id (rows_given matches))
 
 -- kinds of change go by the names that they have in lines
 abbrev pub IsKindOf : Text → Option ChangeKind → Type 0

@@ -3,16 +3,17 @@ use Rattle.std.specs.Prelude.{◌≡◌, ◌≢◌, ◌⊎◌, ◌++◌, ℕ, Li
 use Rattle.std.specs.Borrow.{Bor}
 use Rattle.std.specs.Str.{bytes_eq}
 use Rattle.clap.specs.Lexer.{usize_max}
-use Rattle.clap.specs.Words.{App, Rule, Row, Text, Kinds, IsAmong, new_app, new_rule, with_rule, with_subcommand, all_of, first_of, subcommand_of, fault_of, kind_of}
+use Rattle.clap.specs.Words.{App, Rule, Row, Text, Kinds, IsAmong, new_app, new_rule, with_rule, with_subcommand, all_of, first_of, subcommand_of, fault_of, kind_of, takes}
 use Rattle.clap.specs.declared.builder.action.ArgAction.TheVariants as action
 use Rattle.clap.specs.declared.error.Error.{Error}
 use Rattle.clap.specs.declared.error.kind.ErrorKind.{ErrorKind}
 use Rattle.clap.specs.declared.error.kind.ErrorKind.TheVariants as kind
+use Rattle.clap.specs.declared.parser.matches.ArgMatches.{ArgMatches}
 use Rattle.binlog_select.specs.declared.filter.Filter.{Filter}
 use Rattle.binlog_json.specs.declared.style.Style.{Style}
 use Rattle.binlog_json.specs.declared.style.Style.TheVariants.{Plain, Full}
 use Rattle.binlogfeed.specs.KeyWords.{IsKeyText, IsKeyFault, value_given}
-use Rattle.binlogfeed.specs.Options.{IsFilterOf, AnswersOptions}
+use Rattle.binlogfeed.specs.Options.{IsFilterOf, AnswersOptions, rows_given}
 use Rattle.binlogfeed.specs.StartWords.{IsStart, IsTokenFault, token_text}
 use Rattle.binlogfeed.specs.declared.words.Order.{Order}
 use Rattle.binlogfeed.specs.declared.words.Order.TheVariants.{Transactions, Read, Follow, History}
@@ -94,6 +95,9 @@ style_given rows = style_of (first_of (codes "full") rows)
 abbrev pub is_followed : List Row → Bool
 is_followed rows = is_true_text (first_of (codes "follow") rows)
 
+abbrev pub follows_given : ArgMatches → Bool
+follows_given matches = is_followed (rows_given matches)
+
 -- the subcommand that the words name, with the values that they give it
 abbrev pub IsOrder : Order → Option (Text × List Row) → Type 0
 IsOrder (Transactions files) found =
@@ -142,15 +146,19 @@ AnswersFound found (Err Token) = HasTokenFault found Token
 AnswersFound found (Err Key) = HasKeyFault found Key
 AnswersFound found (Err OutOfMemory) = Unit {0}
 
+-- words that the parser takes come to what the subcommand does that it finds
+abbrev pub AnswersTaken : List Text → Result Order WordsFault → Type 0
+AnswersTaken words result = takes program_app words ≡ true → AnswersFound (subcommand_of program_app words) result
+
 -- what an error of the parser comes to
-abbrev pub IsFaultOf : Error → WordsFault → Type 0
-IsFaultOf given (Help error) = (error ≡ given) × (kind_of given ≡ kind.DisplayHelp)
-IsFaultOf given (CommandLine said) = (said ≡ Some given) × (kind_of given ≢ kind.DisplayHelp) × (kind_of given ≢ kind.OutOfMemory)
-IsFaultOf given (EventName word) = ⊥
-IsFaultOf given (Set at) = ⊥
-IsFaultOf given Token = ⊥
-IsFaultOf given Key = ⊥
-IsFaultOf given OutOfMemory = kind_of given ≡ kind.OutOfMemory
+abbrev pub IsParserFault : Error → WordsFault → Type 0
+IsParserFault given (Help error) = (error ≡ given) × (kind_of given ≡ kind.DisplayHelp)
+IsParserFault given (CommandLine said) = (said ≡ Some given) × (kind_of given ≢ kind.DisplayHelp) × (kind_of given ≢ kind.OutOfMemory)
+IsParserFault given (EventName word) = ⊥
+IsParserFault given (Set at) = ⊥
+IsParserFault given Token = ⊥
+IsParserFault given Key = ⊥
+IsParserFault given OutOfMemory = kind_of given ≡ kind.OutOfMemory
 
 -- a fault that is no call for help
 abbrev pub HasMistake : Kinds → Type 0

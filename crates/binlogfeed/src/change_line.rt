@@ -1,7 +1,6 @@
 //! The line of a row change.
 ghost use Rattle.std.specs.Prelude.{◌≡◌, ◌++◌, OnOk, OnErr};
-ghost use Rattle.binlog_feed.specs.Changes.{view};
-ghost use Rattle.binlogfeed.specs.Lines.{change_line_as as line_of};
+ghost use Rattle.binlogfeed.specs.LineSteps.{line_for};
 
 use binlog_feed::Change;
 use binlog_json::{LineWriter, Style};
@@ -14,7 +13,7 @@ pub(crate) fn change_line(
     writer: &mut LineWriter,
     waiting: &mut Vec<u8>,
 ) -> Result<(), AllocError>
-    ensures ok { OnOk result (waiting.new.items ≡ waiting.old.items ++ line_of style (view change.now)) }
+    ensures ok { OnOk result (waiting.new.items ≡ waiting.old.items ++ line_for style change.now) }
     ensures err { OnErr result (waiting.new.items ≡ waiting.old.items) }
 {
     let before = waiting.len();

@@ -1,8 +1,8 @@
 //! The command line: its subcommands, with their options and their help.
-ghost use Rattle.std.specs.Prelude.{◌≡◌, IfOk, Some, false};
-ghost use Rattle.clap.specs.Words.{App, rule_of, app_of, with_subcommand};
-ghost use Rattle.binlogfeed.specs.Words.{file_rule, flag_rule, option_rule, program_app};
-ghost use Rattle.binlogfeed.specs.Commands.{IsBuilt, HasApp, rule_of_words, app_of_words};
+ghost use Rattle.std.specs.Prelude.{◌≡◌, IfOk, false};
+ghost use Rattle.clap.specs.Words.{rule_of, app_of};
+ghost use Rattle.binlogfeed.specs.Words.{file_rule, flag_rule, program_app};
+ghost use Rattle.binlogfeed.specs.Commands.{AddsSubcommand, IsBuilt, rule_of_words, app_of_words, value_rule};
 
 use clap::{Arg, ArgAction, Command};
 use std::alloc::{AllocError, Global};
@@ -282,7 +282,7 @@ fn flag_argument<'a>(alloc: Global, words: &'a OptionWords) -> Arg<'a>
 
 /// An option with one value.
 fn value_argument<'a>(alloc: Global, words: &'a OptionWords) -> Arg<'a>
-    ensures rule { rule_of result ≡ record (option_rule words.entry.now.name.now) { required = words.entry.now.is_required } }
+    ensures rule { rule_of result ≡ value_rule words.entry.now }
     ensures local { result.global ≡ false }
 {
     Arg::new(alloc, words.name)
@@ -315,7 +315,7 @@ fn add_subcommand<'a>(
     command: Result<Command<'a>, AllocError>,
     words: &'a SubcommandWords,
 ) -> Result<Command<'a>, AllocError>
-    ensures { (app : App) → HasApp app command.entry → HasApp (with_subcommand app (app_of_words words.entry.now).top) result }
+    ensures { AddsSubcommand command.entry words.entry.now result }
 {
     match command {
         Ok(command) => match subcommand(alloc, words) {

@@ -1,7 +1,6 @@
 //! How a run ends.
-ghost use Rattle.std.specs.Prelude.{◌≡◌, ◌≢◌, ℕ, ◌⊎◌, true, false, List, Option, Err};
-ghost use Rattle.binlogfeed.specs.Runs.{Output, AnswersOutput};
-ghost use Rattle.binlogfeed.specs.Coming.{Leaves};
+ghost use Rattle.std.specs.Prelude.{◌≡◌, ◌≢◌, ◌⊎◌, true, false, Err};
+ghost use Rattle.binlogfeed.specs.LineSteps.{Finishes};
 
 use crate::fault::RunFault;
 use line_output::write_text;
@@ -21,8 +20,7 @@ pub(crate) fn finish<W: Write>(
     waiting: &[u8],
     answer: Result<u64, RunFault>,
 ) -> Result<u64, RunFault>
-    ensures answers { (output : Output) (start : Option (List ℕ)) → Leaves output start (W.contents out.old) waiting.now answer
-        → AnswersOutput output start (W.contents out.new) result }
+    ensures answers { Finishes (W.contents out.old) (W.contents out.new) waiting.now answer result }
     ensures keeps { (result ≡ answer) ⊎ (result ≡ Err RunFault.Write) }
 {
     if has_failed_write(&answer) {

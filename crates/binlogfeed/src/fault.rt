@@ -1,5 +1,5 @@
 //! Why a run ended early: its line on standard error, and the program's status.
-ghost use Rattle.std.specs.Prelude.{◌≡◌, ◌++◌, OnOk, string_bytes};
+ghost use Rattle.std.specs.Prelude.{◌≡◌, OnOk};
 ghost use Rattle.binlogfeed.specs.Faults.{what_text, refusal_text, fault_text, fault_of_adding, status_of, IsNamed};
 
 use binlog_feed::{LogFault, OpenFeedFault, What};
@@ -117,7 +117,7 @@ fn refusal_name(refusal: TokenRefusal) -> &'static str
 /// Appends the line of a fault, without its line feed. Where it finds no memory, nothing is said of what was appended.
 pub fn fault_line<L: Logs>(fault: &RunFault, logs: &L, line: &mut String) -> Result<(), AllocError>
     requires { IsNamed (L.names logs.now) fault.now }
-    ensures { OnOk result (string_bytes line.new ≡ string_bytes line.old ++ fault_text (L.names logs.now) fault.now) }
+    ensures { OnOk result (Gains line.old line.new (fault_text (L.names logs.now) fault.now)) }
 {
     match fault {
         RunFault::DuplicateFile(file) => {
@@ -145,6 +145,7 @@ pub fn fault_line<L: Logs>(fault: &RunFault, logs: &L, line: &mut String) -> Res
 
 ghost use Rattle.std.specs.Prelude.{◌<◌, length};
 ghost use Rattle.binlogfeed.specs.Faults.{name_of};
+ghost use Rattle.binlogfeed.specs.LineSteps.{Gains};
 
 /// The name of a file of the list.
 fn file_name<L: Logs>(logs: &L, file: usize) -> &str

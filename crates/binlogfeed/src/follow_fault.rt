@@ -1,10 +1,11 @@
 //! Why a run that follows has ended: its line on standard error, and the program's status.
-ghost use Rattle.std.specs.Prelude.{◌≡◌, ◌++◌, ◌<◌, OnOk, length, string_bytes};
+ghost use Rattle.std.specs.Prelude.{◌≡◌, OnOk};
 ghost use Rattle.binlogfeed.specs.Coming.{fault_of_reading};
-ghost use Rattle.binlogfeed.specs.Faults.{name_of, status_of};
-ghost use Rattle.binlogfeed.specs.Follow.{follow_status_of, input_text, refusal_status_of, list_refusal_text, NamesFiles};
-ghost use Rattle.binlogfeed.specs.Statuses.{open_status_of};
+ghost use Rattle.binlogfeed.specs.Faults.{name_of};
+ghost use Rattle.binlogfeed.specs.Follow.{follow_status_of, input_text, refusal_status_of, NamesFiles};
 ghost use Rattle.binlog_feed.specs.Growing.{last_file};
+ghost use Rattle.binlogfeed.specs.LineSteps.{Gains};
+ghost use Rattle.binlogfeed.specs.LookSteps.{refusal_in};
 
 use crate::fault::{RunFault, fault_line, status};
 use crate::lists::ListFault;
@@ -66,7 +67,7 @@ pub(crate) fn refusal_line<L: Logs>(
     line: &mut String,
 ) -> Result<(), AllocError>
     requires { NamesFiles (L.names earlier.now) (L.names logs.now) fault.now }
-    ensures { OnOk result (string_bytes line.new ≡ string_bytes line.old ++ list_refusal_text (L.names earlier.now) (L.names logs.now) fault.now) }
+    ensures { OnOk result (Gains line.old line.new (refusal_in L.Logs earlier.now logs.now fault.now)) }
 {
     match fault {
         GoOnFault::NotAtEnd => Ok(()),

@@ -1,9 +1,9 @@
 //! A line for each row change of a list of files that has a key.
-ghost use Rattle.std.specs.Prelude.{◌≡◌, IsTrue, IfErr};
-ghost use Rattle.binlog_frame.specs.Logs.{KeepsSource};
-ghost use Rattle.binlog_feed.specs.Tokens.Judgement.{Fits};
+ghost use Rattle.std.specs.Prelude.{IfErr};
+ghost use Rattle.binlog_frame.specs.Sources.{Keeps};
 ghost use Rattle.binlogfeed.specs.Faults.{IsNamed};
-ghost use Rattle.binlogfeed.specs.Runs.{Answers, ReadsFailed, history_output, history_output_as};
+ghost use Rattle.binlogfeed.specs.RunAnswers.{AnswersKey, AnswersKeyAs};
+ghost use Rattle.binlogfeed.specs.Runs.{ReadsFailed};
 
 use crate::fault::RunFault;
 use crate::feed_lines::{Wanted, write_feed};
@@ -29,11 +29,10 @@ pub fn run_history<L: Logs, W: Write>(
     window: Vec<u8>,
     out: &mut W,
 ) -> (L, Result<u64, RunFault>)
-    ensures answers { IsTrue (L.honest result.0) → Answers (L.names logs) Fits
-        (history_output (L.names logs) (L.contents logs) schema.now table.now key.now) (W.contents out.old) (W.contents out.new) result.1 }
+    ensures answers { AnswersKey L.Logs W.Write schema.now table.now key.now logs out.old out.new result }
 
     // Over any source.
-    ensures source { KeepsSource L.names L.contents L.lengths L.honest L.failures logs result.0 }
+    ensures source { Keeps L.Logs logs result.0 }
     ensures named { IfErr result.1 (IsNamed (L.names result.0)) }
     ensures failed { IfErr result.1 (ReadsFailed (L.failures logs) (L.failures result.0)) }
 {
@@ -62,11 +61,10 @@ pub fn run_history_as<L: Logs, W: Write>(
     window: Vec<u8>,
     out: &mut W,
 ) -> (L, Result<u64, RunFault>)
-    ensures answers { IsTrue (L.honest result.0) → Answers (L.names logs) Fits
-        (history_output_as style (L.names logs) (L.contents logs) schema.now table.now key.now) (W.contents out.old) (W.contents out.new) result.1 }
+    ensures answers { AnswersKeyAs L.Logs W.Write style schema.now table.now key.now logs out.old out.new result }
 
     // Over any source.
-    ensures source { KeepsSource L.names L.contents L.lengths L.honest L.failures logs result.0 }
+    ensures source { Keeps L.Logs logs result.0 }
     ensures named { IfErr result.1 (IsNamed (L.names result.0)) }
     ensures failed { IfErr result.1 (ReadsFailed (L.failures logs) (L.failures result.0)) }
 {

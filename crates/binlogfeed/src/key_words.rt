@@ -1,9 +1,7 @@
 //! The key that `--key` names.
-ghost use Rattle.std.specs.Prelude.{◌≡◌, Some, IfOk, IfErr, string_bytes};
-ghost use Rattle.clap.specs.Words.{Text};
-ghost use Rattle.serde_json.specs.Read.{read};
+ghost use Rattle.std.specs.Prelude.{◌≡◌, IfOk, IfErr, string_bytes};
 ghost use Rattle.serde_json.specs.View.{view, items_view};
-ghost use Rattle.binlogfeed.specs.KeyWords.{IsKeyText, IsKeyFault, is_key as is_key_data, is_key_part, are_key_parts, is_key_object as is_object_of_key, is_coded as stands_for_bytes, is_in_charset as stands_for_text, has_text as names_text};
+ghost use Rattle.binlogfeed.specs.KeyWords.{GivesKey, RefusesKey, IsKeyText, IsKeyFault, is_key as is_key_data, is_key_part, are_key_parts, is_key_object as is_object_of_key, is_coded as stands_for_bytes, is_in_charset as stands_for_text, has_text as names_text};
 
 use crate::words_fault::WordsFault;
 use binlog_json::Style;
@@ -26,8 +24,8 @@ pub(crate) fn key_of(alloc: Global, style: Style, text: &str) -> Result<String, 
 
 /// The compact JSON of a value that is a key.
 fn compact_key(alloc: Global, style: Style, value: &Value) -> Result<String, WordsFault>
-    ensures ok { (text : Text) → read text ≡ Some (view value.now) → IfOk result (λ key. IsKeyText style text (string_bytes key)) }
-    ensures err { (text : Text) → read text ≡ Some (view value.now) → IfErr result (IsKeyFault style text) }
+    ensures ok { GivesKey style value.now result }
+    ensures err { RefusesKey style value.now result }
 {
     if !is_key(style, value) {
         return Err(WordsFault::Key);

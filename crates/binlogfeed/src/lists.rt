@@ -1,6 +1,6 @@
 //! Lists of paths on an input: the clock of a run that follows.
-ghost use Rattle.std.specs.Prelude.{◌≡◌, map, string_bytes, IfOk, option_map};
-ghost use Rattle.binlogfeed.specs.Lists.{ReadsLine, ReadsList};
+ghost use Rattle.std.specs.Prelude.{◌≡◌, IfOk};
+ghost use Rattle.binlogfeed.specs.FollowReads.{TakesLine, TakesList};
 
 use std::alloc::{AllocError, AllocFailed, Global};
 use std::io::{BufRead, Error, ErrorKind};
@@ -44,7 +44,7 @@ fn unreadable(error: &Error) -> ListFault {
 
 /// Reads a line, without its line feed. Where the input ends before a line feed, there is no line more.
 fn next_line<B: BufRead>(alloc: Global, input: &mut B) -> Result<Option<Vec<u8>>, ListFault>
-    ensures { IfOk result (λ found. ReadsLine (B.Read.remaining input.old) (B.Read.remaining input.new) (option_map (λ line. line.items) found)) }
+    ensures { IfOk result (TakesLine B.Read input.old input.new) }
 {
     let mut line = Vec::new(alloc);
     if let Err(error) = input.read_until(b'\n', &mut line) {
@@ -62,7 +62,7 @@ pub(crate) fn next_list<B: BufRead>(
     alloc: Global,
     input: &mut B,
 ) -> Result<Option<Vec<String>>, ListFault>
-    ensures { IfOk result (λ found. ReadsList (B.Read.remaining input.old) (B.Read.remaining input.new) (option_map (λ list. map string_bytes list.items) found)) }
+    ensures { IfOk result (TakesList B.Read input.old input.new) }
 {
     let mut paths = Vec::new(alloc);
     // No list has so many lines. The bound shows that this ends.

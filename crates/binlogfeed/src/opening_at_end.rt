@@ -1,14 +1,12 @@
 //! A feed of a run that follows: it may begin at the end of a token's file.
-ghost use Rattle.std.specs.Prelude.{◌≡◌, IsTrue, length, IfOk, IfErr};
-ghost use Rattle.binlog_frame.specs.Logs.{KeepsSource};
-ghost use Rattle.binlog_feed.specs.AtEnd.{GoesOnBehind, judge_end};
-ghost use Rattle.binlog_feed.specs.FeedView.{IsSound, remaining_changes, passes_by};
-ghost use Rattle.binlog_feed.specs.Names.{AllDiffer};
-ghost use Rattle.binlog_feed.specs.Parsing.{files_of};
-ghost use Rattle.binlog_feed.specs.Tokens.Judgement.{Fits};
-ghost use Rattle.binlogfeed.specs.Faults.{IsNamed, fault_of_opening};
-ghost use Rattle.binlogfeed.specs.Looks.{BeginsFollowing, RefusesAtEndOf, RefusesFollowing, told_at_end};
-ghost use Rattle.binlogfeed.specs.Runs.{ReadsFailed};
+ghost use Rattle.std.specs.Prelude.{◌≡◌, IfOk, IfErr};
+ghost use Rattle.binlog_feed.specs.FeedView.{IsSound};
+ghost use Rattle.binlogfeed.specs.Looks.{told_at_end};
+ghost use Rattle.binlogfeed.specs.Openings.{BeginsToFollow, FailsToOpen, NamesOpened, RefusesFileEnd, RefusesToFollow};
+ghost use Rattle.binlog_feed.specs.FileEnds.{FitsEnd};
+ghost use Rattle.binlog_feed.specs.OpenedFeeds.{GoesOnBehindFile, IfHonest};
+ghost use Rattle.binlog_frame.specs.Sources.{Keeps};
+ghost use Rattle.binlog_feed.specs.FeedGoingOn.{TakesSource};
 
 use crate::opening::{larger_window, open_feed};
 use crate::window::first_window;
@@ -38,17 +36,14 @@ fn open_end<L: Logs>(
     filter: Filter,
     token: Token,
 ) -> Result<Feed<L>, (L, OpenFeedFault)>
-    ensures fits { IfOk result (λ given. IsTrue given.honest → judge_end (files_of (L.names logs) (L.contents logs)) token ≡ Fits) }
-    ensures goes_on { IfOk result (λ given. IsTrue given.honest → GoesOnBehind (files_of (L.names logs) (L.contents logs)) (passes_by filter) token.file (remaining_changes given)) }
-    ensures sound { IfOk result (λ given. IsTrue given.honest → IsSound given) }
-    ensures differ { IfOk result (λ _. AllDiffer (L.names logs) (length (L.names logs))) }
-    ensures names { IfOk result (λ given. given.names ≡ L.names logs) }
-    ensures contents { IfOk result (λ given. given.contents ≡ L.contents logs) }
-    ensures was_honest { IfOk result (λ given. IsTrue given.honest → IsTrue (L.honest logs)) }
-    ensures refused { IfErr result (λ back. IsTrue (L.honest back.0) → RefusesAtEndOf (L.names logs) (L.contents logs) token back.1) }
-    ensures source_back { IfErr result (λ back. KeepsSource L.names L.contents L.lengths L.honest L.failures logs back.0) }
-    ensures named { IfErr result (λ back. IsNamed (L.names logs) (fault_of_opening back.1)) }
-    ensures failed { IfErr result (λ back. ReadsFailed (L.failures logs) (L.failures back.0) (fault_of_opening back.1)) }
+    ensures fits { IfOk result (IfHonest (λ _. FitsEnd L.Logs logs token)) }
+    ensures goes_on { IfOk result (IfHonest (GoesOnBehindFile L.Logs logs filter token)) }
+    ensures sound { IfOk result (IfHonest IsSound) }
+    ensures source { IfOk result (TakesSource L.Logs logs) }
+    ensures refused { IfErr result (RefusesFileEnd L.Logs logs token) }
+    ensures source_back { IfErr result (λ back. Keeps L.Logs logs back.0) }
+    ensures named { IfErr result (λ back. NamesOpened L.Logs logs back.1) }
+    ensures failed { IfErr result (λ back. FailsToOpen L.Logs logs back.0 back.1) }
 {
     let Ok(first) = first_window(alloc) else {
         return Err((logs, OpenFeedFault::OutOfMemory));
@@ -83,16 +78,13 @@ pub(crate) fn open_following<L: Logs>(
     start: Start,
     window: Vec<u8>,
 ) -> Result<Feed<L>, (L, OpenFeedFault)>
-    ensures begins { IfOk result (λ given. IsTrue given.honest → BeginsFollowing (files_of (L.names logs) (L.contents logs)) (passes_by filter) start (remaining_changes given)) }
-    ensures sound { IfOk result (λ given. IsTrue given.honest → IsSound given) }
-    ensures differ { IfOk result (λ _. AllDiffer (L.names logs) (length (L.names logs))) }
-    ensures names { IfOk result (λ given. given.names ≡ L.names logs) }
-    ensures contents { IfOk result (λ given. given.contents ≡ L.contents logs) }
-    ensures was_honest { IfOk result (λ given. IsTrue given.honest → IsTrue (L.honest logs)) }
-    ensures refused { IfErr result (λ back. IsTrue (L.honest back.0) → RefusesFollowing (L.names logs) (L.contents logs) start back.1) }
-    ensures source_back { IfErr result (λ back. KeepsSource L.names L.contents L.lengths L.honest L.failures logs back.0) }
-    ensures named { IfErr result (λ back. IsNamed (L.names logs) (fault_of_opening back.1)) }
-    ensures failed { IfErr result (λ back. ReadsFailed (L.failures logs) (L.failures back.0) (fault_of_opening back.1)) }
+    ensures begins { IfOk result (IfHonest (BeginsToFollow L.Logs logs filter start)) }
+    ensures sound { IfOk result (IfHonest IsSound) }
+    ensures source { IfOk result (TakesSource L.Logs logs) }
+    ensures refused { IfErr result (RefusesToFollow L.Logs logs start) }
+    ensures source_back { IfErr result (λ back. Keeps L.Logs logs back.0) }
+    ensures named { IfErr result (λ back. NamesOpened L.Logs logs back.1) }
+    ensures failed { IfErr result (λ back. FailsToOpen L.Logs logs back.0 back.1) }
 {
     match open_feed(alloc, logs, filter, start, window) {
         Ok(feed) => Ok(feed),

@@ -1,8 +1,8 @@
 //! What the values of options name.
 ghost use Rattle.std.specs.Prelude.{◌≡◌, Some, IfOk, IfErr, option_map};
-ghost use Rattle.clap.specs.Words.{Text, rows_of, found_of, first_of};
+ghost use Rattle.clap.specs.Words.{Text, first_of};
 ghost use Rattle.binlog_select.specs.SetText.{IsSetText};
-ghost use Rattle.binlogfeed.specs.Options.{words_in, names_in, NamesKinds, IsGiven, IsKindOf, IsEventFault, IsFirstBadWord, IsSetFault, AnswersOptions};
+ghost use Rattle.binlogfeed.specs.Options.{rows_given, words_in, names_in, names_listed, NamesKinds, IsGiven, IsKindOf, IsEventFault, IsFirstBadWord, IsSetFault, AnswersOptions};
 ghost use Rattle.binlogfeed.specs.Words.{texts};
 
 use crate::words_fault::WordsFault;
@@ -12,7 +12,7 @@ use std::alloc::{AllocError, Global};
 
 /// The filter that the options' values name. Event names are judged before the GTID set.
 pub(crate) fn filter_given(alloc: Global, matches: &ArgMatches<'_>) -> Result<Filter, WordsFault>
-    ensures { AnswersOptions (rows_of (found_of matches.now)) result }
+    ensures { AnswersOptions (rows_given matches.now) result }
 {
     let only_events = kinds_given(alloc, text_given(matches, "only-events"))?;
     let auto_position = set_given(alloc, text_given(matches, "auto-position"))?;
@@ -42,8 +42,8 @@ fn lists_given(
     only: &str,
     ignored: &str,
 ) -> Result<Lists, AllocError>
-    ensures only { IfOk result (λ lists. lists.only ≡ option_map names_in (first_of only.now (rows_of (found_of matches.now)))) }
-    ensures ignored { IfOk result (λ lists. lists.ignored ≡ option_map names_in (first_of ignored.now (rows_of (found_of matches.now)))) }
+    ensures only { IfOk result (λ lists. lists.only ≡ names_listed only.now matches.now) }
+    ensures ignored { IfOk result (λ lists. lists.ignored ≡ names_listed ignored.now matches.now) }
 {
     let only = names_given(alloc, text_given(matches, only))?;
     let ignored = names_given(alloc, text_given(matches, ignored))?;
@@ -52,7 +52,7 @@ fn lists_given(
 
 /// The value of an option.
 pub(crate) fn text_given<'a>(matches: &ArgMatches<'a>, id: &str) -> Option<&'a str>
-    ensures { option_map (λ text. text.now) result ≡ first_of id.now (rows_of (found_of matches.now)) }
+    ensures { option_map (λ text. text.now) result ≡ first_of id.now (rows_given matches.now) }
 {
     matches.get_str(id)
 }

@@ -1,9 +1,9 @@
 //! What the words of the command line ask for.
-ghost use Rattle.std.specs.Prelude.{◌≡◌, ◌≢◌, ◌∷◌, [], IfOk, IfErr, codes, true, false, Some, option_map};
-ghost use Rattle.clap.specs.Words.{rows_of, found_of, subcommand_of, subcommand_rows_of, takes};
+ghost use Rattle.std.specs.Prelude.{◌≡◌, ◌≢◌, [], IfOk, codes, true, false, Some, option_map};
+ghost use Rattle.clap.specs.Words.{subcommand_rows_of};
+ghost use Rattle.binlogfeed.specs.Options.{rows_given};
 ghost use Rattle.binlogfeed.specs.KeyWords.{value_given};
-ghost use Rattle.binlogfeed.specs.StartWords.{IsStart, IsTokenFault, token_text};
-ghost use Rattle.binlogfeed.specs.Words.{program_app, IsFaultOf, AnswersFound, AnswersWords, texts, files_given, is_followed, is_true_text, style_given, style_of};
+ghost use Rattle.binlogfeed.specs.Words.{IsParserFault, AnswersFound, AnswersTaken, AnswersWords, texts, files_given, follows_given, is_true_text, style_given, style_of};
 
 use crate::commands::program;
 use crate::key_words::key_of;
@@ -50,7 +50,7 @@ pub enum Order<'a> {
 
 /// Why the words ask for nothing, by the parser's error.
 fn refused(error: Error) -> WordsFault
-    ensures { IsFaultOf error result }
+    ensures { IsParserFault error result }
 {
     match error.kind() {
         ErrorKind::DisplayHelp => WordsFault::Help(error),
@@ -62,7 +62,7 @@ fn refused(error: Error) -> WordsFault
 /// What the words ask for. The program's name is the first of them.
 pub fn read_words<'a>(alloc: Global, words: &'a [&'a str]) -> Result<Order<'a>, WordsFault>
     ensures answers { AnswersWords (texts words.entry.now) result }
-    ensures taken { takes program_app (texts words.entry.now) ≡ true → AnswersFound (subcommand_of program_app (texts words.entry.now)) result }
+    ensures taken { AnswersTaken (texts words.entry.now) result }
 {
     let command = match program(alloc) {
         Ok(command) => command,
@@ -93,14 +93,14 @@ fn order_of<'a>(alloc: Global, matches: &ArgMatches<'a>) -> Result<Order<'a>, Wo
 }
 
 fn transactions<'a>(alloc: Global, matches: &ArgMatches<'a>) -> Result<Order<'a>, WordsFault>
-    ensures { AnswersFound (Some (codes "transactions", rows_of (found_of matches.now))) result }
+    ensures { AnswersFound (Some (codes "transactions", rows_given matches.now)) result }
 {
     let files = files(alloc, matches)?;
     Ok(Order::Transactions { files })
 }
 
 fn read<'a>(alloc: Global, matches: &ArgMatches<'a>) -> Result<Order<'a>, WordsFault>
-    ensures { AnswersFound (Some (codes "read", rows_of (found_of matches.now))) result }
+    ensures { AnswersFound (Some (codes "read", rows_given matches.now)) result }
 {
     let files = files(alloc, matches)?;
     if lacks_files(&files, matches) {
@@ -128,14 +128,14 @@ fn read<'a>(alloc: Global, matches: &ArgMatches<'a>) -> Result<Order<'a>, WordsF
 
 /// Whether there are no files where some are needed.
 fn lacks_files(files: &[&str], matches: &ArgMatches<'_>) -> bool
-    ensures yes { result ≡ true → (is_followed (rows_of (found_of matches.now)) ≡ false) × (texts files.now ≡ []) }
-    ensures no { result ≡ false → is_followed (rows_of (found_of matches.now)) ≡ false → texts files.now ≢ [] }
+    ensures yes { result ≡ true → (follows_given matches.now ≡ false) × (texts files.now ≡ []) }
+    ensures no { result ≡ false → follows_given matches.now ≡ false → texts files.now ≢ [] }
 {
     files.is_empty() && !is_followed(matches)
 }
 
 fn history<'a>(alloc: Global, matches: &ArgMatches<'a>) -> Result<Order<'a>, WordsFault>
-    ensures { AnswersFound (Some (codes "history", rows_of (found_of matches.now))) result }
+    ensures { AnswersFound (Some (codes "history", rows_given matches.now)) result }
 {
     let style = style_given(matches);
     let key = key_of(alloc, style, value_of(matches, "key"))?;
@@ -151,7 +151,7 @@ fn history<'a>(alloc: Global, matches: &ArgMatches<'a>) -> Result<Order<'a>, Wor
 
 /// The style of lines: full ones where the flag is given.
 fn style_given(matches: &ArgMatches<'_>) -> Style
-    ensures { result ≡ style_given (rows_of (found_of matches.now)) }
+    ensures { result ≡ style_given (rows_given matches.now) }
 {
     style_of(text_given(matches, "full"))
 }
@@ -178,21 +178,21 @@ fn is_true_text(text: Option<&str>) -> bool
 
 /// Whether files are followed.
 fn is_followed(matches: &ArgMatches<'_>) -> bool
-    ensures { result ≡ is_followed (rows_of (found_of matches.now)) }
+    ensures { result ≡ follows_given matches.now }
 {
     is_true_text(text_given(matches, "follow"))
 }
 
 /// The value of an option that must be given.
 fn value_of<'a>(matches: &ArgMatches<'a>, id: &str) -> &'a str
-    ensures { result.now ≡ value_given id.now (rows_of (found_of matches.now)) }
+    ensures { result.now ≡ value_given id.now (rows_given matches.now) }
 {
     text_given(matches, id).unwrap_or("")
 }
 
 /// The values of FILE.
 fn files<'a>(alloc: Global, matches: &ArgMatches<'a>) -> Result<Vec<&'a str>, AllocError>
-    ensures { IfOk result (λ files. texts files.items ≡ files_given (rows_of (found_of matches.now))) }
+    ensures { IfOk result (λ files. texts files.items ≡ files_given (rows_given matches.now)) }
 {
     match matches.get_strs("file") {
         Some(files) => copied(alloc, files),

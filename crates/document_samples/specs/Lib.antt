@@ -3,3 +3,4 @@ pub mod Scalars
 pub mod Containers
 pub mod Opaques
 pub mod Shapes
+pub mod Meanings

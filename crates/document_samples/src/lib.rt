@@ -2,6 +2,7 @@
 #![tactic(auto, unfolding(crate::proofs::OnDocuments::on_documents))]
 
 ghost use Rattle.document_samples.specs.Containers.{Arrays, Objects, Gaps, NoContainers, Overlaps, NoKeys};
+ghost use Rattle.document_samples.specs.Meanings.{JsonScalars, JsonOpaques, JsonContainers, NoMeanings, JsonByLaw};
 ghost use Rattle.document_samples.specs.Opaques.{Decimals, LongDecimals, NoDecimals, DatesAndTimes, OtherTypes};
 ghost use Rattle.document_samples.specs.Scalars.{Literals, Integers, Doubles, Lengths, Texts, NoTypes};
 ghost use Rattle.document_samples.specs.Shapes.{Shapes, Depths};
@@ -39,4 +40,13 @@ pub fn sample_opaques()
 pub fn sample_shapes()
     ensures shapes { Shapes }
     ensures depths { Depths }
+{}
+
+/// What documents mean as JSON, and texts that are none.
+pub fn sample_json()
+    ensures scalars { JsonScalars }
+    ensures opaques { JsonOpaques }
+    ensures containers { JsonContainers }
+    ensures no_json { NoMeanings }
+    ensures by_law { JsonByLaw }
 {}

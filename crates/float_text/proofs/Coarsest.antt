@@ -20,7 +20,7 @@ read_of_test f bits d e F h = let b = F.below in nearest_of_bits f _ _ bits (ome
 pub test_of_read : (f : Format) (bits d e : ℕ) → IsRead f bits d e → reads_as f bits d e ≡ true
 test_of_read f bits d e h = eq-eqb _ _ (bits_of_nearest f _ _ bits h)
 
-test_of_unread : (f : Format) (bits d e : ℕ) → IsFinite f bits → ¬ (IsRead f bits d e) → reads_as f bits d e ≡ false
+pub test_of_unread : (f : Format) (bits d e : ℕ) → IsFinite f bits → ¬ (IsRead f bits d e) → reads_as f bits d e ≡ false
 test_of_unread f bits d e F n = ne_eqb _ _ (λ q. let b = F.below in n (nearest_of_bits f _ _ bits (omega arith) q))
 
 pub unread_of_test : (f : Format) (bits d e : ℕ) → reads_as f bits d e ≡ false → ¬ (IsRead f bits d e)

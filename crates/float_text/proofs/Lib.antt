@@ -8,3 +8,6 @@ pub mod Sign
 pub mod Join
 pub mod Ascii
 pub mod Json
+pub mod Found
+pub mod Leading
+pub mod Alone

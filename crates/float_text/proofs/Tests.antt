@@ -1,5 +1,5 @@
 -- What the tests of the search say.
-use Rattle.std.proofs.Common.{◌≡◌, ℕ, zero, suc, ◌+◌, ◌-◌, ◌*◌, ◌/◌, ◌%◌, ◌^◌, ◌<◌, ◌≤◌, Bool, true, false, eqb, refl, sym, ap, ◌∙◌, inl, inr, arith, eq-zero-or-pos, mul-le-mul_right, mul-pos}
+use Rattle.std.proofs.Common.{◌≡◌, ℕ, zero, suc, ◌+◌, ◌-◌, ◌*◌, ◌/◌, ◌%◌, ◌^◌, ◌<◌, ◌≤◌, Bool, true, false, eqb, refl, sym, ap, ◌∙◌, inl, inr, arith, eq-zero-or-pos, mul-le-mul_left, mul-le-mul_right, mul-pos}
 use native.Mathlib.Nat.{lt_of_le_of_lt, mul-le-mul, mul-lt-mul_of_pos_right, pow-le-pow_right}
 use lib.Dec.{lit≤, lit<}
 use lib.Pow.{pow_pos, pow_mono, pow-add}
@@ -92,14 +92,29 @@ room a n j A N J = let l : a ≤ 2 ^ 64 = omega arith in lt_of_le_of_lt (mul-le-
 pub room_of_tens : (a n : ℕ) → a < 2 ^ 64 → n ≤ 342 → a * 10 ^ n < weight 36
 room_of_tens a n A N = let r = room a n 0 A N (omega arith) in omega (arith, r)
 
--- ---- a zero after the digits comes off
-pub stripped : (f : Format) (bits d e : ℕ) → IsFinite f bits → 0 < d → d ≡ d / 10 * 10 → reads_as f bits d e ≡ true → (reads_as f bits (d / 10) (e + 1) ≡ true) × (e + 1 ≤ 708)
-stripped f bits d e F some whole h =
-    let same : d / 10 * 10 ^ (e + 1) ≡ d * 10 ^ e = omega (arith, ap (λ x. d / 10 * x) (pow-add 10 e 1), ap (λ x. x * 10 ^ e) whole) in
-    let read : reads_as f bits (d / 10) (e + 1) ≡ true = ap (λ x. eqb (to_bits f (round f false x (10 ^ 400))) bits) same ∙ h in (
+-- ---- zeros after the digits come off
+pub stripped : (f : Format) (bits d e n : ℕ) → IsFinite f bits → 0 < d → d ≡ d / 10 ^ n * 10 ^ n → reads_as f bits d e ≡ true → (reads_as f bits (d / 10 ^ n) (e + n) ≡ true) × (e + n ≤ 708) × (0 < d / 10 ^ n) × (d / 10 ^ n ≤ d)
+stripped f bits d e n F some whole h =
+    let q = d / 10 ^ n in
+    let same : q * 10 ^ (e + n) ≡ d * 10 ^ e = turned q (10 ^ e) (10 ^ n) (10 ^ (e + n)) d (pow-add 10 e n) whole in
+    let read : reads_as f bits q (e + n) ≡ true = ap (λ x. eqb (to_bits f (round f false x (10 ^ 400))) bits) same ∙ h in
+    let left : 0 < q =
+    elim (eq-zero-or-pos q) [
+      | inl z ↦ let none : q * 10 ^ n ≡ 0 = rw z (omega arith) in absurd (omega arith)
+      | inr p ↦ p
+    ]
+    in (
       read,
-      elim (eq-zero-or-pos (e + 1 - 708)) [
+      elim (eq-zero-or-pos (e + n - 708)) [
         | inl z ↦ omega arith
-        | inr p ↦ absurd (mathlib.Core.Bool.true≢false (sym read ∙ huge_unread f bits (d / 10) (e + 1) F (omega arith) (omega arith)))
+        | inr p ↦ absurd (mathlib.Core.Bool.true≢false (sym read ∙ huge_unread f bits q (e + n) F left (omega arith)))
       ],
+      left,
+      omega (arith, mul-le-mul_left q (ten_to_pos n), whole),
     )
+  where
+    turned : (q x y z d : ℕ) → z ≡ x * y → d ≡ q * y → q * z ≡ d * x
+    turned q x y z d a b = ap (λ t. q * t) a ∙ regroup q x y ∙ ap (λ t. t * x) (sym b)
+      where
+        regroup : (q x y : ℕ) → q * (x * y) ≡ q * y * x
+        regroup q x y = grind arith

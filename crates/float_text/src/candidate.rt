@@ -2,51 +2,71 @@
 ghost use Rattle.std.specs.Prelude.{◌≡◌, ◌↔◌, ◌+◌, ◌*◌, ◌^◌, ◌<◌, ◌≤◌, true, IsTrue};
 ghost use Rattle.float_text.specs.Shortest.{IsFinite, reads_as, scaled_num, scaled_den};
 
-use crate::search::{GREATEST_POWER, LEAST_POWER, POWER_BIAS, compare_twice, reads_back};
-use fast_float::{FastFloat, Numeral};
-use ryu::{Buffer, Float};
+use crate::comparison::{LEAST_POWER, compare_twice, decode};
+use crate::search::{GREATEST_POWER, reads_back};
+use fast_float::{FastFloat, power_of_ten};
 use std::cmp::Ordering;
 
 /// Digits above this are no candidate.
 const MOST_DIGITS: u64 = 1_000_000_000_000_000_000;
 
-/// A decimal that reads back: the one that `ryu` prints, where it is seen to.
-pub(crate) fn candidate<F: Float>(bits: u64) -> (u64, u64)
+const LOW_WORD: u128 = 0xffff_ffff_ffff_ffff;
+
+/// A decimal that reads back: the likely one, where it is seen to.
+#[inline(always)]
+pub(crate) fn candidate<F: FastFloat>(bits: u64) -> (u64, u64)
     requires finite { IsFinite F.format bits }
     ensures sizes { (0 < result.0) × (result.0 ≤ 10 ^ 18) × (58 ≤ result.1) × (result.1 ≤ 708) }
     ensures reads { reads_as F.format bits result.0 result.1 ≡ true }
 {
-    let (digits, power) = printed::<F>(bits);
+    let (digits, power) = likely::<F>(bits);
     if digits <= MOST_DIGITS && power >= LEAST_POWER && reads_back::<F>(bits, digits, power) {
         return (digits, power);
     }
     long_decimal::<F>(bits)
 }
 
-/// The digits and the power that `ryu` prints. Nothing rests on it: `candidate` looks whether they read back.
-fn printed<F: Float>(bits: u64) -> (u64, u64)
+/// The decimal that is likely the shortest, by the leading bits of a power of ten. Nothing rests on it: `candidate` looks whether it
+/// reads back.
+#[inline(always)]
+fn likely<F: FastFloat>(bits: u64) -> (u64, u64)
     requires finite { IsFinite F.format bits }
 {
-    let mut buffer = Buffer::new();
-    let numeral = Numeral::scan(buffer.format(F::of_bits(bits)).as_bytes());
-    let fraction = numeral.fraction();
-    let digits = with_digits(with_digits(0, numeral.whole()), fraction);
-    let exponent = with_digits(0, numeral.exponent()) % POWER_BIAS;
-    let power = if numeral.is_exponent_negative() {
-        POWER_BIAS - exponent
-    } else {
-        POWER_BIAS + exponent
-    };
-    (digits, power.saturating_sub(fraction.len() as u64))
+    let (significand, exponent) = halved_at_edge::<F>(bits);
+    // The gap to the next float is 2 ^ (binary - 1074), and from 10 ^ (power - 400) up to ten times that. Over 2 ^ 20, 315_653 is
+    // log10(2), and 80_419_078 is 400 less 1074 * log10(2).
+    let binary = (exponent + 1074).wrapping_sub(F::LOWEST) % 2048;
+    let power = (binary * 315_653 + 80_419_078) >> 20;
+    let index = 741 - power;
+    let shift = (binary + (index * 217_706 + 58_980) / 65_536).wrapping_sub(2204) % 8;
+    // The float over 10 ^ (power - 399): 58 bits before the point, and 64 behind it.
+    let row = power_of_ten(index);
+    let float = (significand << shift) as u128;
+    let product = (row >> 64) * float + (((row & LOW_WORD) * float) >> 64);
+    let whole = (product >> 70) as u64;
+    let fraction = ((product >> 6) & LOW_WORD) as u64;
+    let half_gap = ((row >> 64) as u64) >> (7 - shift);
+    // A whole number within half of the gap has a digit less.
+    let is_above = half_gap > u64::MAX - fraction;
+    if is_above | (half_gap > fraction) {
+        return (whole + is_above as u64, power + 1);
+    }
+    let tenths = ((fraction as u128 * 10 + (1 << 63)) >> 64) as u64;
+    (whole * 10 + tenths, power)
 }
 
-/// The number with these digits behind it.
-fn with_digits(number: u64, digits: &[u8]) -> u64 {
-    let mut longer = number;
-    for digit in digits {
-        longer = longer.wrapping_mul(10).wrapping_add((digit & 15) as u64);
+/// The float's significand and exponent, by the gap below it: that of a power of two is half of the gap above.
+#[inline(always)]
+fn halved_at_edge<F: FastFloat>(bits: u64) -> (u64, u64)
+    requires finite { IsFinite F.format bits }
+    ensures { (result.0 < 2 ^ 54) × (result.1 < 2048) }
+{
+    let (significand, exponent) = decode::<F>(bits);
+    if significand == 1 << (F::DIGITS - 1) && exponent > 0 {
+        (2 * significand, exponent - 1)
+    } else {
+        (significand, exponent)
     }
-    longer
 }
 
 /// A decimal that reads back, found digit by digit: the float's own digits so far, and 1 more in the last place. From 18 digits on

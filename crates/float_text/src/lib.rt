@@ -2,6 +2,7 @@
 #![tactic(auto)]
 
 mod candidate;
+mod comparison;
 mod layout;
 mod natural;
 mod number;

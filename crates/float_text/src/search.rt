@@ -1,20 +1,15 @@
 //! The search for the shortest decimal, from one that reads back. A decimal is digits * 10 ^ power / 10 ^ 400.
 ghost use Rattle.std.specs.Prelude.{◌≡◌, ◌+◌, ◌-◌, ◌*◌, ◌/◌, ◌^◌, ◌<◌, ◌≤◌, true, false, IsTrue, IsFalse};
-ghost use Rattle.std.specs.Ordering.{nat_cmp};
-ghost use Rattle.std.specs.Float.Ieee.{ones};
 ghost use Rattle.float_text.specs.Closest.{IsCoarsest, IsClosestAbove, IsClosestBelow};
-ghost use Rattle.float_text.specs.Shortest.{IsFinite, reads_as, size_in_units, scaled_num, scaled_den, shortest};
-ghost use Rattle.float_text.specs.Search.{IsBestUp, IsBestDown};
+ghost use Rattle.float_text.specs.Shortest.{IsFinite, reads_as, shortest};
+ghost use Rattle.float_text.specs.Search.{IsAlone, IsBestUp, IsBestDown};
 
-use crate::natural::Natural;
+use crate::comparison::{LEAST_POWER, compare_twice};
 use fast_float::{FastFloat, nearest_bits};
 use std::cmp::Ordering;
 
-/// What the powers here are greater by.
-pub(crate) const POWER_BIAS: u64 = 400;
-
-/// A decimal of at most 19 digits below this power is less than any float but 0.
-pub(crate) const LEAST_POWER: u64 = 58;
+/// Of decimals with fewer digits than this has, no two at one power read back as the same DOUBLE.
+const FEW_DIGITS: u64 = 1_000_000_000_000_000;
 
 /// A decimal above this power is greater than any finite float.
 pub(crate) const GREATEST_POWER: u64 = 708;
@@ -35,7 +30,26 @@ pub(crate) fn reads_back<F: FastFloat>(bits: u64, digits: u64, power: u64) -> bo
     nearest_bits::<F>(digits, power - LEAST_POWER) == bits
 }
 
-/// The same decimal with no zero at the end of its digits.
+/// The same decimal with so many zeros less at the end of its digits, where it has them.
+#[inline(always)]
+fn without<F: FastFloat>(bits: u64, decimal: (u64, u64), zeros: u64, factor: u64) -> (u64, u64)
+    requires finite { IsFinite F.format bits }
+    requires sizes { (0 < decimal.0) × (58 ≤ decimal.1) × (decimal.1 ≤ 708) }
+    requires reads { reads_as F.format bits decimal.0 decimal.1 ≡ true }
+    requires factor { (factor ≡ 10 ^ zeros) × (zeros ≤ 8) }
+    ensures sizes { (0 < result.0) × (result.0 ≤ decimal.0) × (58 ≤ result.1) × (result.1 ≤ 708) }
+    ensures reads { reads_as F.format bits result.0 result.1 ≡ true }
+{
+    let (digits, power) = decimal;
+    if digits % factor == 0 {
+        (digits / factor, power + zeros)
+    } else {
+        (digits, power)
+    }
+}
+
+/// The same decimal with no zero at the end of its digits, if they are at most 18.
+#[inline(always)]
 fn without_zeros<F: FastFloat>(bits: u64, digits: u64, power: u64) -> (u64, u64)
     requires finite { IsFinite F.format bits }
     requires sizes { (0 < digits) × (58 ≤ power) × (power ≤ 708) }
@@ -43,12 +57,34 @@ fn without_zeros<F: FastFloat>(bits: u64, digits: u64, power: u64) -> (u64, u64)
     ensures sizes { (0 < result.0) × (result.0 ≤ digits) × (58 ≤ result.1) × (result.1 ≤ 708) }
     ensures reads { reads_as F.format bits result.0 result.1 ≡ true }
 {
-    let (mut best, mut greatest) = (digits, power);
-    while best % 10 == 0 {
-        best /= 10;
-        greatest += 1;
+    if digits % 10 > 0 {
+        return (digits, power);
     }
-    (best, greatest)
+    let by_eight = without::<F>(bits, (digits, power), 8, 100_000_000);
+    let by_eight_more = without::<F>(bits, by_eight, 8, 100_000_000);
+    let by_four = without::<F>(bits, by_eight_more, 4, 10_000);
+    let by_two = without::<F>(bits, by_four, 2, 100);
+    without::<F>(bits, by_two, 1, 10)
+}
+
+/// Whether neither of the decimals next to it reads back, and so no other one at this power, and none at a greater one.
+#[inline(always)]
+fn is_alone<F: FastFloat>(bits: u64, digits: u64, power: u64) -> bool
+    requires finite { IsFinite F.format bits }
+    requires sizes { (0 < digits) × (58 ≤ power) × (power ≤ 708) }
+    requires reads { reads_as F.format bits digits power ≡ true }
+    ensures { IsTrue result → IsAlone F.format bits digits power }
+{
+    if digits >= FEW_DIGITS || digits % 10 == 0 {
+        return false;
+    }
+    if reads_back::<F>(bits, digits - 1, power) {
+        return false;
+    }
+    if reads_back::<F>(bits, digits + 1, power) {
+        return false;
+    }
+    true
 }
 
 /// The greatest power at which a decimal reads back, and one that does. Where the two next to the digits don't, no other one does.
@@ -75,36 +111,6 @@ fn coarsen<F: FastFloat>(bits: u64, digits: u64, power: u64) -> (u64, u64)
     }
 }
 
-/// The float is significand * 2 ^ exponent times the least float above 0.
-fn decode<F: FastFloat>(bits: u64) -> (u64, u64)
-    requires finite { IsFinite F.format bits }
-    ensures same { result.0 * 2 ^ result.1 ≡ size_in_units F.format bits }
-    ensures sizes { (result.0 < 2 ^ 53) × (result.1 + 2 ≤ ones F.format) }
-{
-    let hidden = 1 << (F::DIGITS - 1);
-    if bits < hidden {
-        return (bits, 0);
-    }
-    let field = bits >> (F::DIGITS - 1);
-    (hidden + (bits & (hidden - 1)), field - 1)
-}
-
-/// Compares twice the float with `halves` times 10 ^ (power - 400).
-pub(crate) fn compare_twice<F: FastFloat>(bits: u64, halves: u64, power: u64) -> Ordering
-    requires finite { IsFinite F.format bits }
-    requires power { (58 ≤ power) × (power ≤ 708) }
-    ensures { result ≡ nat_cmp (2 * scaled_num F.format bits) (halves * scaled_den F.format power) }
-{
-    let (significand, exponent) = decode::<F>(bits);
-    let mut float = Natural::new(2 * significand);
-    float.times_power(10, 19, POWER_BIAS.saturating_sub(power));
-    float.times_power(2, 63, exponent.saturating_sub(F::LOWEST));
-    let mut decimal = Natural::new(halves);
-    decimal.times_power(10, 19, power.saturating_sub(POWER_BIAS));
-    decimal.times_power(2, 63, F::LOWEST.saturating_sub(exponent));
-    float.compare(&decimal)
-}
-
 /// Whether the next decimal up reads back and is closer, or as close and even.
 fn is_better_above<F: FastFloat>(bits: u64, digits: u64, power: u64) -> bool
     requires finite { IsFinite F.format bits }
@@ -112,14 +118,12 @@ fn is_better_above<F: FastFloat>(bits: u64, digits: u64, power: u64) -> bool
     ensures yes { IsTrue result → reads_as F.format bits (digits + 1) power ≡ true }
     ensures no { IsFalse result → IsBestUp F.format bits digits power }
 {
-    if !reads_back::<F>(bits, digits + 1, power) {
-        return false;
-    }
-    match compare_twice::<F>(bits, 2 * digits + 1, power) {
+    let is_closer = match compare_twice::<F>(bits, 2 * digits + 1, power) {
         Ordering::Less => false,
         Ordering::Equal => digits % 2 == 1,
         Ordering::Greater => true,
-    }
+    };
+    is_closer && reads_back::<F>(bits, digits + 1, power)
 }
 
 /// Whether the next decimal down reads back and is closer, or as close and even.
@@ -130,17 +134,39 @@ fn is_better_below<F: FastFloat>(bits: u64, digits: u64, power: u64) -> bool
     ensures up { IsTrue result → IsBestUp F.format bits (digits - 1) power }
     ensures no { IsFalse result → IsBestDown F.format bits digits power }
 {
-    if !reads_back::<F>(bits, digits - 1, power) {
-        return false;
-    }
-    match compare_twice::<F>(bits, 2 * digits - 1, power) {
+    let is_closer = match compare_twice::<F>(bits, 2 * digits - 1, power) {
         Ordering::Less => true,
         Ordering::Equal => digits % 2 == 1,
         Ordering::Greater => false,
-    }
+    };
+    is_closer && reads_back::<F>(bits, digits - 1, power)
 }
 
-/// The shortest decimal, from any that reads back. Where that is the shortest already, each test runs once and fails.
+/// The closest decimal at the greatest power. Where that is the given one already, each test runs once and fails.
+fn closest_of_coarsest<F: FastFloat>(bits: u64, digits: u64, power: u64) -> (u64, u64)
+    requires finite { IsFinite F.format bits }
+    requires sizes { (0 < digits) × (digits ≤ 10 ^ 18) × (58 ≤ power) × (power ≤ 708) }
+    requires reads { reads_as F.format bits digits power ≡ true }
+    ensures same { result ≡ shortest F.format bits }
+    ensures reads { reads_as F.format bits result.0 result.1 ≡ true }
+    ensures closest_above { IsClosestAbove F.format bits result.0 result.1 }
+    ensures closest_below { IsClosestBelow F.format bits result.0 result.1 }
+    ensures coarsest { IsCoarsest F.format bits result.1 }
+    ensures power { result.1 ≤ 708 }
+{
+    let (start, greatest) = coarsen::<F>(bits, digits, power);
+    let mut best = start;
+    while is_better_above::<F>(bits, best, greatest) {
+        best += 1;
+    }
+    while is_better_below::<F>(bits, best, greatest) {
+        best -= 1;
+    }
+    (best, greatest)
+}
+
+/// The shortest decimal, from any that reads back.
+#[inline(always)]
 pub(crate) fn shortest_from<F: FastFloat>(bits: u64, digits: u64, power: u64) -> (u64, u64)
     requires finite { IsFinite F.format bits }
     requires sizes { (0 < digits) × (digits ≤ 10 ^ 18) × (58 ≤ power) × (power ≤ 708) }
@@ -153,13 +179,8 @@ pub(crate) fn shortest_from<F: FastFloat>(bits: u64, digits: u64, power: u64) ->
     ensures power { result.1 ≤ 708 }
 {
     let (whole, least) = without_zeros::<F>(bits, digits, power);
-    let (start, greatest) = coarsen::<F>(bits, whole, least);
-    let mut best = start;
-    while is_better_above::<F>(bits, best, greatest) {
-        best += 1;
+    if is_alone::<F>(bits, whole, least) {
+        return (whole, least);
     }
-    while is_better_below::<F>(bits, best, greatest) {
-        best -= 1;
-    }
-    (best, greatest)
+    closest_of_coarsest::<F>(bits, whole, least)
 }

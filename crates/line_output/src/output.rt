@@ -1,7 +1,7 @@
 //! Text on its way to a writer.
-ghost use Rattle.std.specs.Prelude.{◌<◌, ◌++◌, length, OnOk, OnErr};
-ghost use Rattle.std.specs.Io.KnownBytes.{Appends};
-ghost use Rattle.line_output.specs.Sending.{AppendsBeginning, IsSending, Adds, enough_waits};
+ghost use Rattle.std.specs.Prelude.{◌<◌, length, OnOk, OnErr};
+ghost use Rattle.line_output.specs.Sending.{enough_waits};
+ghost use Rattle.line_output.specs.Writers.{AddsLine, Receives, ReceivesAllBut, ReceivesBeginning};
 
 use crate::fault::{AddFault, WriteFault};
 use std::io::Write;
@@ -11,8 +11,8 @@ const ENOUGH: usize = 65_536;
 
 /// Writes the whole text, in as many calls of `write` as it takes.
 pub fn write_text<W: Write>(out: &mut W, text: &[u8]) -> Result<(), WriteFault>
-    ensures ok { OnOk result (Appends (W.contents out.old) (W.contents out.new) text.now) }
-    ensures err { OnErr result (AppendsBeginning (W.contents out.old) (W.contents out.new) text.now) }
+    ensures ok { OnOk result (Receives W.Write out.old out.new text.now) }
+    ensures err { OnErr result (ReceivesBeginning W.Write out.old out.new text.now) }
 {
     let mut written = 0;
     while written < text.len() {
@@ -27,7 +27,7 @@ pub fn write_text<W: Write>(out: &mut W, text: &[u8]) -> Result<(), WriteFault>
 
 /// Lets a line wait behind what waits already, and sends all of it where it is enough.
 pub fn add_line<W: Write>(out: &mut W, waiting: &mut Vec<u8>, line: &str) -> Result<(), AddFault>
-    ensures adds { Adds (W.contents out.old) (W.contents out.new) waiting.old.items waiting.new.items line.now result }
+    ensures adds { AddsLine W.Write out.old out.new waiting.old waiting.new line.now result }
     ensures few { OnOk result (length waiting.new.items < enough_waits) }
 {
     waiting.extend_from_slice(line.as_bytes())?;
@@ -37,9 +37,9 @@ pub fn add_line<W: Write>(out: &mut W, waiting: &mut Vec<u8>, line: &str) -> Res
 
 /// Sends what waits where it is enough.
 pub fn send_enough<W: Write>(out: &mut W, waiting: &mut Vec<u8>) -> Result<(), WriteFault>
-    ensures ok { OnOk result (IsSending (W.contents out.old) (W.contents out.new) waiting.new.items waiting.old.items) }
+    ensures ok { OnOk result (ReceivesAllBut W.Write out.old out.new waiting.new waiting.old.items) }
     ensures few { OnOk result (length waiting.new.items < enough_waits) }
-    ensures err { OnErr result (AppendsBeginning (W.contents out.old) (W.contents out.new) waiting.old.items) }
+    ensures err { OnErr result (ReceivesBeginning W.Write out.old out.new waiting.old.items) }
 {
     if waiting.len() < ENOUGH {
         return Ok(());

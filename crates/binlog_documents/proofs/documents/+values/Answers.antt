@@ -1,5 +1,6 @@
 use Rattle.std.proofs.Common.{◌+◌, ◌-◌, length, false, nat_lt, arith, rules}
 use Rattle.binlog_documents.specs.Containers.{value_at, elements_of, members_of}
+use Rattle.binlog_documents.specs.Drafts.{said}
 use Rattle.binlog_documents.specs.Widths.{bytes_of, container_view}
 use Rattle.binlog_documents.proofs.Steps.{elements-end, elements-go, elements-stop, elements_behind, entry-room, is-later, members-end, members-go, members-stop, members-stop_at_key, members_behind}
 use Rattle.binlog_documents.proofs.documents.+values.Goals as goal
@@ -11,8 +12,8 @@ append_elements-loop-place-preserved t c =
     record {
       room = (entry-room l.entry a.array.count l.place (c.bytes-step.result + 1) (length a.array.bytes.now) c.loop-place-test.true l.invariant.room).1;
       ahead =
-          elements-go (value_at a.depth) (bytes_of a.width) a.array.bytes.now (a.array.count - l.place) (a.array.count - (l.place + 1)) (c.bytes-step.result + 1) l.entry l.from l.out.items c.append_comma.new.out.items
-          c.append_value_in.new.out.items (nat_lt 0 l.place) (nat_lt 0 (l.place + 1)) c.in_ok-end.field-0 c.in-Some.end (elements_behind a.out.now.items false (elements_of (value_at a.depth) (bytes_of a.width) (container_view a.array)))
+          elements-go (value_at a.depth) (bytes_of a.width) a.array.bytes.now (a.array.count - l.place) (a.array.count - (l.place + 1)) (c.bytes-step.result + 1) l.entry l.from (said l.out) (said c.append_comma.new.out)
+          (said c.append_value_in.new.out) (nat_lt 0 l.place) (nat_lt 0 (l.place + 1)) c.in_ok-end.field-0 c.in-Some.end (elements_behind (said a.out.now) false (elements_of (value_at a.depth) (bytes_of a.width) (container_view a.array)))
           (omega arith) (omega arith) (is-later l.place) c.in_ok-append_comma.ensures c.in_ok-end.ensures.text c.in-Some.is l.invariant.ahead;
     }
 
@@ -21,7 +22,7 @@ append_elements-returns-in_default t c =
     let a = c.args in
     let l = c.loop-place in
     record {
-      text = elements-stop (value_at a.depth) (bytes_of a.width) a.array.bytes.now (a.array.count - l.place) l.entry l.from l.out.items c.append_comma.new.out.items c.append_value_in.new.out.items a.out.now.items
+      text = elements-stop (value_at a.depth) (bytes_of a.width) a.array.bytes.now (a.array.count - l.place) l.entry l.from (said l.out) (said c.append_comma.new.out) (said c.append_value_in.new.out) (said a.out.now)
           (nat_lt 0 l.place) c.in_ok-end.field-0 (elements_of (value_at a.depth) (bytes_of a.width) (container_view a.array)) (omega arith) c.in_ok-end.ensures.text c.in_default.is l.invariant.ahead;
     }
 
@@ -30,7 +31,7 @@ append_elements-returns t c =
     let a = c.args in
     let l = c.loop-place in
     record {
-      text = elements-end (value_at a.depth) (bytes_of a.width) a.array.bytes.now (a.array.count - l.place) l.entry l.from l.out.items a.out.now.items (nat_lt 0 l.place)
+      text = elements-end (value_at a.depth) (bytes_of a.width) a.array.bytes.now (a.array.count - l.place) l.entry l.from (said l.out) (said a.out.now) (nat_lt 0 l.place)
           (elements_of (value_at a.depth) (bytes_of a.width) (container_view a.array)) (omega arith) l.invariant.ahead;
     }
 
@@ -43,8 +44,8 @@ append_members-loop-place-preserved t c =
       room = (entry-room l.entry a.object.count l.place (c.bytes-step.result + 1) (length a.object.bytes.now) c.loop-place-test.true l.invariant.room).1;
       ahead =
           members-go (value_at a.depth) (bytes_of a.width) a.object.bytes.now (a.object.count - l.place) (a.object.count - (l.place + 1)) (c.bytes-key_step.result + 2) (c.bytes-step.result + 1) l.key_entry l.key_from l.entry l.from
-          l.out.items c.append_comma.new.out.items c.append_key_in.new.out.items c.append_value_in.new.out.items (nat_lt 0 l.place) (nat_lt 0 (l.place + 1)) c.in_ok-key_end.field-0 c.in_ok-end.field-0 c.in-Some.key_end c.in-Some-2.end
-          (members_behind a.out.now.items false (members_of (value_at a.depth) (bytes_of a.width) (container_view a.object)))
+          (said l.out) (said c.append_comma.new.out) (said c.append_key_in.new.out) (said c.append_value_in.new.out) (nat_lt 0 l.place) (nat_lt 0 (l.place + 1)) c.in_ok-key_end.field-0 c.in_ok-end.field-0 c.in-Some.key_end c.in-Some-2.end
+          (members_behind (said a.out.now) false (members_of (value_at a.depth) (bytes_of a.width) (container_view a.object)))
           (omega arith) (omega arith) (omega arith) (is-later l.place) c.in_ok-append_comma.ensures c.in_ok-key_end.ensures c.in-Some.is c.in_ok-end.ensures.text c.in-Some-2.is l.invariant.ahead;
     }
 
@@ -53,8 +54,8 @@ append_members-returns-in_default t c =
     let a = c.args in
     let l = c.loop-place in
     record {
-      text = members-stop_at_key (value_at a.depth) (bytes_of a.width) a.object.bytes.now (a.object.count - l.place) l.key_entry l.key_from l.entry l.from l.out.items c.append_comma.new.out.items c.append_key_in.new.out.items
-          a.out.now.items (nat_lt 0 l.place) c.in_ok-key_end.field-0 (members_of (value_at a.depth) (bytes_of a.width) (container_view a.object)) (omega arith) c.in_ok-key_end.ensures c.in_default.is l.invariant.ahead;
+      text = members-stop_at_key (value_at a.depth) (bytes_of a.width) a.object.bytes.now (a.object.count - l.place) l.key_entry l.key_from l.entry l.from (said l.out) (said c.append_comma.new.out) (said c.append_key_in.new.out)
+          (said a.out.now) (nat_lt 0 l.place) c.in_ok-key_end.field-0 (members_of (value_at a.depth) (bytes_of a.width) (container_view a.object)) (omega arith) c.in_ok-key_end.ensures c.in_default.is l.invariant.ahead;
     }
 
 pub append_members-returns-in_default-2 : goal.append_members-returns-in_default-2
@@ -62,8 +63,8 @@ append_members-returns-in_default-2 t c =
     let a = c.args in
     let l = c.loop-place in
     record {
-      text = members-stop (value_at a.depth) (bytes_of a.width) a.object.bytes.now (a.object.count - l.place) l.key_entry l.key_from l.entry l.from l.out.items c.append_key_in.new.out.items c.append_value_in.new.out.items
-          a.out.now.items (nat_lt 0 l.place) c.in_ok-end.field-0 (members_of (value_at a.depth) (bytes_of a.width) (container_view a.object)) (omega arith) c.in_ok-end.ensures.text c.in_default-2.is l.invariant.ahead;
+      text = members-stop (value_at a.depth) (bytes_of a.width) a.object.bytes.now (a.object.count - l.place) l.key_entry l.key_from l.entry l.from (said l.out) (said c.append_key_in.new.out) (said c.append_value_in.new.out)
+          (said a.out.now) (nat_lt 0 l.place) c.in_ok-end.field-0 (members_of (value_at a.depth) (bytes_of a.width) (container_view a.object)) (omega arith) c.in_ok-end.ensures.text c.in_default-2.is l.invariant.ahead;
     }
 
 pub append_members-returns : goal.append_members-returns
@@ -71,7 +72,7 @@ append_members-returns t c =
     let a = c.args in
     let l = c.loop-place in
     record {
-      text = members-end (value_at a.depth) (bytes_of a.width) a.object.bytes.now (a.object.count - l.place) l.key_entry l.key_from l.entry l.from l.out.items a.out.now.items (nat_lt 0 l.place)
+      text = members-end (value_at a.depth) (bytes_of a.width) a.object.bytes.now (a.object.count - l.place) l.key_entry l.key_from l.entry l.from (said l.out) (said a.out.now) (nat_lt 0 l.place)
           (members_of (value_at a.depth) (bytes_of a.width) (container_view a.object)) (omega arith) l.invariant.ahead;
     }
 

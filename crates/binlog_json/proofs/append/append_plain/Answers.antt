@@ -1,6 +1,6 @@
 use Rattle.std.proofs.Common.{◌≡◌, ℕ, List, sym, subst}
 use Rattle.json.specs.Print.{escape}
-use Rattle.binlog_json.proofs.PlainText.{plain_escape, plain_text}
+use Rattle.binlog_documents.proofs.PlainText.{plain_escape, plain_text}
 use Rattle.binlog_json.proofs.append.append_plain.Goals as goal
 
 pub from_utf8_unchecked-requires : goal.from_utf8_unchecked-requires

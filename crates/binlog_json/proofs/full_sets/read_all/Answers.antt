@@ -1,12 +1,9 @@
-use Rattle.std.proofs.Common.{◌≡◌, ◌+◌, ◌++◌, ◌∙◌, ℕ, suc, List, [], ◌∷◌, map, drop, get_or, drop-cons, drop_of_length-le, add-one, ap, sym, append-nil, lit<, string_bytes}
+use Rattle.std.proofs.Common.{◌≡◌, ◌+◌, ◌++◌, ◌∙◌, ℕ, suc, List, [], ◌∷◌, drop, get_or, drop-cons, drop_of_length-le, add-one, ap, sym, append-nil, lit<, string_bytes}
 use Rattle.std.specs.Borrow.{Bor}
-use Rattle.binlog_json.specs.Encodings.{decoded, all_decoded}
+use Rattle.binlog_json.specs.Encodings.{decoded, all_decoded, texts_of}
 use Rattle.binlog_json.proofs.Joined.{between_if, read_more, read_end}
 use Rattle.binlog_json.proofs.full_sets.read_all.Goals as goal
 use Rattle.binlog_json.proofs.full_sets.read_all.Goals.{then-later+in_ok-push, else-later}
-
-abbrev shown : List (Bor (List ℕ)) → List (List ℕ)
-shown members = map (λ name. name.now) members
 
 pub loop-name-preserved : goal.loop-name-preserved
 loop-name-preserved c =
@@ -22,10 +19,10 @@ loop-name-preserved c =
     let next : at + 1 ≡ suc at = add-one at in
     let read = rw c.if-not-branch.false at c.in_ok-append.ensures in
     rw next
-    (read_more (string_bytes c.loop-name.text) (string_bytes c.if-later.text) (string_bytes c.append.new.text) c.loop-name.later (decoded c.args.encoding name.now) (all_decoded c.args.encoding (shown (drop (suc at) members))) _
+    (read_more (string_bytes c.loop-name.text) (string_bytes c.if-later.text) (string_bytes c.append.new.text) c.loop-name.later (decoded c.args.encoding name.now) (all_decoded c.args.encoding (texts_of (drop (suc at) members))) _
     text read (rw first at c.loop-name.invariant))
 
 pub returns : goal.returns
 returns c =
     let none = drop_of_length-le c.args.members.now c.loop-name-test.false in
-    read_end (string_bytes c.args.text.now) (string_bytes c.loop-name.text) (all_decoded c.args.encoding (shown c.args.members.now)) (rw none at c.loop-name.invariant)
+    read_end (string_bytes c.args.text.now) (string_bytes c.loop-name.text) (all_decoded c.args.encoding (texts_of c.args.members.now)) (rw none at c.loop-name.invariant)

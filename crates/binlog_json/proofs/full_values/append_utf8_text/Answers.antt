@@ -1,5 +1,5 @@
 use Rattle.std.proofs.lemmas.Str.{is_utf8-from_IsUtf8}
-use Rattle.binlog_json.proofs.PlainText.{plain_utf8}
+use Rattle.binlog_documents.proofs.PlainText.{plain_utf8}
 use Rattle.binlog_json.proofs.Utf8.{not_utf8}
 use Rattle.binlog_json.proofs.full_values.append_utf8_text.Goals as goal
 

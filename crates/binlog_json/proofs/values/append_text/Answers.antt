@@ -1,4 +1,4 @@
-use Rattle.binlog_json.proofs.PlainText.{plain_utf8}
+use Rattle.binlog_documents.proofs.PlainText.{plain_utf8}
 use Rattle.binlog_json.proofs.values.append_text.Goals as goal
 
 pub returns-then-is_plain : goal.returns-then-is_plain

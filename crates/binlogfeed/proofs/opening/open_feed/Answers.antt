@@ -1,7 +1,7 @@
 use Rattle.std.proofs.Common.{ℕ, List, length, refl, subst, ◌∙◌, arith}
 use Rattle.binlogfeed.specs.Faults.{IsNamed, fault_of_opening}
 use Rattle.binlogfeed.proofs.Beginning.{grows, still_failed, still_named, still_refused}
-use Rattle.binlogfeed.proofs.Keeping.{source_kept_further, no_fewer_still, reads_failed_since}
+use Rattle.binlogfeed.proofs.Keeping.{reads_failed_since, source_kept_further, takes_from_first}
 use Rattle.binlogfeed.proofs.opening.open_feed.Goals as goal
 
 pub opening-init : goal.opening-init
@@ -32,15 +32,9 @@ returns-in-Ok g c =
     let kept = c.opening.invariant.source in
     let given = c.in-Ok.ensures in
     record {
-      fits = λ h. rw (kept.same_names, kept.same_contents, c.opening.invariant.start) at (given.begins h).0;
-      begins = λ h. rw (kept.same_names, kept.same_contents, c.opening.invariant.start, c.opening.invariant.filter) at (given.begins h).1;
+      begins = λ h. rw (kept.same_names, kept.same_contents, c.opening.invariant.start, c.opening.invariant.filter) at (given.begins h);
       sound = given.sound;
-      differ = rw kept.same_names at given.source.differ;
-      names = given.source.names ∙ kept.same_names;
-      contents = given.source.contents ∙ kept.same_contents;
-      lengths = given.source.lengths ∙ kept.same_lengths;
-      was_honest = λ h. kept.was_honest (given.source.was_honest h);
-      no_fewer = no_fewer_still _ _ _ kept.no_fewer given.source.no_fewer;
+      source = takes_from_first g.L.Logs c.args.logs c.opening.logs c.in-Ok.feed kept given.source;
       refused = tt;
       source_back = tt;
       filter_back = tt;
@@ -61,15 +55,9 @@ returns-in-Err-larger_window g c =
     let why = c.in-Err-larger_window.fault in
     let ends = c.in-Err-larger_window.ensures.refused in
     record {
-      fits = tt;
       begins = tt;
       sound = tt;
-      differ = tt;
-      names = tt;
-      contents = tt;
-      lengths = tt;
-      was_honest = tt;
-      no_fewer = tt;
+      source = tt;
       refused = λ h. rw (kept.same_names, kept.same_contents, c.opening.invariant.start) at (still_refused names (g.L.Logs.contents c.opening.logs) c.opening.start fault why (back.refused h) ends);
       source_back = source_kept_further _ _ _ _ _ _ _ _ kept back.handed_back.source_back;
       filter_back = back.handed_back.filter_back ∙ c.opening.invariant.filter;

@@ -3,7 +3,7 @@ use Rattle.binlogfeed.specs.Faults.{IsNamed, fault_of_opening}
 use Rattle.binlogfeed.specs.Looks.{told_at_end}
 use Rattle.binlogfeed.proofs.Beginning.{grows, still_failed, still_named}
 use Rattle.binlogfeed.proofs.BeginningAtEnd.{told_failed, told_named, told_refused}
-use Rattle.binlogfeed.proofs.Keeping.{source_kept_further, reads_failed_since}
+use Rattle.binlogfeed.proofs.Keeping.{reads_failed_since, source_kept_further, takes_from_first}
 use Rattle.binlogfeed.proofs.opening_at_end.open_end.Goals as goal
 
 pub ending-init : goal.ending-init
@@ -35,12 +35,9 @@ returns-in-Ok-open_at_end g c =
     let given = c.in-Ok-open_at_end.ensures in
     record {
       fits = λ h. rw (kept.same_names, kept.same_contents, c.ending.invariant.token) at (given.fits h);
-      goes_on = λ h. rw (kept.same_names, kept.same_contents, c.ending.invariant.token, c.ending.invariant.filter) at (given.goes_on h);
+      goes_on = λ h. rw (kept.same_names, kept.same_contents, c.ending.invariant.token, c.ending.invariant.filter) at (given.joins h);
       sound = given.sound;
-      differ = rw kept.same_names at given.source.differ;
-      names = given.source.names ∙ kept.same_names;
-      contents = given.source.contents ∙ kept.same_contents;
-      was_honest = λ h. kept.was_honest (given.source.was_honest h);
+      source = takes_from_first g.L.Logs c.args.logs c.ending.logs c.in-Ok-open_at_end.feed kept given.source;
       refused = tt;
       source_back = tt;
       named = tt;
@@ -62,10 +59,7 @@ returns-in-Err-larger_window g c =
       fits = tt;
       goes_on = tt;
       sound = tt;
-      differ = tt;
-      names = tt;
-      contents = tt;
-      was_honest = tt;
+      source = tt;
       refused = λ h. rw (kept.same_names, kept.same_contents, c.ending.invariant.token) at (told_refused names (g.L.Logs.contents c.ending.logs) c.ending.token fault why (back.refused h) ends);
       source_back = source_kept_further _ _ _ _ _ _ _ _ kept back.handed_back.source_back;
       named = told_named (g.L.Logs.names c.args.logs) why (subst (λ (list : List (List ℕ)). IsNamed list (fault_of_opening why)) kept.same_names (still_named names window before after fault why back.reason ends));

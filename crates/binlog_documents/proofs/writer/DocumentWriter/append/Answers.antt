@@ -1,11 +1,13 @@
-use Rattle.std.proofs.Common.{◌≡◌, Some, sym, subst}
+use Rattle.std.proofs.Common.{◌≡◌, Some, sym, subst, arith}
 use Rattle.std.specs.Str.{IsUtf8}
 use Rattle.std.proofs.lemmas.Str.{IsUtf8-append}
 use Rattle.binlog_documents.specs.Values.{value_text}
-use Rattle.binlog_documents.proofs.DocumentTexts.{text_utf8}
+use Rattle.binlog_documents.proofs.ReadDocuments.{AreBytes, bytes_by_index}
+use Rattle.binlog_documents.proofs.JsonTexts.{text_utf8}
 use Rattle.binlog_documents.proofs.writer.DocumentWriter.append.Goals as goal
 
 pub returns-clause-utf8 : goal.returns-clause-utf8
 returns-clause-utf8 c before =
     let is : Some c.in-Some.text.now ≡ value_text c.args.value.now = rw c.in-Some.is at c.in_ok-text.ensures in
-    subst IsUtf8 (sym c.in_ok-extend_from_slice.ensures.items) (IsUtf8-append _ _ before (text_utf8 c.args.value.now c.in-Some.text.now is))
+    let bytes : AreBytes c.args.value.now = bytes_by_index c.args.value.now (λ place. omega (arith, c.type_inv.value place)) in
+    subst IsUtf8 (sym c.in_ok-extend_from_slice.ensures.items) (IsUtf8-append _ _ before (text_utf8 c.args.value.now c.in-Some.text.now bytes is))

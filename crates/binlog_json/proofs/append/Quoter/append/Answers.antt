@@ -1,6 +1,6 @@
 use Rattle.std.proofs.Common.{◌≡◌, ℕ, List, subst}
 use Rattle.json.specs.Print.{escape}
-use Rattle.binlog_json.proofs.PlainText.{plain_escape}
+use Rattle.binlog_documents.proofs.PlainText.{plain_escape}
 use Rattle.binlog_json.proofs.append.Quoter.append.Goals as goal
 
 pub append_as_is-requires : goal.append_as_is-requires

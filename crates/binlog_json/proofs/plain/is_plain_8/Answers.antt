@@ -1,6 +1,0 @@
-use Rattle.std.proofs.Common.{arith}
-use Rattle.binlog_json.proofs.PlainText.{from_lanes}
-use Rattle.binlog_json.proofs.plain.is_plain_8.Goals as goal
-
-pub returns : goal.returns
-returns g c = from_lanes g.row.LIMIT c.args.text.now c.args.at 8 c.requires (omega arith)
