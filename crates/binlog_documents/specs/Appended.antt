@@ -1,8 +1,12 @@
 -- What is appended to a text while a document is read.
 use Rattle.std.specs.Prelude.{◌≡◌, ℕ, List, [], ◌∷◌, ◌++◌, Bool, true, false, Option, Some, None, option_map}
 use Rattle.json.specs.Print.{quoted}
+use Rattle.binlog_documents.specs.Containers.{elements_of, members_of, value_at}
 use Rattle.binlog_documents.specs.Scalars.{Reading}
-use Rattle.binlog_documents.specs.Texts.{document_text}
+use Rattle.binlog_documents.specs.Texts.{document_text, elements_text, members_text}
+use Rattle.binlog_documents.specs.Widths.{bytes_of, container_view}
+use Rattle.binlog_documents.specs.declared.container.Container as stored
+use Rattle.binlog_documents.specs.declared.container.Width.{Width}
 
 -- a text that is read, behind what stands there, and where it ends
 abbrev pub behind : List ℕ → Reading → Option (List ℕ × ℕ)
@@ -28,3 +32,10 @@ IsRead old new (Some text) is_text = (is_text ≡ true) × (new ≡ old ++ text)
 abbrev pub AppendsText : List ℕ → List ℕ → Option (List ℕ) → Bool → Type 0
 AppendsText old new None is_text = (is_text ≡ false) × (new ≡ old)
 AppendsText old new (Some text) is_text = (is_text ≡ true) × (new ≡ old ++ text)
+
+-- the text of an array's elements, and of an object's members, where each of their values is one that lies no deeper
+abbrev pub text_of_elements : ℕ → Width → stored.Container → Option (List ℕ)
+text_of_elements depth width array = option_map (elements_text false) (elements_of (value_at depth) (bytes_of width) (container_view array))
+
+abbrev pub text_of_members : ℕ → Width → stored.Container → Option (List ℕ)
+text_of_members depth width object = option_map (members_text false) (members_of (value_at depth) (bytes_of width) (container_view object))

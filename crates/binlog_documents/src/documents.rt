@@ -5,7 +5,7 @@ ghost use Rattle.binlog_documents.specs.Scalars.{scalar_at, text_at};
 ghost use Rattle.binlog_documents.specs.Containers.{value_in, key_in, elements_of, members_of, array_at, object_at, value_at, element_entry, member_entries};
 ghost use Rattle.binlog_documents.specs.Texts.{elements_text, members_text};
 ghost use Rattle.binlog_documents.specs.Widths.{bytes_of, container_view};
-ghost use Rattle.binlog_documents.specs.Appended.{IsAppended, IsKeyAppended, IsRead};
+ghost use Rattle.binlog_documents.specs.Appended.{IsAppended, IsKeyAppended, IsRead, text_of_elements, text_of_members};
 ghost use Rattle.binlog_documents.specs.Drafts.{said};
 
 use crate::append::{append_comma, append_key, append_scalar, append_text};
@@ -138,8 +138,7 @@ fn append_elements(
 ) -> Result<bool, AllocError>
     requires room { 2 * bytes_of width + array.count * element_entry (bytes_of width) ≤ length array.bytes.now }
     requires few { array.count < 2 ^ 32 }
-    ensures text { IfOk result (IsRead (said out.old) (said out.new)
-        (option_map (elements_text false) (elements_of (value_at depth) (bytes_of width) (container_view array.entry)))) }
+    ensures text { IfOk result (IsRead (said out.old) (said out.new) (text_of_elements depth width array.entry)) }
 {
     let step = width.bytes() + 1;
     let mut entry = 2 * width.bytes();
@@ -189,8 +188,7 @@ fn append_members(
 ) -> Result<bool, AllocError>
     requires room { 2 * bytes_of width + object.count * member_entries (bytes_of width) ≤ length object.bytes.now }
     requires few { object.count < 2 ^ 32 }
-    ensures text { IfOk result (IsRead (said out.old) (said out.new)
-        (option_map (members_text false) (members_of (value_at depth) (bytes_of width) (container_view object.entry)))) }
+    ensures text { IfOk result (IsRead (said out.old) (said out.new) (text_of_members depth width object.entry)) }
 {
     let key_step = width.bytes() + 2;
     let step = width.bytes() + 1;
