@@ -80,15 +80,13 @@ class Documents(FolderTest):
         self.assertEqual(self.shown(history), of_one[0])
 
     def test_reading(self):
-        read, lines, last, _, again = blocks("docs/USAGE.md", "Reading files")
+        read, lines, last = blocks("docs/USAGE.md", "Reading files")
         shown = self.shown(read)
         self.assertEqual(shown, (TOP / "examples/shop/read.jsonl").read_text(encoding="utf-8"))
         self.assertLessEqual(set(lines.splitlines()), set(shown.splitlines()))
         # Nine rows are left, and the one that was changed last stands last.
         left = self.shown(last).splitlines()
         self.assertEqual((len(left), left[-1]), (9, LAST_ROW))
-        self.shown(again)
-        self.assertEqual((self.folder / "first").read_text() + (self.folder / "rest").read_text(), shown)
 
     def test_a_missing_file(self):
         """Who notices it ("What to know before use"). The bank's second log ends without a ROTATE, its first with one."""
