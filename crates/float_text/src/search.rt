@@ -8,9 +8,6 @@ use crate::comparison::{LEAST_POWER, compare_twice};
 use fast_float::{FastFloat, nearest_bits};
 use std::cmp::Ordering;
 
-/// Of decimals with fewer digits than this has, no two at one power read back as the same DOUBLE.
-const FEW_DIGITS: u64 = 1_000_000_000_000_000;
-
 /// A decimal above this power is greater than any finite float.
 pub(crate) const GREATEST_POWER: u64 = 708;
 
@@ -75,16 +72,8 @@ fn is_alone<F: FastFloat>(bits: u64, digits: u64, power: u64) -> bool
     requires reads { reads_as F.format bits digits power ≡ true }
     ensures { IsTrue result → IsAlone F.format bits digits power }
 {
-    if digits >= FEW_DIGITS || digits % 10 == 0 {
-        return false;
-    }
-    if reads_back::<F>(bits, digits - 1, power) {
-        return false;
-    }
-    if reads_back::<F>(bits, digits + 1, power) {
-        return false;
-    }
-    true
+    let hidden = 1 << (F::DIGITS - 1);
+    bits >= hidden && digits % 10 > 0 && 2 * digits + 4 <= hidden
 }
 
 /// The greatest power at which a decimal reads back, and one that does. Where the two next to the digits don't, no other one does.
