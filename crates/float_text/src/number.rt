@@ -47,7 +47,7 @@ pub fn push_number<F: Float>(out: &mut Vec<u8, Global>, bits: u64) -> Result<(),
     out.extend_from_slice(&room[..end])
 }
 
-/// Puts the text of a finite float to a place. Where it ends.
+/// Puts the text of a finite float to a place, behind which there is room for `NUMBER_ROOM` bytes. Where it ends.
 pub fn put_number<F: Float>(room: &mut [u8], at: usize, bits: u64) -> usize
     requires width { bits < 2 * top F.format }
     requires finite { bits % top F.format < ones F.format * hid F.format }

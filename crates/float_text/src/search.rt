@@ -64,7 +64,8 @@ fn without_zeros<F: FastFloat>(bits: u64, digits: u64, power: u64) -> (u64, u64)
     without::<F>(bits, by_two, 1, 10)
 }
 
-/// Whether neither of the decimals next to it reads back, and so no other one at this power, and none at a greater one.
+/// Whether twice the digits are less than the float's hidden bit: floats lie closer to one another then than decimals at this power, so
+/// that neither of the two next to it reads back, and so no other one at this power, and none at a greater one.
 #[inline(always)]
 fn is_alone<F: FastFloat>(bits: u64, digits: u64, power: u64) -> bool
     requires finite { IsFinite F.format bits }
@@ -73,7 +74,13 @@ fn is_alone<F: FastFloat>(bits: u64, digits: u64, power: u64) -> bool
     ensures { IsTrue result → IsAlone F.format bits digits power }
 {
     let hidden = 1 << (F::DIGITS - 1);
-    bits >= hidden && digits % 10 > 0 && 2 * digits + 4 <= hidden
+    if bits < hidden || bits + 1 >= F::INFINITY_BITS {
+        return false;
+    }
+    if digits >= hidden / 2 || digits % 10 == 0 {
+        return false;
+    }
+    true
 }
 
 /// The greatest power at which a decimal reads back, and one that does. Where the two next to the digits don't, no other one does.
