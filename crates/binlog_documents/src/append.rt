@@ -5,7 +5,7 @@ ghost use Rattle.json.specs.Print.{quoted};
 ghost use Rattle.binlog_documents.specs.Appended.{AppendsText};
 ghost use Rattle.binlog_documents.specs.Drafts.{said};
 ghost use Rattle.binlog_documents.specs.Opaques.{opaque_text};
-ghost use Rattle.binlog_documents.specs.Texts.{comma_if, double_text, document_text, key_text, string_text};
+ghost use Rattle.binlog_documents.specs.Texts.{comma_if, document_text, key_text, string_text};
 ghost use Rattle.binlog_documents.specs.ScalarShown.{scalar_view};
 
 use crate::bytes::utf8_text;
@@ -13,8 +13,7 @@ use crate::draft::Draft;
 use crate::opaque::push_opaque;
 use crate::plain::{is_plain, is_plain_front};
 use crate::quote::push_quoted;
-use crate::scalar::{Finite, Scalar};
-use float_text::push_number;
+use crate::scalar::Scalar;
 use itoa::Buffer;
 use std::alloc::AllocError;
 
@@ -40,15 +39,6 @@ fn append_unsigned(out: &mut Draft, number: u64) -> Result<(), AllocError>
 {
     let mut buffer = Buffer::new();
     out.push(buffer.format(number).as_bytes())
-}
-
-/// The shortest decimal that reads back as the double.
-fn append_double(out: &mut Draft, double: Finite) -> Result<(), AllocError>
-    ensures { OnOk result (said out.new ≡ said out.old ++ double_text double.bits) }
-{
-    out.piece.clear();
-    push_number::<f64>(&mut out.piece, double.bits)?;
-    out.push_piece()
 }
 
 /// The first bytes of others as a string, where they are UTF-8. False, and nothing is appended, where they aren't.
@@ -132,7 +122,7 @@ pub(crate) fn append_scalar(out: &mut Draft, scalar: Scalar<'_>) -> Result<(), A
         Scalar::Boolean(false) => out.push(b"false"),
         Scalar::Signed(number) => append_signed(out, number),
         Scalar::Unsigned(number) => append_unsigned(out, number),
-        Scalar::Double(double) => append_double(out, double),
+        Scalar::Double(double) => out.push_double(double),
         Scalar::Text(text) => append_quoted(out, text),
         Scalar::Opaque(kind, bytes) => append_opaque(out, kind, bytes),
     }

@@ -2,6 +2,8 @@
 ghost use Rattle.std.specs.Prelude.{◌+◌, ◌<◌, ◌≤◌, ◌++◌, ◌∷◌, [], length, take};
 ghost use Rattle.json.specs.Filled.{Placed};
 
+use crate::scalar::Finite;
+use float_text::{NUMBER_ROOM, put_number};
 use std::alloc::{AllocError, Global};
 use std::mem;
 use std::simd::prelude::*;
@@ -20,6 +22,7 @@ pub(crate) struct Draft {
 impl Draft {
     ghost use Rattle.std.specs.Prelude.{◌≡◌, ◌+◌, ◌≤◌, ◌++◌, ◌∷◌, [], length, take, OnOk};
     ghost use Rattle.binlog_documents.specs.Drafts.{said};
+    ghost use Rattle.binlog_documents.specs.Texts.{double_text};
 
     /// An empty text. It takes no memory.
     pub(crate) fn new(alloc: Global) -> Draft
@@ -120,6 +123,16 @@ impl Draft {
     {
         self.make_room(19)?;
         self.len = put_first_key(self.bytes.as_mut_slice(), self.len, text, count);
+        Ok(())
+    }
+
+    /// Appends the text of a finite double.
+    #[inline(always)]
+    pub(crate) fn push_double(&mut self, double: Finite) -> Result<(), AllocError>
+        ensures { OnOk result (said self.new ≡ said self.old ++ double_text double.bits) }
+    {
+        self.make_room(NUMBER_ROOM)?;
+        self.len = put_number::<f64>(self.bytes.as_mut_slice(), self.len, double.bits);
         Ok(())
     }
 

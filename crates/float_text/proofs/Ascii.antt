@@ -1,5 +1,6 @@
 -- The texts are ASCII.
 use Rattle.std.proofs.Common.{◌≡◌, ℕ, ◌+◌, ◌-◌, ◌^◌, ◌<◌, ◌&&◌, ◌++◌, Bool, true, false, cond, ltb, T, List, [], ◌∷◌, length, take, drop, codes, decimal, IsAscii, arith, subst, sym}
+use Rattle.std.specs.Prelude.{Result, Ok, Err, IfOk, is_ok}
 use lib.Dec.{lit<}
 use lib.Ieee.Fits.{and_l, and_r}
 use Rattle.std.proofs.lemmas.Str.{IsAscii-append, IsAscii-take, IsAscii-drop}
@@ -75,3 +76,7 @@ layout_ascii digits power l h = (layout_text digits power l (record { ascii = h 
 -- what comes behind ASCII
 pub longer : (old new text : List ℕ) → new ≡ old ++ text → IsAscii text → IsAscii old → IsAscii new
 longer old new text is h before = subst IsAscii (sym is) (IsAscii-append old text before h)
+
+pub appended : {T E : Type 0} (r : Result T E) (old new text : List ℕ) → new ≡ cond (is_ok r) (old ++ text) old → IsAscii text → IfOk r (λ _. IsAscii old → IsAscii new)
+appended (Ok x) old new text is h = longer old new text is h
+appended (Err e) old new text is h = tt

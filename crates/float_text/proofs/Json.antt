@@ -1,6 +1,5 @@
 -- The texts are numbers of JSON's grammar.
 use Rattle.std.proofs.Common.{◌≡◌, ℕ, zero, suc, ◌+◌, ◌-◌, ◌^◌, ◌<◌, ◌≤◌, Bool, true, false, cond, ltb, ◌&&◌, ◌==◌, List, [], ◌∷◌, ◌++◌, length, take, drop, codes, decimal, get_or, Option, Some, None, option_and_then, inl, inr, refl, sym, ap, ◌∙◌, subst, eq-zero-or-pos, eq-eqb, arith, append_assoc, append-nil, length-drop, ltb-true}
-use Rattle.std.specs.Prelude.{Result, Ok, Err, IfOk}
 use lib.Dec.{lit<}
 use lib.Ieee.{Format}
 use Rattle.std.proofs.lemmas.Bool.{ne_eqb, le-leb, and_from, and_parts}
@@ -204,8 +203,3 @@ some_size f bits decimals F is read fits few small =
     in
     rw (ne_eqb bits 0 (λ e. omega arith), ← is)
     (size_of _ (layout_unsigned (decimal decimals.0) (decimal_is_IsNumeral decimals.0 fits).0.1 (first_decimal decimals.0 some fits) decimals.1 (omega arith)))
-
--- what holds anyway
-pub whatever : {A E : Type 0} (r : Result A E) {P : Type 0} → P → IfOk r (λ _. P)
-whatever (Ok x) p = p
-whatever (Err e) p = tt

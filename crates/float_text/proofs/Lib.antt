@@ -5,9 +5,9 @@ pub mod LimbSums
 pub mod Tests
 pub mod Generated
 pub mod Sign
-pub mod Join
 pub mod Ascii
 pub mod Json
 pub mod Found
 pub mod Leading
+pub mod Apart
 pub mod Alone

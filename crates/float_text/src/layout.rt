@@ -1,100 +1,117 @@
-//! The layout of a float's text, from its digits and their power.
-ghost use Rattle.std.specs.Prelude.{◌≡◌, ◌+◌, ◌<◌, ◌≤◌, ◌^◌, ◌++◌, length, IfOk};
+//! The layout of a float's text, from its digits and their power, in room that is there before.
+ghost use Rattle.std.specs.Prelude.{◌≡◌, ◌+◌, ◌<◌, ◌≤◌, ◌^◌, ◌++◌, ◌∷◌, [], length};
+ghost use Rattle.json.specs.Filled.{Placed};
 ghost use Rattle.float_text.specs.Layout.{pointed_text, whole_text, small_text, mantissa_text, exponent_digits, exponent_text, layout};
 
 use itoa::Buffer;
-use std::alloc::{AllocError, Global};
 
 const ZEROS: &[u8; 16] = b"0000000000000000";
 
-/// Digits in front of the point and behind it.
-fn push_pointed(out: &mut Vec<u8, Global>, digits: &[u8], place: usize) -> Result<(), AllocError>
-    requires { (400 ≤ place) × (place ≤ 400 + length digits.now) }
-    ensures { IfOk result (λ _. out.new.items ≡ out.old.items ++ pointed_text digits.now place) }
+/// Puts a text to a place. Where it ends.
+#[inline(always)]
+pub(crate) fn put(room: &mut [u8], at: usize, text: &[u8]) -> usize
+    requires { at + length text.now ≤ length room.old }
+    ensures { Placed room.old room.new at text.now result }
 {
-    out.extend_from_slice(&digits[..place - 400])?;
-    out.extend_from_slice(b".")?;
-    out.extend_from_slice(&digits[place - 400..])
+    let end = at + text.len();
+    room[at..end].copy_from_slice(text);
+    end
+}
+
+/// Digits in front of the point and behind it.
+fn put_pointed(room: &mut [u8], at: usize, digits: &[u8], place: usize) -> usize
+    requires place { (400 ≤ place) × (place ≤ 400 + length digits.now) }
+    requires room { at + length digits.now + 1 ≤ length room.old }
+    ensures { Placed room.old room.new at (pointed_text digits.now place) result }
+{
+    let point = put(room, at, &digits[..place - 400]);
+    let fraction = put(room, point, b".");
+    put(room, fraction, &digits[place - 400..])
 }
 
 /// All digits in front of the point.
-fn push_whole(out: &mut Vec<u8, Global>, digits: &[u8], power: usize) -> Result<(), AllocError>
-    requires { (400 ≤ power) × (power ≤ 416) }
-    ensures { IfOk result (λ _. out.new.items ≡ out.old.items ++ whole_text digits.now power) }
+fn put_whole(room: &mut [u8], at: usize, digits: &[u8], power: usize) -> usize
+    requires power { (400 ≤ power) × (power ≤ 416) }
+    requires room { at + length digits.now + 18 ≤ length room.old }
+    ensures { Placed room.old room.new at (whole_text digits.now power) result }
 {
-    out.extend_from_slice(digits)?;
-    out.extend_from_slice(&ZEROS[..power - 400])?;
-    out.extend_from_slice(b".0")
+    let zeros = put(room, at, digits);
+    let point = put(room, zeros, &ZEROS[..power - 400]);
+    put(room, point, b".0")
 }
 
 /// All digits behind the point.
-fn push_small(out: &mut Vec<u8, Global>, digits: &[u8], place: usize) -> Result<(), AllocError>
-    requires { (396 < place) × (place ≤ 400) }
-    ensures { IfOk result (λ _. out.new.items ≡ out.old.items ++ small_text digits.now place) }
+fn put_small(room: &mut [u8], at: usize, digits: &[u8], place: usize) -> usize
+    requires place { (396 < place) × (place ≤ 400) }
+    requires room { at + length digits.now + 6 ≤ length room.old }
+    ensures { Placed room.old room.new at (small_text digits.now place) result }
 {
-    out.extend_from_slice(b"0.")?;
-    out.extend_from_slice(&ZEROS[..400 - place])?;
-    out.extend_from_slice(digits)
+    let zeros = put(room, at, b"0.");
+    let first = put(room, zeros, &ZEROS[..400 - place]);
+    put(room, first, digits)
 }
 
 /// One digit in front of the point.
-fn push_mantissa(out: &mut Vec<u8, Global>, digits: &[u8]) -> Result<(), AllocError>
-    requires { 0 < length digits.now }
-    ensures { IfOk result (λ _. out.new.items ≡ out.old.items ++ mantissa_text digits.now) }
+fn put_mantissa(room: &mut [u8], at: usize, digits: &[u8]) -> usize
+    requires some { 0 < length digits.now }
+    requires room { at + length digits.now + 1 ≤ length room.old }
+    ensures { Placed room.old room.new at (mantissa_text digits.now) result }
 {
-    out.extend_from_slice(&digits[..1])?;
-    if digits.len() > 1 {
-        out.extend_from_slice(b".")?;
-        out.extend_from_slice(&digits[1..])?;
+    let point = put(room, at, &digits[..1]);
+    if digits.len() == 1 {
+        return point;
     }
-    Ok(())
+    let fraction = put(room, point, b".");
+    put(room, fraction, &digits[1..])
 }
 
 /// The size of an exponent, in two digits at least.
-fn push_exponent_digits(out: &mut Vec<u8, Global>, exponent: usize) -> Result<(), AllocError>
-    ensures { IfOk result (λ _. out.new.items ≡ out.old.items ++ exponent_digits exponent) }
+fn put_exponent_digits(room: &mut [u8], at: usize, exponent: usize) -> usize
+    requires { at + 41 ≤ length room.old }
+    ensures { Placed room.old room.new at (exponent_digits exponent) result }
 {
-    if exponent < 10 {
-        out.extend_from_slice(b"0")?;
-    }
     let mut buffer = Buffer::new();
-    out.extend_from_slice(buffer.format(exponent).as_bytes())
+    let digits = buffer.format(exponent).as_bytes();
+    if exponent < 10 {
+        let one = put(room, at, b"0");
+        return put(room, one, digits);
+    }
+    put(room, at, digits)
 }
 
 /// The exponent, with its sign.
-fn push_exponent(out: &mut Vec<u8, Global>, place: usize) -> Result<(), AllocError>
-    requires { place < 2 ^ 20 }
-    ensures { IfOk result (λ _. out.new.items ≡ out.old.items ++ exponent_text place) }
+fn put_exponent(room: &mut [u8], at: usize, place: usize) -> usize
+    requires place { place < 2 ^ 20 }
+    requires room { at + 43 ≤ length room.old }
+    ensures { Placed room.old room.new at (exponent_text place) result }
 {
     if place > 400 {
-        out.extend_from_slice(b"e+")?;
-        push_exponent_digits(out, place - 401)
+        let digits = put(room, at, b"e+");
+        put_exponent_digits(room, digits, place - 401)
     } else {
-        out.extend_from_slice(b"e-")?;
-        push_exponent_digits(out, 401 - place)
+        let digits = put(room, at, b"e-");
+        put_exponent_digits(room, digits, 401 - place)
     }
 }
 
 /// The text of digits * 10 ^ (power - 400).
-pub(crate) fn push_layout(
-    out: &mut Vec<u8, Global>,
-    digits: &[u8],
-    power: usize,
-) -> Result<(), AllocError>
-    requires { (0 < length digits.now) × (length digits.now ≤ 40) × (power ≤ 709) }
-    ensures { IfOk result (λ _. out.new.items ≡ out.old.items ++ layout digits.now power) }
+#[inline(always)]
+pub(crate) fn put_layout(room: &mut [u8], at: usize, digits: &[u8], power: usize) -> usize
+    requires sizes { (0 < length digits.now) × (length digits.now ≤ 40) × (power ≤ 709) }
+    requires room { at + 84 ≤ length room.old }
+    ensures { Placed room.old room.new at (layout digits.now power) result }
 {
     let place = digits.len() + power;
     if place > 400 && place < 417 {
         if power < 400 {
-            push_pointed(out, digits, place)
+            put_pointed(room, at, digits, place)
         } else {
-            push_whole(out, digits, power)
+            put_whole(room, at, digits, power)
         }
     } else if place > 396 && place < 401 {
-        push_small(out, digits, place)
+        put_small(room, at, digits, place)
     } else {
-        push_mantissa(out, digits)?;
-        push_exponent(out, place)
+        let exponent = put_mantissa(room, at, digits);
+        put_exponent(room, exponent, place)
     }
 }

@@ -9,5 +9,5 @@ mod number;
 mod search;
 mod stored;
 
-pub use number::{push_number, shortest_decimal};
+pub use number::{NUMBER_ROOM, push_number, put_number, shortest_decimal};
 pub use stored::push_stored;

@@ -1,6 +1,7 @@
 //! The text of a finite float, by its bits.
-ghost use Rattle.std.specs.Prelude.{◌≡◌, ◌*◌, ◌%◌, ◌<◌, ◌≤◌, ◌++◌, true, IfOk, IsAscii};
+ghost use Rattle.std.specs.Prelude.{◌≡◌, ◌*◌, ◌%◌, ◌<◌, ◌≤◌, ◌+◌, ◌++◌, true, length, IfOk, IsAscii};
 ghost use Rattle.std.specs.Float.Ieee.{top, ones, hid};
+ghost use Rattle.json.specs.Filled.{Placed};
 ghost use Rattle.json.specs.Print.{IsNumber};
 ghost use Rattle.float_text.specs.JsonSizes.{IsJsonSize};
 ghost use Rattle.float_text.specs.Closest.{IsCoarsest, HasFewestDigits, IsClosestAbove, IsClosestBelow};
@@ -8,7 +9,7 @@ ghost use Rattle.float_text.specs.Shortest.{IsFinite, reads_as, shortest};
 ghost use Rattle.float_text.specs.Layout.{size_text, number_text};
 
 use crate::candidate::candidate;
-use crate::layout::push_layout;
+use crate::layout::{put, put_layout};
 use crate::search::shortest_from;
 use itoa::Buffer;
 use ryu::Float;
@@ -30,6 +31,9 @@ pub fn shortest_decimal<F: Float>(bits: u64) -> (u64, u64)
     shortest_from::<F>(bits, digits, power)
 }
 
+/// How many bytes a number's text has to find behind its place.
+pub const NUMBER_ROOM: usize = 96;
+
 /// Appends the text of a finite float, which is a function of its bits alone.
 pub fn push_number<F: Float>(out: &mut Vec<u8, Global>, bits: u64) -> Result<(), AllocError>
     requires width { bits < 2 * top F.format }
@@ -38,27 +42,40 @@ pub fn push_number<F: Float>(out: &mut Vec<u8, Global>, bits: u64) -> Result<(),
     ensures json { IfOk result (λ _. IsNumber (number_text F.format bits)) }
     ensures ascii { IfOk result (λ _. IsAscii out.old.items → IsAscii out.new.items) }
 {
+    let mut room = [0; NUMBER_ROOM];
+    let end = put_number::<F>(&mut room, 0, bits);
+    out.extend_from_slice(&room[..end])
+}
+
+/// Puts the text of a finite float to a place, behind which there is room for `NUMBER_ROOM` bytes. Where it ends.
+pub fn put_number<F: Float>(room: &mut [u8], at: usize, bits: u64) -> usize
+    requires width { bits < 2 * top F.format }
+    requires finite { bits % top F.format < ones F.format * hid F.format }
+    requires room { at + 96 ≤ length room.old }
+    ensures text { Placed room.old room.new at (number_text F.format bits) result }
+    ensures json { IsNumber (number_text F.format bits) }
+    ensures ascii { IsAscii (number_text F.format bits) }
+{
     if bits >= F::SIGN_BIT {
-        out.extend_from_slice(b"-")?;
-        push_size::<F>(out, bits - F::SIGN_BIT)?;
+        let size = put(room, at, b"-");
+        put_size::<F>(room, size, bits - F::SIGN_BIT)
     } else {
-        push_size::<F>(out, bits)?;
+        put_size::<F>(room, at, bits)
     }
-    Ok(())
 }
 
 /// The text of a float with no sign.
-fn push_size<F: Float>(out: &mut Vec<u8, Global>, bits: u64) -> Result<(), AllocError>
+fn put_size<F: Float>(room: &mut [u8], at: usize, bits: u64) -> usize
     requires finite { bits < ones F.format * hid F.format }
-    ensures text { IfOk result (λ _. out.new.items ≡ out.old.items ++ size_text F.format bits) }
-    ensures json { IfOk result (λ _. IsJsonSize (size_text F.format bits)) }
-    ensures ascii { IfOk result (λ _. IsAscii out.old.items → IsAscii out.new.items) }
+    requires room { at + 84 ≤ length room.old }
+    ensures text { Placed room.old room.new at (size_text F.format bits) result }
+    ensures json { IsJsonSize (size_text F.format bits) }
+    ensures ascii { IsAscii (size_text F.format bits) }
 {
     if bits == 0 {
-        return out.extend_from_slice(b"0.0");
+        return put(room, at, b"0.0");
     }
     let (digits, power) = shortest_decimal::<F>(bits);
     let mut buffer = Buffer::new();
-    push_layout(out, buffer.format(digits).as_bytes(), power as usize)?;
-    Ok(())
+    put_layout(room, at, buffer.format(digits).as_bytes(), power as usize)
 }

@@ -8,9 +8,6 @@ use crate::comparison::{LEAST_POWER, compare_twice};
 use fast_float::{FastFloat, nearest_bits};
 use std::cmp::Ordering;
 
-/// Of decimals with fewer digits than this has, no two at one power read back as the same DOUBLE.
-const FEW_DIGITS: u64 = 1_000_000_000_000_000;
-
 /// A decimal above this power is greater than any finite float.
 pub(crate) const GREATEST_POWER: u64 = 708;
 
@@ -67,7 +64,8 @@ fn without_zeros<F: FastFloat>(bits: u64, digits: u64, power: u64) -> (u64, u64)
     without::<F>(bits, by_two, 1, 10)
 }
 
-/// Whether neither of the decimals next to it reads back, and so no other one at this power, and none at a greater one.
+/// Whether twice the digits are less than the float's hidden bit: floats lie closer to one another then than decimals at this power, so
+/// that neither of the two next to it reads back, and so no other one at this power, and none at a greater one.
 #[inline(always)]
 fn is_alone<F: FastFloat>(bits: u64, digits: u64, power: u64) -> bool
     requires finite { IsFinite F.format bits }
@@ -75,13 +73,11 @@ fn is_alone<F: FastFloat>(bits: u64, digits: u64, power: u64) -> bool
     requires reads { reads_as F.format bits digits power ≡ true }
     ensures { IsTrue result → IsAlone F.format bits digits power }
 {
-    if digits >= FEW_DIGITS || digits % 10 == 0 {
+    let hidden = 1 << (F::DIGITS - 1);
+    if bits < hidden || bits + 1 >= F::INFINITY_BITS {
         return false;
     }
-    if reads_back::<F>(bits, digits - 1, power) {
-        return false;
-    }
-    if reads_back::<F>(bits, digits + 1, power) {
+    if digits >= hidden / 2 || digits % 10 == 0 {
         return false;
     }
     true
