@@ -1,14 +1,15 @@
 -- The digits of decimals, one group after another.
-use Rattle.std.proofs.Common.{◌≡◌, ℕ, zero, suc, ◌+◌, ◌-◌, ◌*◌, ◌/◌, ◌%◌, ◌^◌, ◌<◌, ◌≤◌, true, leb, ltb, cond, List, [], ◌∷◌, ◌++◌, length, take, drop, set, Option, Some, None, is_some, refl, sym, ap, ◌∙◌, append_assoc, append-nil, arith}
+use Rattle.std.proofs.Common.{◌≡◌, ℕ, zero, suc, ◌+◌, ◌-◌, ◌*◌, ◌/◌, ◌%◌, ◌^◌, ◌<◌, ◌≤◌, true, leb, ltb, List, [], ◌∷◌, ◌++◌, length, take, drop, set, Option, Some, None, is_some, refl, sym, ap, ◌∙◌, append_assoc, append-nil, arith}
 use Rattle.std.specs.Prelude.{unwrap_or}
 use Rattle.std.specs.List.{All}
 use Rattle.std.proofs.Math.Seq.{take-add}
 use Rattle.std.proofs.lemmas.List.{length-append, drop-set}
 use Rattle.std.proofs.lemmas.List.Elements.{All-cons}
+use Rattle.std.proofs.lemmas.Option.{same_Some}
 use native.Mathlib.Nat.{div-div-eq-div-mul, pow-suc}
 use Rattle.byteorder.specs.Endian.{big_number}
 use Rattle.binlog_table.specs.Decimal.{◌and_then◌, digits_of, group_len, group_at, nines_at, digits_at, appended}
-use Rattle.binlog_table.proofs.Extents.{guarded, some_is}
+use Rattle.binlog_table.proofs.Options.{and_then_assoc, and_then_ok, guarded, map-then}
 
 -- ---- how many digits
 
@@ -16,36 +17,32 @@ pub digits_of-length : (d n : ℕ) → length (digits_of d n) ≡ d
 digits_of-length zero n = refl
 digits_of-length (suc d) n = ap suc (digits_of-length d n)
 
-then_some : {A B : Type 0} (o : Option A) (f : A → Option B) (y : B) → (o and_then f) ≡ Some y → (x : A) × (o ≡ Some x) × (f x ≡ Some y)
-then_some None f y e = absurd cc
-then_some (Some x) f y e = (x, refl, e)
-
 group_at-length : (d : ℕ) (bytes : List ℕ) (g : List ℕ × List ℕ) → group_at d bytes ≡ Some g → length g.0 ≡ d
 unfolding group_at
 group_at-length d bytes g e =
     let n = big_number (group_len d) bytes in
-    let a = guarded (leb (group_len d) (length bytes)) (cond (ltb n (10 ^ d)) (Some (digits_of d n, drop (group_len d) bytes)) None) g e in
-    let b = guarded (ltb n (10 ^ d)) (Some (digits_of d n, drop (group_len d) bytes)) g a.1 in
-    ap (λ (x : List ℕ × List ℕ). length x.0) (sym (some_is (digits_of d n, drop (group_len d) bytes) g b.1)) ∙ digits_of-length d n
+    let a = guarded (leb (group_len d) (length bytes)) _ g e in
+    let b = guarded (ltb n (10 ^ d)) _ g a.1 in
+    ap (λ (x : List ℕ × List ℕ). length x.0) (sym (same_Some (digits_of d n, drop (group_len d) bytes) g b.1)) ∙ digits_of-length d n
 
 nines_at-length : (n : ℕ) (bytes : List ℕ) (g : List ℕ × List ℕ) → nines_at n bytes ≡ Some g → length g.0 ≡ 9 * n
 unfolding nines_at
-nines_at-length zero bytes g e = ap (λ (x : List ℕ × List ℕ). length x.0) (sym (some_is ([], bytes) g e))
+nines_at-length zero bytes g e = ap (λ (x : List ℕ × List ℕ). length x.0) (sym (same_Some ([], bytes) g e))
 nines_at-length (suc n) bytes g e =
-    let a = then_some (group_at 9 bytes) (λ x. nines_at n x.1 and_then λ r. Some (x.0 ++ r.0, r.1)) g e in
-    let b = then_some (nines_at n a.0.1) (λ r. Some (a.0.0 ++ r.0, r.1)) g a.2 in
+    let a = and_then_ok (group_at 9 bytes) _ g e in
+    let b = and_then_ok (nines_at n a.0.1) _ g a.2 in
     let one = group_at-length 9 bytes a.0 a.1 in
     let others = nines_at-length n a.0.1 b.0 b.1 in
-    ap (λ (x : List ℕ × List ℕ). length x.0) (sym (some_is (a.0.0 ++ b.0.0, b.0.1) g b.2)) ∙ omega (arith, length-append a.0.0 b.0.0, one, others)
+    ap (λ (x : List ℕ × List ℕ). length x.0) (sym (same_Some (a.0.0 ++ b.0.0, b.0.1) g b.2)) ∙ omega (arith, length-append a.0.0 b.0.0, one, others)
 
 pub digits_at-length : (p s : ℕ) (bytes ds : List ℕ) → s ≤ p → digits_at p s bytes ≡ Some ds → length ds ≡ p
 unfolding digits_at
 digits_at-length p s bytes ds le e =
-    let a = then_some (group_at ((p - s) % 9) bytes) (λ x. nines_at ((p - s) / 9) x.1 and_then λ b. nines_at (s / 9) b.1 and_then λ c. group_at (s % 9) c.1 and_then λ d. Some (x.0 ++ b.0 ++ c.0 ++ d.0)) ds e in
-    let b = then_some (nines_at ((p - s) / 9) a.0.1) (λ x. nines_at (s / 9) x.1 and_then λ c. group_at (s % 9) c.1 and_then λ d. Some (a.0.0 ++ x.0 ++ c.0 ++ d.0)) ds a.2 in
-    let c = then_some (nines_at (s / 9) b.0.1) (λ x. group_at (s % 9) x.1 and_then λ d. Some (a.0.0 ++ b.0.0 ++ x.0 ++ d.0)) ds b.2 in
-    let d = then_some (group_at (s % 9) c.0.1) (λ x. Some (a.0.0 ++ b.0.0 ++ c.0.0 ++ x.0)) ds c.2 in
-    let all = some_is (a.0.0 ++ b.0.0 ++ c.0.0 ++ d.0.0) ds d.2 in
+    let a = and_then_ok (group_at ((p - s) % 9) bytes) _ ds e in
+    let b = and_then_ok (nines_at ((p - s) / 9) a.0.1) _ ds a.2 in
+    let c = and_then_ok (nines_at (s / 9) b.0.1) _ ds b.2 in
+    let d = and_then_ok (group_at (s % 9) c.0.1) _ ds c.2 in
+    let all = same_Some (a.0.0 ++ b.0.0 ++ c.0.0 ++ d.0.0) ds d.2 in
     omega (
       arith,
       ap length all,
@@ -97,46 +94,20 @@ digits_of-small (suc d) n = All-cons (λ x. x < 10) (n / 10 ^ d % 10) (digits_of
 
 -- ---- one group more
 
-abbrev nines_then : ℕ → List ℕ → List ℕ × List ℕ → Option (List ℕ × List ℕ)
-nines_then n front g = appended (front ++ g.0) (nines_at n g.1)
+abbrev pub Digits : Type 0
+Digits = List ℕ × List ℕ
 
-nines-pushed : (n : ℕ) (front bytes : List ℕ) → appended front (nines_at (suc n) bytes) ≡ (group_at 9 bytes and_then nines_then n front)
+-- what is read behind the digits in front
+abbrev pub group_behind : Digits → Option Digits
+group_behind s = appended s.0 (group_at 9 s.1)
+
+abbrev pub nines_behind : ℕ → Digits → Option Digits
+nines_behind n s = appended s.0 (nines_at n s.1)
+
+pub nines_behind-suc : (n : ℕ) (s : Digits) → nines_behind (suc n) s ≡ (group_behind s and_then λ t. nines_behind n t)
 unfolding nines_at
-nines-pushed n front bytes = by_group (group_at 9 bytes)
-  where
-    by_nines : (a : List ℕ) (r : Option (List ℕ × List ℕ)) → appended front (r and_then λ x. Some (a ++ x.0, x.1)) ≡ appended (front ++ a) r
-    by_nines a None = refl
-    by_nines a (Some x) = ap (λ (t : List ℕ). Some (t, x.1)) (sym (append_assoc front a x.0))
+nines_behind-suc n s = simp (map-then, and_then_assoc, append_assoc)
 
-    by_group : (g : Option (List ℕ × List ℕ)) → appended front (g and_then λ x. nines_at n x.1 and_then λ r. Some (x.0 ++ r.0, r.1)) ≡ (g and_then nines_then n front)
-    by_group None = refl
-    by_group (Some g) = by_nines g.0 (nines_at n g.1)
-
-module _ (count i : ℕ) (front rest : List ℕ) (total : Option (List ℕ × List ℕ)) (lt : i < count) (so_far : appended front (nines_at (count - i) rest) ≡ total) where
-  pushed-step : (group_at 9 rest and_then nines_then (count - (i + 1)) front) ≡ total
-  pushed-step =
-      let k : count - i ≡ suc (count - (i + 1)) = omega arith in
-      sym (nines-pushed (count - (i + 1)) front rest) ∙ ap (λ (n : ℕ). appended front (nines_at n rest)) (sym k) ∙ so_far
-
-  pub pushed-stop : None ≡ appended front (group_at 9 rest) → None ≡ total
-  pushed-stop none = by_group (group_at 9 rest) none pushed-step
-    where
-      by_group : (g : Option (List ℕ × List ℕ)) → None ≡ appended front g → (g and_then nines_then (count - (i + 1)) front) ≡ total → None ≡ total
-      by_group None h e = e
-      by_group (Some g) h e = absurd cc
-
-  pub pushed-more : (digits after : List ℕ) → Some (digits, after) ≡ appended front (group_at 9 rest) → appended digits (nines_at (count - (i + 1)) after) ≡ total
-  pushed-more digits after some = by_group (group_at 9 rest) some pushed-step
-    where
-      by_group : (g : Option (List ℕ × List ℕ)) → Some (digits, after) ≡ appended front g → (g and_then nines_then (count - (i + 1)) front) ≡ total → appended digits (nines_at (count - (i + 1)) after) ≡ total
-      by_group None h e = absurd cc
-      by_group (Some g) h e =
-          let same = some_is (digits, after) (front ++ g.0, g.1) h in
-          ap (λ (x : List ℕ × List ℕ). appended x.0 (nines_at (count - (i + 1)) x.1)) same ∙ e
-
-pub pushed-done : (count i : ℕ) (front rest : List ℕ) (total : Option (List ℕ × List ℕ)) → count ≤ i → appended front (nines_at (count - i) rest) ≡ total → Some (front, rest) ≡ total
+pub nines_behind-zero : (s : Digits) → nines_behind 0 s ≡ Some s
 unfolding nines_at
-pushed-done count i front rest total le so_far =
-    let k : count - i ≡ 0 = omega arith in
-    let one : appended front (nines_at (count - i) rest) ≡ Some (front, rest) = rw (k, append-nil front) refl in
-    sym one ∙ so_far
+nines_behind-zero s = ap (λ (ds : List ℕ). Some (ds, s.1)) (append-nil s.0)

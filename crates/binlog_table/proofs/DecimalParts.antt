@@ -5,6 +5,7 @@ use Rattle.std.proofs.Math.Nat.{div-div-eq-div-mul, mul-add-div_right, one-le-po
 use Rattle.std.proofs.lemmas.Nat.{pow-add, div-mul-add, mul-add-lt}
 use Rattle.binlog_table.specs.Decimal.{◌and_then◌, digits_of, group_at, nines_at, digits_at}
 use Rattle.binlog_table.specs.DecimalParts.{IsSplit, front_at, behind_at}
+use Rattle.binlog_table.proofs.Options.{and_then_assoc, goes_on}
 
 -- ---- the digits of a sum
 
@@ -36,124 +37,52 @@ joined_small a b d x y all front last =
     let turned : b + a ≡ d = omega (arith, all) in
     subst (λ (k : ℕ). x * 10 ^ b + y < k) (sym (pow-add 10 b a) ∙ ap (λ (k : ℕ). 10 ^ k) turned) (mul-add-lt x (10 ^ b) y (10 ^ a) front last)
 
+-- the digits of two groups
+two_groups : (a b d x y : ℕ) → a + b ≡ d → y < 10 ^ b → digits_of d (x * 10 ^ b + y) ≡ digits_of a x ++ digits_of b y
+two_groups a b d x y all small = ap (λ (k : ℕ). digits_of k (x * 10 ^ b + y)) (sym all) ∙ digits_of-joined a b x y small
+
 -- ---- the digits in front of the point
 
-pub front-none : (d : ℕ) (bytes : List ℕ) → None ≡ group_at (d % 9) bytes → None ≡ front_at d bytes
-unfolding front_at
-front-none d bytes none =
-    let whole : front_at d bytes ≡ None = rw (← none) refl in
-    sym whole
-
-pub front-cut : (d x : ℕ) (bytes rest : List ℕ) → 9 ≤ d → d ≤ 17 → Some (digits_of (d % 9) x, rest) ≡ group_at (d % 9) bytes → None ≡ group_at 9 rest → None ≡ front_at d bytes
+pub front-two : (d : ℕ) (bytes : List ℕ) → 9 ≤ d → d ≤ 17 → (group_at (d % 9) bytes and_then λ a. group_at 9 a.1 and_then λ b. Some (a.0 ++ b.0, b.1)) ≡ front_at d bytes
 unfolding front_at nines_at
-front-cut d x bytes rest many few some none =
-    let one : d / 9 ≡ 1 = omega arith in
-    let whole : front_at d bytes ≡ None = rw (← some, one, ← none) refl in
-    sym whole
+front-two d bytes many few = let one : d / 9 ≡ 1 = omega arith in rw one (simp (and_then_assoc, append-nil))
 
 pub front-short : (d x : ℕ) (bytes rest : List ℕ) → d < 9 → Some (digits_of (d % 9) x, rest) ≡ group_at (d % 9) bytes → Some (digits_of d x, rest) ≡ front_at d bytes
 unfolding front_at nines_at
 front-short d x bytes rest few some =
     let len : d % 9 ≡ d = omega arith in
     let none : d / 9 ≡ 0 = omega arith in
-    let whole : front_at d bytes ≡ Some (digits_of (d % 9) x ++ [], rest) = rw (← some, none) refl in
-    sym (whole ∙ ap (λ (ds : List ℕ). Some (ds, rest)) (append-nil (digits_of (d % 9) x) ∙ ap (λ (k : ℕ). digits_of k x) len))
+    rw (← some, none) (ap (λ (ds : List ℕ). Some (ds, rest)) (sym (append-nil (digits_of (d % 9) x) ∙ ap (λ (k : ℕ). digits_of k x) len)))
 
 pub front-long : (d x y : ℕ) (bytes middle rest : List ℕ) → 9 ≤ d → d ≤ 17 → y < 10 ^ 9 → Some (digits_of (d % 9) x, middle) ≡ group_at (d % 9) bytes → Some (digits_of 9 y, rest) ≡ group_at 9 middle
     → Some (digits_of d (x * 10 ^ 9 + y), rest) ≡ front_at d bytes
-unfolding front_at nines_at
 front-long d x y bytes middle rest many few small first last =
-    let one : d / 9 ≡ 1 = omega arith in
-    let all : d % 9 + 9 ≡ d = omega arith in
-    let whole : front_at d bytes ≡ Some (digits_of (d % 9) x ++ (digits_of 9 y ++ []), rest) = rw (← first, one, ← last) refl in
-    let digits : digits_of (d % 9) x ++ (digits_of 9 y ++ []) ≡ digits_of d (x * 10 ^ 9 + y) =
-    ap (λ (ds : List ℕ). digits_of (d % 9) x ++ ds) (append-nil (digits_of 9 y)) ∙ sym (digits_of-joined (d % 9) 9 x y small) ∙ ap (λ (k : ℕ). digits_of k (x * 10 ^ 9 + y)) all in
-    sym (whole ∙ ap (λ (ds : List ℕ). Some (ds, rest)) digits)
+    ap (λ (ds : List ℕ). Some (ds, rest)) (two_groups (d % 9) 9 d x y (omega arith) small) ∙ goes_on (group_at 9 middle) (digits_of 9 y, rest) _ _ last (goes_on (group_at (d % 9) bytes) (digits_of (d % 9) x, middle) _ _ first (front-two d bytes many few))
 
 -- ---- the digits behind the point
 
+pub behind-two : (d : ℕ) (bytes : List ℕ) → 9 ≤ d → d ≤ 17 → (group_at 9 bytes and_then λ a. group_at (d % 9) a.1 and_then λ b. Some (a.0 ++ b.0)) ≡ behind_at d bytes
+unfolding behind_at nines_at
+behind-two d bytes many few = let one : d / 9 ≡ 1 = omega arith in rw one (simp (and_then_assoc, append-nil))
+
 pub behind-short : (d : ℕ) (bytes rest : List ℕ) (read : Option ℕ) → d < 9 → option_map (λ (n : ℕ). (digits_of (d % 9) n, rest)) read ≡ group_at (d % 9) bytes → option_map (digits_of d) read ≡ behind_at d bytes
 unfolding behind_at nines_at
-behind-short d bytes rest read few is =
-    let len : d % 9 ≡ d = omega arith in
-    let none : d / 9 ≡ 0 = omega arith in
-    let whole : behind_at d bytes ≡ (group_at (d % 9) bytes and_then λ b. Some b.0) = rw none refl in
-    by_read read is whole
+behind-short d bytes rest read few is = let none : d / 9 ≡ 0 = omega arith in rw (none, ← is) (by_read read)
   where
-    by_read : (r : Option ℕ) → option_map (λ (n : ℕ). (digits_of (d % 9) n, rest)) r ≡ group_at (d % 9) bytes → behind_at d bytes ≡ (group_at (d % 9) bytes and_then λ b. Some b.0) → option_map (digits_of d) r ≡ behind_at d bytes
-    by_read None is whole = sym (whole ∙ ap (λ (o : Option (List ℕ × List ℕ)). o and_then λ b. Some b.0) (sym is))
-    by_read (Some n) is whole =
-        let len : d % 9 ≡ d = omega arith in
-        sym (whole ∙ ap (λ (o : Option (List ℕ × List ℕ)). o and_then λ b. Some b.0) (sym is) ∙ ap (λ (k : ℕ). Some (digits_of k n)) len)
-
-pub behind-none : (d : ℕ) (bytes : List ℕ) → 9 ≤ d → d ≤ 17 → None ≡ group_at 9 bytes → None ≡ behind_at d bytes
-unfolding behind_at nines_at
-behind-none d bytes many few none =
-    let one : d / 9 ≡ 1 = omega arith in
-    let whole : behind_at d bytes ≡ None = rw (one, ← none) refl in
-    sym whole
-
-pub behind-cut : (d x : ℕ) (bytes rest : List ℕ) → 9 ≤ d → d ≤ 17 → Some (digits_of 9 x, rest) ≡ group_at 9 bytes → None ≡ group_at (d % 9) rest → None ≡ behind_at d bytes
-unfolding behind_at nines_at
-behind-cut d x bytes rest many few some none =
-    let one : d / 9 ≡ 1 = omega arith in
-    let whole : behind_at d bytes ≡ None = rw (one, ← some, ← none) refl in
-    sym whole
+    by_read : (r : Option ℕ) → option_map (digits_of d) r ≡ (option_map {U = List ℕ × List ℕ} (λ n. (digits_of (d % 9) n, rest)) r and_then λ b. Some b.0)
+    by_read None = refl
+    by_read (Some n) = let len : d % 9 ≡ d = omega arith in ap (λ (k : ℕ). Some (digits_of k n)) (sym len)
 
 pub behind-long : (d x y : ℕ) (bytes middle rest : List ℕ) → 9 ≤ d → d ≤ 17 → y < 10 ^ (d % 9) → Some (digits_of 9 x, middle) ≡ group_at 9 bytes → Some (digits_of (d % 9) y, rest) ≡ group_at (d % 9) middle
     → Some (digits_of d (x * 10 ^ (d % 9) + y)) ≡ behind_at d bytes
-unfolding behind_at nines_at
 behind-long d x y bytes middle rest many few small first last =
-    let one : d / 9 ≡ 1 = omega arith in
-    let all : 9 + d % 9 ≡ d = omega arith in
-    let whole : behind_at d bytes ≡ Some ((digits_of 9 x ++ []) ++ digits_of (d % 9) y) = rw (one, ← first, ← last) refl in
-    let digits : (digits_of 9 x ++ []) ++ digits_of (d % 9) y ≡ digits_of d (x * 10 ^ (d % 9) + y) =
-    ap (λ (ds : List ℕ). ds ++ digits_of (d % 9) y) (append-nil (digits_of 9 x)) ∙ sym (digits_of-joined 9 (d % 9) x y small) ∙ ap (λ (k : ℕ). digits_of k (x * 10 ^ (d % 9) + y)) all in
-    sym (whole ∙ ap (λ (ds : List ℕ). Some ds) digits)
+    ap (λ (ds : List ℕ). Some ds) (two_groups 9 (d % 9) d x y (omega arith) small) ∙ goes_on (group_at (d % 9) middle) (digits_of (d % 9) y, rest) _ _ last (goes_on (group_at 9 bytes) (digits_of 9 x, middle) _ _ first (behind-two d bytes many few))
 
 -- ---- all digits
 
-parts-last : (a b c : List ℕ) (read : Option (List ℕ × List ℕ)) → (read and_then λ d. Some (a ++ b ++ c ++ d.0)) ≡ ((read and_then λ d. Some (c ++ d.0)) and_then λ e. Some ((a ++ b) ++ e))
-parts-last a b c None = refl
-parts-last a b c (Some d) = ap (λ (ds : List ℕ). Some ds) (append_assoc (a ++ b) c d.0)
-
-parts-nines : (k : ℕ) (a b : List ℕ) (read : Option (List ℕ × List ℕ))
-    → (read and_then λ c. group_at k c.1 and_then λ d. Some (a ++ b ++ c.0 ++ d.0)) ≡ ((read and_then λ c. group_at k c.1 and_then λ d. Some (c.0 ++ d.0)) and_then λ e. Some ((a ++ b) ++ e))
-parts-nines k a b None = refl
-parts-nines k a b (Some c) = parts-last a b c.0 (group_at k c.1)
-
-abbrev behind_front : List ℕ → List ℕ × List ℕ → Option (List ℕ × List ℕ)
-behind_front front read = Some (front ++ read.0, read.1)
-
-parts-front : (n k : ℕ) (a : List ℕ) (read : Option (List ℕ × List ℕ))
-    → (read and_then λ b. nines_at n b.1 and_then λ c. group_at k c.1 and_then λ d. Some (a ++ b.0 ++ c.0 ++ d.0))
-    ≡ ((read and_then behind_front a) and_then λ f. (nines_at n f.1 and_then λ c. group_at k c.1 and_then λ d. Some (c.0 ++ d.0)) and_then λ e. Some (f.0 ++ e))
-parts-front n k a None = refl
-parts-front n k a (Some b) = parts-nines k a b.0 (nines_at n b.1)
-
-parts-first : (m n k : ℕ) (read : Option (List ℕ × List ℕ))
-    → (read and_then λ a. nines_at m a.1 and_then λ b. nines_at n b.1 and_then λ c. group_at k c.1 and_then λ d. Some (a.0 ++ b.0 ++ c.0 ++ d.0))
-    ≡ ((read and_then λ a. nines_at m a.1 and_then behind_front a.0) and_then λ f. (nines_at n f.1 and_then λ c. group_at k c.1 and_then λ d. Some (c.0 ++ d.0)) and_then λ e. Some (f.0 ++ e))
-parts-first m n k None = refl
-parts-first m n k (Some a) = parts-front n k a.0 (nines_at m a.1)
-
-abbrev with_behind : ℕ → List ℕ × List ℕ → Option (List ℕ)
-with_behind s f = behind_at s f.1 and_then λ e. Some (f.0 ++ e)
-
-parts-all : (p s : ℕ) (bytes : List ℕ) → digits_at p s bytes ≡ (front_at (p - s) bytes and_then with_behind s)
+pub parts-all : (p s : ℕ) (bytes : List ℕ) → (front_at (p - s) bytes and_then λ f. behind_at s f.1 and_then λ e. Some (f.0 ++ e)) ≡ digits_at p s bytes
 unfolding digits_at front_at behind_at
-parts-all p s bytes = parts-first ((p - s) / 9) (s / 9) (s % 9) (group_at ((p - s) % 9) bytes)
-
-pub parts-none : (p s : ℕ) (bytes : List ℕ) → None ≡ front_at (p - s) bytes → None ≡ digits_at p s bytes
-parts-none p s bytes none = sym (parts-all p s bytes ∙ ap (λ (o : Option (List ℕ × List ℕ)). o and_then with_behind s) (sym none))
-
-pub parts-cut : (p s : ℕ) (bytes front rest : List ℕ) → Some (front, rest) ≡ front_at (p - s) bytes → None ≡ behind_at s rest → None ≡ digits_at p s bytes
-parts-cut p s bytes front rest some none =
-    sym (parts-all p s bytes ∙ ap (λ (o : Option (List ℕ × List ℕ)). o and_then with_behind s) (sym some) ∙ ap (λ (o : Option (List ℕ)). o and_then λ e. Some (front ++ e)) (sym none))
-
-pub parts-whole : (p s : ℕ) (bytes front rest behind : List ℕ) → Some (front, rest) ≡ front_at (p - s) bytes → Some behind ≡ behind_at s rest → Some (front ++ behind) ≡ digits_at p s bytes
-parts-whole p s bytes front rest behind some last =
-    sym (parts-all p s bytes ∙ ap (λ (o : Option (List ℕ × List ℕ)). o and_then with_behind s) (sym some) ∙ ap (λ (o : Option (List ℕ)). o and_then λ e. Some (front ++ e)) (sym last))
+parts-all p s bytes = simp (and_then_assoc, append_assoc)
 
 -- ---- the whole decimal
 

@@ -1,20 +1,14 @@
 -- What extent_len finds is a text, and the only one.
-use Rattle.std.proofs.Common.{◌≡◌, ℕ, ◌+◌, ◌≤◌, Bool, true, false, cond, leb, List, ◌++◌, length, take, drop, Option, Some, None, refl, sym, ap, ◌∙◌, arith}
+use Rattle.std.proofs.Common.{◌≡◌, ℕ, ◌+◌, ◌≤◌, true, cond, leb, List, ◌++◌, length, take, drop, Some, None, sym, ap, ◌∙◌, arith}
 use Rattle.std.proofs.lemmas.Bool.{leb-true, le-leb}
 use Rattle.std.proofs.lemmas.List.{take-append-drop, length-append, length-take}
+use Rattle.std.proofs.lemmas.Option.{same_Some}
 use Rattle.byteorder.specs.Endian.{little_number}
 use Rattle.byteorder.specs.Numbers.{little_from-append}
 use Rattle.binlog_table.specs.declared.extent.Extent.{Extent}
 use Rattle.binlog_table.specs.declared.extent.Extent.TheVariants.{Fixed, Prefixed}
 use Rattle.binlog_table.specs.Extent.{HasExtent, extent_len}
-
--- a guard that let a value through
-pub guarded : {A : Type 0} (b : Bool) (o : Option A) (y : A) → cond b o None ≡ Some y → (b ≡ true) × (o ≡ Some y)
-guarded true o y e = (refl, e)
-guarded false o y e = absurd cc
-
-pub some_is : {A : Type 0} (x y : A) → ◌≡◌ {A = Option A} (Some x) (Some y) → x ≡ y
-some_is x y e = cc
+use Rattle.binlog_table.proofs.Options.{guarded}
 
 -- the number at the front of a part is that at the front of the whole
 pub little-take : (w n : ℕ) (bytes : List ℕ) → w ≤ n → n ≤ length bytes → little_number w (take n bytes) ≡ little_number w bytes
@@ -26,7 +20,7 @@ unfolding extent_len
 extent_len-found (Fixed m) bytes n e =
     let g = guarded (leb m (length bytes)) (Some m) n e in
     let le : m ≤ length bytes = leb-true _ _ g.0 in
-    let same : m ≡ n = some_is m n g.1 in
+    let same : m ≡ n = same_Some m n g.1 in
     (omega arith, omega (arith, length-take n bytes))
 extent_len-found (Prefixed w) bytes n e =
     let whole = w + little_number w bytes in
@@ -34,7 +28,7 @@ extent_len-found (Prefixed w) bytes n e =
     let h = guarded (leb whole (length bytes)) (Some whole) n g.1 in
     let le : w ≤ length bytes = leb-true _ _ g.0 in
     let le' : whole ≤ length bytes = leb-true _ _ h.0 in
-    let same : whole ≡ n = some_is whole n h.1 in
+    let same : whole ≡ n = same_Some whole n h.1 in
     let front = little-take w n bytes (omega arith) (omega arith) in
     (omega arith, (omega (arith, length-take n bytes), omega (arith, length-take n bytes)))
 

@@ -1,25 +1,19 @@
 -- What is read from the front is spelled there, and what is spelled there is read.
-use Rattle.std.proofs.Common.{◌≡◌, ℕ, ◌+◌, ◌≤◌, Bool, true, false, cond, leb, List, [], ◌∷◌, ◌++◌, length, take, drop, Option, Some, None, option_map, option_and_then, refl, sym, ap, subst, ◌∙◌, append_assoc, arith}
+use Rattle.std.proofs.Common.{◌≡◌, ℕ, ◌+◌, ◌≤◌, Bool, true, false, cond, leb, List, [], ◌∷◌, ◌++◌, length, take, drop, Option, Some, option_map, refl, sym, ap, subst, ◌∙◌, append_assoc, arith}
 use Rattle.std.proofs.Math.Seq.{take-add}
 use Rattle.std.proofs.lemmas.Bool.{leb-true, le-leb}
 use Rattle.std.proofs.lemmas.List.{take_at, drop_at, length-append, length-take, length-drop}
+use Rattle.std.proofs.lemmas.Option.{same_Some}
 use Rattle.binlog_table.specs.declared.column.Column.{Column}
 use Rattle.binlog_table.specs.Extent.{extent_of, extent_len}
 use Rattle.binlog_table.specs.Value.{Content, absent, null, value_of}
 use Rattle.binlog_table.specs.Image.{Spells, IsCell, bit, value_at, cell_at, cells_at, after_cell, AreCells, IsImage, image_at, nulls_len}
-use Rattle.binlog_table.proofs.Extents.{extent_len-found, extent_len-only, guarded, some_is}
-
-pub and_then_ok : {A B : Type 0} (o : Option A) (f : A → Option B) (y : B) → option_and_then f o ≡ Some y → (x : A) × (o ≡ Some x) × (f x ≡ Some y)
-and_then_ok None f y e = absurd cc
-and_then_ok (Some x) f y e = (x, refl, e)
-
-pub map_ok : {A B : Type 0} (o : Option A) (f : A → B) (y : B) → option_map f o ≡ Some y → (x : A) × (o ≡ Some x) × (f x ≡ y)
-map_ok None f y e = absurd cc
-map_ok (Some x) f y e = (x, refl, cc)
+use Rattle.binlog_table.proofs.Extents.{extent_len-found, extent_len-only}
+use Rattle.binlog_table.proofs.Options.{and_then_ok, map_ok, guarded}
 
 nothing-found : (c : Content) (bytes : List ℕ) (d : Content) (n : ℕ) → ◌≡◌ {A = Option (Content × ℕ)} (Some (c, 0)) (Some (d, n)) → (n ≤ length bytes) × ((d ≡ c) × (take n bytes ≡ []))
 nothing-found c bytes d n e =
-    let same = some_is (c, 0) (d, n) e in
+    let same = same_Some (c, 0) (d, n) e in
     subst (λ (x : Content × ℕ). (x.1 ≤ length bytes) × ((x.0 ≡ c) × (take x.1 bytes ≡ []))) same (omega arith, (refl, refl))
 
 -- the reading takes the front n bytes, and these are spelled so
@@ -54,7 +48,7 @@ pub cells_at-found : (types : List Column) (present nulls : List ℕ) (i k : ℕ
     → (n ≤ length bytes) × AreCells types present nulls i k cells (take n bytes)
 unfolding cells_at
 cells_at-found [] present nulls i k bytes cells n e =
-    let same : ◌≡◌ {A = List Content × ℕ} ([], 0) (cells, n) = some_is ([], 0) (cells, n) e in
+    let same : ◌≡◌ {A = List Content × ℕ} ([], 0) (cells, n) = same_Some ([], 0) (cells, n) e in
     subst (λ (x : List Content × ℕ). (x.1 ≤ length bytes) × AreCells [] present nulls i k x.0 (take x.1 bytes)) same (omega arith, refl)
 cells_at-found (t ∷ ts) present nulls i k bytes cells n e =
     let next = cells_at ts present nulls (i + 1) (cond (bit present i) (k + 1) k) in
@@ -99,10 +93,15 @@ image_at-only types present text rest cells h =
     let len : nulls_len present (length types) + length values ≡ length text = rw h.2 (omega (arith, h.3, length-append nulls values)) in
     rw (le, whole, ← h.3, take_at nulls (values ++ rest) (length nulls) refl, drop_at nulls (values ++ rest) (length nulls) refl, cells_at-only types present nulls 0 0 values rest cells h.4, h.3, len) refl
 
--- No image begins another.
+-- what one text spells, no other text spells that begins alike
+apart : {A : Type 0} (read : List ℕ → Option (A × ℕ)) (v w : A) (a b x y : List ℕ) → read (a ++ x) ≡ Some (v, length a) → read (b ++ y) ≡ Some (w, length b) → a ++ x ≡ b ++ y → (v ≡ w) × (a ≡ b)
+apart {A = A} read v w a b x y p q e =
+    let pair = same_Some (v, length a) (w, length b) (sym p ∙ ap read e ∙ q) in
+    let len : length a ≡ length b = ap (λ (z : A × ℕ). z.1) pair in
+    (ap (λ (z : A × ℕ). z.0) pair, sym (take_at a x (length a) refl) ∙ ap (take (length a)) e ∙ take_at b y (length a) (sym len))
+
+pub values-apart : (column : Column) (a b x y : List ℕ) (v w : Content) → Spells column v a → Spells column w b → a ++ x ≡ b ++ y → (v ≡ w) × (a ≡ b)
+values-apart column a b x y v w p q e = apart (value_at column) v w a b x y (value_at-only column a x v p) (value_at-only column b y w q) e
+
 pub images-apart : (types : List Column) (present a b x y : List ℕ) (cs ds : List Content) → IsImage types present cs a → IsImage types present ds b → a ++ x ≡ b ++ y → (cs ≡ ds) × (a ≡ b)
-images-apart types present a b x y cs ds p q e =
-    let same : Some (cs, length a) ≡ Some (ds, length b) = sym (image_at-only types present a x cs p) ∙ ap (image_at types present) e ∙ image_at-only types present b y ds q in
-    let pair = some_is (cs, length a) (ds, length b) same in
-    let len : length a ≡ length b = ap (λ (z : List Content × ℕ). z.1) pair in
-    (ap (λ (z : List Content × ℕ). z.0) pair, sym (take_at a x (length a) refl) ∙ ap (take (length a)) e ∙ take_at b y (length a) (sym len))
+images-apart types present a b x y cs ds p q e = apart (image_at types present) cs ds a b x y (image_at-only types present a x cs p) (image_at-only types present b y ds q) e

@@ -1,3 +1,4 @@
+pub mod Options
 pub mod DecimalGroups
 pub mod DecimalParts
 pub mod PlainBytes
@@ -13,7 +14,6 @@ pub mod FirstFaults
 pub mod FieldLoop
 pub mod Prepended
 pub mod ColumnLoop
-pub mod NameLoop
 pub mod NameOrders
 pub mod PackedNumbers
 pub mod KeyLoop
@@ -23,11 +23,9 @@ pub mod MapBodies
 pub mod OnlyBadMap
 pub mod RowsBodies
 pub mod AllRows
-pub mod RowSteps
 pub mod CellCounts
 pub mod Cursor
 pub mod DecimalDigitLists
 pub mod MapSteps
-pub mod OneReading
 pub mod MapListReadings
 pub mod ValueNameReadings

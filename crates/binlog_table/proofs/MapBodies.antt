@@ -1,5 +1,5 @@
 -- What is read of a table map's body is spelled so, and what is spelled so is read.
-use Rattle.std.proofs.Common.{◌≡◌, ℕ, zero, suc, ◌+◌, ◌/◌, ◌<◌, ◌≤◌, Bool, true, false, cond, leb, ltb, eqb, List, [], ◌∷◌, ◌++◌, length, get_or, take, drop, Option, Some, None, Result, Ok, Err, refl, sym, ap, subst, ◌∙◌, append_assoc, arith}
+use Rattle.std.proofs.Common.{◌≡◌, ℕ, zero, suc, ◌+◌, ◌/◌, ◌<◌, ◌≤◌, true, false, cond, leb, ltb, eqb, List, [], ◌∷◌, ◌++◌, length, get_or, take, drop, Result, Ok, Err, refl, sym, ap, subst, ◌∙◌, append_assoc, arith}
 use Rattle.std.proofs.lemmas.Bool.{leb-true, le-leb, ltb-true, lt-ltb, ltb-false, le-ltb, eqb-true}
 use Rattle.std.proofs.lemmas.List.{take-append-drop, take_at, drop_at, length-append, length-take-le, drop_more, get_or_at, length_push}
 use Rattle.byteorder.specs.Endian.{little_number}
@@ -13,7 +13,7 @@ use Rattle.binlog_table.specs.Fields.{Fields, no_fields, is_utf8, bytes_at, numb
 use Rattle.binlog_table.specs.Map.{Sections, counted, sections_after, sections_at}
 use Rattle.binlog_table.specs.MapBody.{IsString, IsName, AreFields, collected, IsMapBody}
 use Rattle.binlog_table.proofs.Extents.{little-take}
-use Rattle.binlog_table.proofs.FieldLoop.{bind_ok}
+use Rattle.binlog_table.proofs.FirstFaults.{bind_ok, bind_then, bind_known, bind_same, ok_same, guarded_ok, refused_ok, or_bad-ok}
 use Rattle.binlog_table.proofs.PackedNumbers.{packed_at-found, packed_at-only}
 
 -- ---- numbers, strings and names: what is taken and what is left
@@ -21,31 +21,21 @@ use Rattle.binlog_table.proofs.PackedNumbers.{packed_at-found, packed_at-only}
 pub number-found : (bytes : List ℕ) (x : ℕ × List ℕ) → number_at bytes ≡ Ok x → (text : List ℕ) × IsPacked x.0 text × (bytes ≡ text ++ x.1)
 unfolding number_at
 number-found bytes x e =
-    let a = bind_ok (or_bad (packed_at bytes)) (λ p. Ok (p.0, drop p.1 bytes)) x e in
-    let some = or_bad-ok (packed_at bytes) a.0 a.1 in
-    let f = packed_at-found bytes a.0.0 a.0.1 some in
-    subst (λ (y : ℕ × List ℕ). (text : List ℕ) × IsPacked y.0 text × (bytes ≡ text ++ y.1)) (ok_is (a.0.0, drop a.0.1 bytes) x a.2) (take a.0.1 bytes, f.1, sym (take-append-drop a.0.1 bytes))
-  where
-    or_bad-ok : (o : Option (ℕ × ℕ)) (p : ℕ × ℕ) → or_bad o ≡ Ok p → o ≡ Some p
-    or_bad-ok None p e = absurd cc
-    or_bad-ok (Some q) p e = let same : q ≡ p = cc in ap Some same
-
-    ok_is : (p q : ℕ × List ℕ) → ◌≡◌ {A = Result (ℕ × List ℕ) MapFault} (Ok p) (Ok q) → p ≡ q
-    ok_is p q e = cc
+    bind_then (or_bad (packed_at bytes)) _ x e (λ p e1 k1. subst (λ (y : ℕ × List ℕ). (text : List ℕ) × IsPacked y.0 text × (bytes ≡ text ++ y.1)) (ok_same (p.0, drop p.1 bytes) x k1)
+    (take p.1 bytes, (packed_at-found bytes p.0 p.1 (or_bad-ok (packed_at bytes) p e1)).1, sym (take-append-drop p.1 bytes)))
 
 pub number-only : (n : ℕ) (text rest : List ℕ) → IsPacked n text → number_at (text ++ rest) ≡ Ok (n, rest)
 unfolding number_at
 number-only n text rest h = rw (packed_at-only n text rest h, drop_at text rest (length text) refl) refl
 
+pub packed-some : (n : ℕ) (text : List ℕ) → IsPacked n text → 0 < length text
+packed-some n [] h = absurd h
+packed-some n (b ∷ bs) h = omega arith
+
 bytes-found : (n : ℕ) (bytes : List ℕ) (x : List ℕ × List ℕ) → bytes_at n bytes ≡ Ok x → (length x.0 ≡ n) × (bytes ≡ x.0 ++ x.1)
-bytes-found n bytes x e = by_test (leb n (length bytes)) refl e
-  where
-    by_test : (b : Bool) → leb n (length bytes) ≡ b → cond b (Ok (take n bytes, drop n bytes)) (Err BadMap) ≡ Ok x → (length x.0 ≡ n) × (bytes ≡ x.0 ++ x.1)
-    by_test true t e =
-        let le : n ≤ length bytes = leb-true _ _ t in
-        let same : (take n bytes, drop n bytes) ≡ x = cc in
-        subst (λ (y : List ℕ × List ℕ). (length y.0 ≡ n) × (bytes ≡ y.0 ++ y.1)) same (length-take-le n bytes le, sym (take-append-drop n bytes))
-    by_test false t e = absurd cc
+bytes-found n bytes x e =
+    let g = guarded_ok (leb n (length bytes)) _ x e in
+    subst (λ (y : List ℕ × List ℕ). (length y.0 ≡ n) × (bytes ≡ y.0 ++ y.1)) (ok_same (take n bytes, drop n bytes) x g.1) (length-take-le n bytes (leb-true _ _ g.0), sym (take-append-drop n bytes))
 
 pub bytes-only : (text rest : List ℕ) → bytes_at (length text) (text ++ rest) ≡ Ok (text, rest)
 bytes-only text rest =
@@ -70,9 +60,7 @@ string-only s text rest h =
 
 pub fields-found : (fuel : ℕ) (f : Fields) (bytes : List ℕ) (g : Fields) → length bytes ≤ fuel → fields_from fuel f bytes ≡ Ok g → (fs : List (ℕ × List ℕ)) × AreFields fs bytes × (collected f fs ≡ Ok g)
 unfolding fields_from
-fields-found zero f [] g h e = ([], refl, e)
 fields-found zero f (t ∷ bytes) g h e = absurd (omega arith)
-fields-found (suc n) f [] g h e = ([], refl, e)
 fields-found (suc n) f (t ∷ bytes) g h e =
     let a = bind_ok (string_at bytes) (λ v. with_field f t v.0 >>= λ x. fields_from n x v.1) g e in
     let b = bind_ok (with_field f t a.0.0) (λ x. fields_from n x a.0.1) g a.2 in
@@ -81,6 +69,7 @@ fields-found (suc n) f (t ∷ bytes) g h e =
     let others = fields-found n b.0 a.0.1 g short b.2 in
     let put : collected f ((t, a.0.0) ∷ others.0) ≡ Ok g = ap (λ (r : Result Fields MapFault). r >>= λ x. collected x others.0) b.1 ∙ others.2 in
     ((t, a.0.0) ∷ others.0, (s.0, a.0.1, ap (λ (x : List ℕ). t ∷ x) s.2, s.1, others.1), put)
+fields-found _ f _ g h e = ([], refl, e)
 
 pub fields-only : (fuel : ℕ) (f : Fields) (fs : List (ℕ × List ℕ)) (bytes : List ℕ) → length bytes ≤ fuel → AreFields fs bytes → fields_from fuel f bytes ≡ collected f fs
 unfolding fields_from
@@ -89,34 +78,18 @@ fields-only (suc n) f [] bytes h a = rw a refl
 fields-only zero f (x ∷ xs) bytes h a = absurd (omega (arith, ap length a.2))
 fields-only (suc n) f (x ∷ xs) bytes h a =
     let short : length a.1 ≤ n = omega (arith, ap length a.2, length-append a.0 a.1) in
-    rw (a.2, string-only x.1 a.0 a.1 a.3) (then_same (with_field f x.0 x.1) (λ g. fields-only n g xs a.1 short a.4))
-  where
-    then_same : (r : Result Fields MapFault) → ((g : Fields) → fields_from n g a.1 ≡ collected g xs) → (r >>= λ g. fields_from n g a.1) ≡ (r >>= λ g. collected g xs)
-    then_same (Ok g) h = h g
-    then_same (Err e) h = refl
+    rw (a.2, string-only x.1 a.0 a.1 a.3) (bind_same (with_field f x.0 x.1) _ _ (λ g is. fields-only n g xs a.1 short a.4))
 
 -- ---- names
-
-guarded_ok : {A : Type 0} (b : Bool) (r : Result A MapFault) (y : A) → cond b r (Err BadMap) ≡ Ok y → (b ≡ true) × (r ≡ Ok y)
-guarded_ok true r y e = (refl, e)
-guarded_ok false r y e = absurd cc
-
-refused_ok : {A : Type 0} (b : Bool) (r : Result A MapFault) (y : A) → cond b (Err BadMap) r ≡ Ok y → (b ≡ false) × (r ≡ Ok y)
-refused_ok true r y e = absurd cc
-refused_ok false r y e = (refl, e)
-
-pair_ok : {A : Type 0} (p q : A) → ◌≡◌ {A = Result A MapFault} (Ok p) (Ok q) → p ≡ q
-pair_ok p q e = cc
 
 pub name-found : (bytes : List ℕ) (x : List ℕ × List ℕ) → name_at bytes ≡ Ok x → (text : List ℕ) × IsName x.0 text × (bytes ≡ text ++ x.1)
 unfolding name_at
 name-found [] x e = absurd cc
 name-found (n ∷ bs) x e =
-    let made : Result (List ℕ × List ℕ) MapFault = Ok (take n bs, drop (n + 1) bs) in
-    let a = guarded_ok (leb n 250) (cond (ltb n (length bs)) (cond (eqb (get_or bs n 0) 0) (cond (is_utf8 (take n bs)) made (Err BadMap)) (Err BadMap)) (Err BadMap)) x e in
-    let b = guarded_ok (ltb n (length bs)) (cond (eqb (get_or bs n 0) 0) (cond (is_utf8 (take n bs)) made (Err BadMap)) (Err BadMap)) x a.1 in
-    let c = guarded_ok (eqb (get_or bs n 0) 0) (cond (is_utf8 (take n bs)) made (Err BadMap)) x b.1 in
-    let d = guarded_ok (is_utf8 (take n bs)) made x c.1 in
+    let a = guarded_ok (leb n 250) _ x e in
+    let b = guarded_ok (ltb n (length bs)) _ x a.1 in
+    let c = guarded_ok (eqb (get_or bs n 0) 0) _ x b.1 in
+    let d = guarded_ok (is_utf8 (take n bs)) _ x c.1 in
     let le : n ≤ 250 = leb-true _ _ a.0 in
     let lt : n < length bs = ltb-true _ _ b.0 in
     let zero_is : get_or bs n 0 ≡ 0 = eqb-true _ _ c.0 in
@@ -124,7 +97,7 @@ name-found (n ∷ bs) x e =
     let back : drop n bs ≡ 0 ∷ drop (n + 1) bs = drop_more bs n 0 lt ∙ ap (λ (z : ℕ). z ∷ drop (n + 1) bs) zero_is in
     let split : bs ≡ (take n bs ++ 0 ∷ []) ++ drop (n + 1) bs = sym (take-append-drop n bs) ∙ ap (λ (t : List ℕ). take n bs ++ t) back ∙ sym (append_assoc (take n bs) (0 ∷ []) (drop (n + 1) bs)) in
     let spelled : IsName (take n bs) (n ∷ (take n bs ++ 0 ∷ [])) = (omega arith, d.0, ap (λ (m : ℕ). m ∷ (take n bs ++ 0 ∷ [])) (sym len)) in
-    subst (λ (y : List ℕ × List ℕ). (text : List ℕ) × IsName y.0 text × (n ∷ bs ≡ text ++ y.1)) (pair_ok (take n bs, drop (n + 1) bs) x d.1) (n ∷ (take n bs ++ 0 ∷ []), spelled, ap (λ (t : List ℕ). n ∷ t) split)
+    subst (λ (y : List ℕ × List ℕ). (text : List ℕ) × IsName y.0 text × (n ∷ bs ≡ text ++ y.1)) (ok_same (take n bs, drop (n + 1) bs) x d.1) (n ∷ (take n bs ++ 0 ∷ []), spelled, ap (λ (t : List ℕ). n ∷ t) split)
 
 pub name-only : (s text rest : List ℕ) → IsName s text → name_at (text ++ rest) ≡ Ok (s, rest)
 unfolding name_at
@@ -139,16 +112,11 @@ name-only s text rest h =
 
 -- ---- bodies
 
--- the value of a step that did not fail, as a variable
-bind_then : {A B P : Type 0} (r : Result A MapFault) (f : A → Result B MapFault) (y : B) → (r >>= f) ≡ Ok y → ((x : A) → r ≡ Ok x → f x ≡ Ok y → P) → P
-bind_then (Ok x) f y e k = k x refl e
-bind_then (Err d) f y e k = absurd cc
-
 counted-found : (n m : ℕ) → counted n ≡ Ok m → (n ≡ m) × (1 ≤ m) × (m ≤ 4096)
 counted-found n m e =
     let a = refused_ok (ltb n 1) (cond (ltb 4096 n) (Err BadMap) (Ok n)) m e in
     let b = refused_ok (ltb 4096 n) (Ok n) m a.1 in
-    let same : n ≡ m = pair_ok n m b.1 in
+    let same : n ≡ m = ok_same n m b.1 in
     (same, omega (arith, ltb-false _ _ a.0), omega (arith, ltb-false _ _ b.0))
 
 counted-only : (n : ℕ) → 1 ≤ n → n ≤ 4096 → counted n ≡ Ok n
@@ -177,7 +145,7 @@ sections_after-found id head bytes p eight is e =
     let a7 = bytes-found ((count + 7) / 8) metadata.1 nulls e7 in
     let a8 = fields-found (length nulls.1) no_fields nulls.1 fields (omega arith) e8 in
     let len : n.0 ≡ length types.0 = a4.0 ∙ sym a5.0 in
-    subst (λ (q : Sections). IsMapBody q (head ++ bytes)) (pair_ok (record { table_id = id; schema = schema.0; table = table.0; types = types.0; metadata = metadata.0; fields = fields }) p k8) (record {
+    subst (λ (q : Sections). IsMapBody q (head ++ bytes)) (ok_same (record { table_id = id; schema = schema.0; table = table.0; types = types.0; metadata = metadata.0; fields = fields }) p k8) (record {
       head = head;
       schema = a1.0;
       table = a2.0;
@@ -207,10 +175,6 @@ sections-found body p e =
     let is : little_number 6 body ≡ little_number 6 (take 8 body) = sym (little-take 6 8 body (omega arith) le) in
     subst (IsMapBody p) (take-append-drop 8 body) (sections_after-found (little_number 6 body) (take 8 body) (drop 8 body) p (length-take-le 8 body le) is a.1)
 
--- a step that is known
-bind_known : {A B : Type 0} (r : Result A MapFault) (f : A → Result B MapFault) (x : A) (y : Result B MapFault) → r ≡ Ok x → f x ≡ y → (r >>= f) ≡ y
-bind_known {A = A} r f x y e h = ap (λ (s : Result A MapFault). s >>= f) e ∙ h
-
 pub sections_after-only : (p : Sections) (body : List ℕ) (b : IsMapBody p body) → sections_after p.table_id (b.schema ++ (b.table ++ (b.count ++ (p.types ++ (b.metadata ++ (b.nulls ++ b.fields)))))) ≡ Ok p
 unfolding sections_after
 sections_after-only p body b =
@@ -233,3 +197,6 @@ sections-only p body b =
     let id : little_number 6 (b.head ++ rest) ≡ p.table_id = little_from-append 6 b.head rest (omega (arith, b.head_len)) ∙ sym b.table_id in
     let left : drop 8 (b.head ++ rest) ≡ rest = drop_at b.head rest 8 b.head_len in
     ap sections_at b.whole ∙ rw (long, id, left) (sections_after-only p body b)
+
+pub sections-one : (s t : Sections) (body : List ℕ) → IsMapBody s body → IsMapBody t body → s ≡ t
+sections-one s t body h k = ok_same s t (sym (sections-only s body h) ∙ sections-only t body k)

@@ -1,6 +1,6 @@
 -- Names with their columns, and their order.
 use Rattle.std.proofs.Common.{◌≡◌, ℕ, zero, suc, ◌+◌, ◌-◌, ◌<◌, Bool, true, false, List, [], ◌∷◌, ◌++◌, length, get_or, take, map, Bor, Decides, refl, sym, ap, subst, ◌∙◌, add-one, arith}
-use Rattle.std.specs.Prelude.{not, ◌&&◌, ◌||◌}
+use Rattle.std.specs.Prelude.{not}
 use Rattle.std.specs.List.{All, AllByRecursion, IsDistinct, range_with_len}
 use Rattle.std.specs.List.Sorted.{IsPermutation, IsStrictlySortedBy}
 use Rattle.std.specs.Cmp.Lexicographic.{slice_cmp}
@@ -8,6 +8,8 @@ use Rattle.std.specs.declared.cmp.Ordering.{Ordering}
 use Rattle.std.specs.declared.cmp.Ordering.TheVariants.{Less, Equal, Greater}
 use Rattle.std.specs.Ordering.{nat_cmp, is_lt, is_eq, ordering_then, ordering_reverse}
 use Rattle.std.specs.Str.{bytes_eq}
+use Rattle.std.proofs.lemmas.Bool.{true≢false, and_parts, or_parts, not-true, false_from_ne_true}
+use Rattle.std.proofs.lemmas.Bool.Decides.{same_from_decides}
 use Rattle.std.proofs.lemmas.Cmp.{nat_list_cmp_total}
 use Rattle.std.proofs.lemmas.List.{take_more, map_push, get_or-map, length-map}
 use Rattle.std.proofs.lemmas.List.Elements.{All-push}
@@ -44,8 +46,7 @@ entry_cmp x y = ordering_then (slice_cmp nat_cmp (name_in x) (name_in y)) (nat_c
 
 first-not_lt : (a b : Ordering) → is_lt (ordering_then a b) ≡ false → is_lt a ≡ false
 first-not_lt Less b h = h
-first-not_lt Equal b h = refl
-first-not_lt Greater b h = refl
+first-not_lt _ b h = refl
 
 pub sorted-from : (names : List (List ℕ)) (old new : List Entry) → AreNumbered names (length names) old → IsPermutation old new
     → ((k : ℕ) (d : Entry) → k + 1 < length new → is_lt (entry_cmp (get_or new (k + 1) d) (get_or new k d)) ≡ false) → AreSorted names new
@@ -71,21 +72,11 @@ bytes_eq-same : (x : List ℕ) → bytes_eq x x ≡ true
 bytes_eq-same x = (bytes_eq-Decides x x).1 refl
 
 bytes_eq-flips : (x y : List ℕ) → bytes_eq x y ≡ bytes_eq y x
-bytes_eq-flips x y = by_tests (bytes_eq x y) (bytes_eq y x) refl refl
-  where
-    by_tests : (a b : Bool) → bytes_eq x y ≡ a → bytes_eq y x ≡ b → a ≡ b
-    by_tests true true p q = refl
-    by_tests false false p q = refl
-    by_tests true false p q = sym ((bytes_eq-Decides y x).1 (sym ((bytes_eq-Decides x y).0 p))) ∙ q
-    by_tests false true p q = sym p ∙ (bytes_eq-Decides x y).1 (sym ((bytes_eq-Decides y x).0 q))
+bytes_eq-flips x y = let other = bytes_eq-Decides y x in same_from_decides _ _ (bytes_eq-Decides x y) (λ e. sym (other.0 e), λ e. other.1 (sym e))
 
 none_among : (x : List ℕ) (ys : List (List ℕ)) → is_among x ys ≡ false → AllByRecursion (λ y. bytes_eq x y ≡ false) ys
 none_among x [] h = tt
-none_among x (y ∷ ys) h = by_test (bytes_eq x y) refl h (none_among x ys)
-  where
-    by_test : (b : Bool) → bytes_eq x y ≡ b → (b || is_among x ys) ≡ false → (is_among x ys ≡ false → AllByRecursion (λ z. bytes_eq x z ≡ false) ys) → AllByRecursion (λ z. bytes_eq x z ≡ false) (y ∷ ys)
-    by_test true e h others = absurd cc
-    by_test false e h others = (e, others h)
+none_among x (y ∷ ys) h = let both = or_parts (bytes_eq x y) (is_among x ys) h in (both.0, none_among x ys both.1)
 
 among-none : (x : List ℕ) (ys : List (List ℕ)) → AllByRecursion (λ y. bytes_eq x y ≡ false) ys → is_among x ys ≡ false
 among-none x [] h = refl
@@ -94,11 +85,7 @@ among-none x (y ∷ ys) h = rw h.0 (among-none x ys h.1)
 pub IsDistinct-from_test : (xs : List (List ℕ)) → are_distinct xs ≡ true → IsDistinct bytes_eq xs
 unfolding IsDistinct
 IsDistinct-from_test [] h = tt
-IsDistinct-from_test (x ∷ xs) h = by_test (is_among x xs) refl h (IsDistinct-from_test xs)
-  where
-    by_test : (b : Bool) → is_among x xs ≡ b → (not b && are_distinct xs) ≡ true → (are_distinct xs ≡ true → IsDistinct bytes_eq xs) → AllByRecursion (λ y. bytes_eq x y ≡ false) xs × IsDistinct bytes_eq xs
-    by_test true e h others = absurd cc
-    by_test false e h others = (none_among x xs e, others h)
+IsDistinct-from_test (x ∷ xs) h = let both = and_parts (not (is_among x xs)) (are_distinct xs) h in (none_among x xs (not-true (is_among x xs) both.0), IsDistinct-from_test xs both.1)
 
 pub test-from_IsDistinct : (xs : List (List ℕ)) → IsDistinct bytes_eq xs → are_distinct xs ≡ true
 unfolding IsDistinct
@@ -106,14 +93,10 @@ test-from_IsDistinct [] h = refl
 test-from_IsDistinct (x ∷ xs) h = rw (among-none x xs h.0) (test-from_IsDistinct xs h.1)
 
 pub repeated : (names : List (List ℕ)) (entries : List Entry) (k : ℕ) → AreSorted names entries → k + 1 < length (map name_in entries) → name_of (map name_in entries) k ≡ name_of (map name_in entries) (k + 1) → are_distinct names ≡ false
-repeated names entries k sorted lt same = by_test (are_distinct names) refl
-  where
-    by_test : (b : Bool) → are_distinct names ≡ b → b ≡ false
-    by_test false e = refl
-    by_test true e =
-        let distinct = IsDistinct-IsPermutation bytes_eq bytes_eq-flips names (map name_in entries) sorted.names_are (IsDistinct-from_test names e) in
-        let apart = apart_from_distinct bytes_eq (map name_in entries) k (k + 1) [] distinct (omega arith) lt in
-        sym (bytes_eq-same (name_of (map name_in entries) k)) ∙ ap (bytes_eq (name_of (map name_in entries) k)) same ∙ apart
+repeated names entries k sorted lt same = false_from_ne_true (are_distinct names) (λ e.
+    let distinct = IsDistinct-IsPermutation bytes_eq bytes_eq-flips names (map name_in entries) sorted.names_are (IsDistinct-from_test names e) in
+    let apart = apart_from_distinct bytes_eq (map name_in entries) k (k + 1) [] distinct (omega arith) lt in
+    true≢false (sym (bytes_eq-same (name_of (map name_in entries) k)) ∙ ap (bytes_eq (name_of (map name_in entries) k)) same ∙ apart))
 
 less-from : (a b : List ℕ) → is_lt (slice_cmp nat_cmp b a) ≡ false → (a ≡ b → ⊥) → slice_cmp nat_cmp a b ≡ Less
 less-from a b not_less differ = by_order (slice_cmp nat_cmp b a) refl not_less

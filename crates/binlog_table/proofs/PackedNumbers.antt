@@ -1,25 +1,23 @@
 -- Packed numbers that are read are spelled so, and those that are spelled so are read.
-use Rattle.std.proofs.Common.{◌≡◌, ℕ, suc, ◌+◌, ◌≤◌, cond, leb, true, List, [], ◌∷◌, ◌++◌, length, take, Option, Some, None, option_and_then, refl, sym, ap, subst, ◌∙◌, add-one, arith}
+use Rattle.std.proofs.Common.{◌≡◌, ℕ, suc, ◌+◌, ◌≤◌, cond, leb, true, List, [], ◌∷◌, ◌++◌, length, take, Some, refl, sym, ap, subst, ◌∙◌, add-one, arith}
 use Rattle.std.proofs.lemmas.Bool.{leb-true, le-leb}
 use Rattle.std.proofs.lemmas.List.{length-append, length-take}
+use Rattle.std.proofs.lemmas.Option.{same_Some}
 use Rattle.byteorder.specs.Endian.{little_number}
 use Rattle.byteorder.specs.Numbers.{little_from-append}
 use Rattle.binlog_table.specs.Packed.{packed_width, IsPacked, packed_at}
-use Rattle.binlog_table.proofs.Extents.{guarded, some_is, little-take}
-
-pub option_then_ok : {A B : Type 0} (o : Option A) (f : A → Option B) (y : B) → option_and_then f o ≡ Some y → (x : A) × (o ≡ Some x) × (f x ≡ Some y)
-option_then_ok None f y e = absurd cc
-option_then_ok (Some x) f y e = (x, refl, e)
+use Rattle.binlog_table.proofs.Extents.{little-take}
+use Rattle.binlog_table.proofs.Options.{and_then_ok, guarded}
 
 pub packed_at-found : (bytes : List ℕ) (n k : ℕ) → packed_at bytes ≡ Some (n, k) → (k ≤ length bytes) × IsPacked n (take k bytes)
 unfolding packed_at
 packed_at-found [] n k e = absurd cc
 packed_at-found (b ∷ bs) n k e =
     let number = λ (w : ℕ). cond (leb b 250) b (little_number w bs) in
-    let a = option_then_ok (packed_width b) (λ w. cond (leb w (length bs)) (Some (number w, w + 1)) None) (n, k) e in
-    let g = guarded (leb a.0 (length bs)) (Some (number a.0, a.0 + 1)) (n, k) a.2 in
+    let a = and_then_ok (packed_width b) _ (n, k) e in
+    let g = guarded (leb a.0 (length bs)) _ (n, k) a.2 in
     let le : a.0 ≤ length bs = leb-true _ _ g.0 in
-    let pair = some_is (number a.0, a.0 + 1) (n, k) g.1 in
+    let pair = same_Some (number a.0, a.0 + 1) (n, k) g.1 in
     let len : length (take a.0 bs) ≡ a.0 = omega (arith, length-take a.0 bs) in
     let same : little_number (length (take a.0 bs)) (take a.0 bs) ≡ little_number a.0 bs = ap (λ (w : ℕ). little_number w (take a.0 bs)) len ∙ little-take a.0 a.0 bs (omega arith) le in
     let spelled : IsPacked (number a.0) (b ∷ take a.0 bs) = (a.1 ∙ ap Some (sym len), ap (λ (v : ℕ). cond (leb b 250) b v) (sym same)) in

@@ -1,35 +1,18 @@
 -- The places of an image's cells, one after another.
-use Rattle.std.proofs.Common.{◌≡◌, ℕ, zero, suc, ◌+◌, ◌-◌, ◌<◌, ◌≤◌, Bool, true, false, cond, leb, List, [], ◌∷◌, ◌++◌, length, length-drop, get_or, take, drop, set, append_assoc, append-nil, Option, Some, None, slice_get, option_and_then, option_map, refl, sym, ap, subst, ◌∙◌, arith}
+use Rattle.std.proofs.Common.{◌≡◌, ℕ, zero, suc, ◌+◌, ◌-◌, ◌<◌, ◌≤◌, Bool, true, false, cond, leb, List, [], ◌∷◌, ◌++◌, length, get_or, take, drop, set, append_assoc, append-nil, Option, Some, None, slice_get, refl, sym, ap, subst, ◌∙◌, arith}
 use Rattle.std.proofs.lemmas.List.{at_drop_more, at_drop_all, drop-drop, take_all, take_more_set}
 use Rattle.binlog_table.specs.declared.column.Column.{Column}
 use Rattle.binlog_table.specs.declared.cell_places.CellPlace.{CellPlace}
-use Rattle.binlog_table.specs.Extent.{HasExtent, extent_of, extent_len}
-use Rattle.binlog_table.specs.Value.{Content, absent, null, value_of}
+use Rattle.binlog_table.specs.Value.{Content, absent, null}
 use Rattle.binlog_table.specs.declared.rows_head.Part.{Part}
-use Rattle.binlog_table.specs.Image.{bit, set_bits, value_at, cell_at, cells_at, image_at, nulls_len, cells_of, after_cell, IsRead}
+use Rattle.binlog_table.specs.Image.{Spells, bit, set_bits, value_at, cell_at, cells_at, image_at, nulls_len, cells_of, IsRead}
 use Rattle.binlog_table.specs.Rows.{image_in}
 use Rattle.binlog_table.specs.RowsBody.{part_of}
 use Rattle.std.specs.Prelude.{IsSome, is_some}
 use Rattle.binlog_table.specs.CellPlaces.{content_in, len_of, read_from, cells_from, IsPlace, ArePlaces, Fits, HasPlaces}
-use Rattle.binlog_table.proofs.CellWalk.{cells-turn, len_in, present-cell}
+use Rattle.binlog_table.proofs.CellWalk.{cells-turn, len_in, some-by_len, First, first_of_all, read_behind}
 use Rattle.binlog_table.proofs.SetBits.{bit-all_set}
-use Rattle.binlog_table.proofs.Extents.{some_is, extent_len-found}
-
--- what can be read begins with a cell that can be read
-pub record First (first : Option (Content × ℕ)) (rest : Content × ℕ → Option (List Content × ℕ)) : Type 0 where
-  pub cell : Content
-  pub len : ℕ
-  pub is : first ≡ Some (cell, len)
-  pub read : IsRead (rest (cell, len))
-  pub cells : cells_of (option_and_then (λ c. after_cell c (rest c)) first) ≡ cell ∷ cells_of (rest (cell, len))
-
-first_at : (x : Content × ℕ) (rest : Content × ℕ → Option (List Content × ℕ)) (r : Option (List Content × ℕ)) → rest x ≡ r → IsRead (after_cell x r) → First (Some x) rest
-first_at x rest None e h = absurd cc
-first_at x rest (Some r) e h = record { cell = x.0; len = x.1; is = refl; read = rw e refl; cells = rw e refl }
-
-first_of_all : (first : Option (Content × ℕ)) (rest : Content × ℕ → Option (List Content × ℕ)) → IsRead (option_and_then (λ c. after_cell c (rest c)) first) → First first rest
-first_of_all None rest h = absurd cc
-first_of_all (Some x) rest h = first_at x rest (rest x) refl h
+use Rattle.binlog_table.proofs.ImageReadings.{value_at-found}
 
 abbrev pub rest_from : List Column → ℕ → List ℕ → List ℕ → ℕ → List ℕ → Content × ℕ → Option (List Content × ℕ)
 rest_from columns i present nulls k bytes c = cells_at (drop (i + 1) columns) present nulls (i + 1) (cond (bit present i) (k + 1) k) (drop c.1 bytes)
@@ -62,7 +45,7 @@ pub present_more : (columns : List Column) (i start n : ℕ) (present nulls valu
     → Fits (drop i columns) present nulls i i start values (p ∷ more)
 present_more columns i start n present nulls values t p more is_null lt is all same value e1 e2 e3 e4 within h =
     let set : bit present i ≡ true = bit-all_set present (length columns) i lt all in
-    let cell = present-cell t present nulls (length columns) i is_null n (drop start values) lt all same value in
+    let cell : (c : Content) × (cell_at t (bit present i) (bit nulls i) (drop start values) ≡ Some (c, n)) = rw (set, ← same) (some-by_len (cell_at t true is_null (drop start values)) n value) in
     let rest = subst (λ (b : Bool). Fits (drop (i + 1) columns) present nulls (i + 1) (cond b (i + 1) i) (start + n) values more) (sym set) h in
     fits_more columns i i start n present nulls values t p more cell.0 lt is cell.1 (e1 ∙ sym set) (e2 ∙ same) e3 e4 within rest
 
@@ -88,15 +71,6 @@ fits_are (c ∷ cs) present nulls i k start values [] h = absurd h
 fits_are (c ∷ cs) present nulls i k start values (p ∷ ps) h = (h.3, fits_are cs present nulls (i + 1) (cond (bit present i) (k + 1) k) p.end values ps h.4)
 
 -- the cells at the places are those that are read one after another
-cells_first : (cell : Option (Content × ℕ)) (rest : ℕ → Option (List Content × ℕ)) → IsSome cell → IsRead (option_and_then (λ c. after_cell c (rest c.1)) cell)
-    → IsRead (rest (len_of cell)) × (cells_of (option_and_then (λ c. after_cell c (rest c.1)) cell) ≡ content_in cell ∷ cells_of (rest (len_of cell)))
-cells_first None rest h read = absurd cc
-cells_first (Some x) rest h read = after (rest x.1) read
-  where
-    after : (r : Option (List Content × ℕ)) → IsRead (after_cell x r) → IsRead r × (cells_of (after_cell x r) ≡ x.0 ∷ cells_of r)
-    after None g = absurd cc
-    after (Some l) g = (refl, refl)
-
 pub fits_same : (columns : List Column) (present nulls : List ℕ) (i k start : ℕ) (values : List ℕ) (places : List CellPlace) → IsRead (cells_at columns present nulls i k (drop start values)) → Fits columns present nulls i k start values places
     → cells_of (cells_at columns present nulls i k (drop start values)) ≡ cells_from columns values places
 unfolding cells_at
@@ -104,14 +78,11 @@ fits_same [] present nulls i k start values places read h = refl
 fits_same (c ∷ cs) present nulls i k start values [] read h = absurd h
 fits_same (c ∷ cs) present nulls i k start values (p ∷ ps) read h =
     let next = cells_at cs present nulls (i + 1) (cond (bit present i) (k + 1) k) in
-    let here : cell_at c (bit present i) (bit nulls k) (drop start values) ≡ read_from c values p = rw (h.0, h.1, h.2) refl in
-    let both = cells_first (cell_at c (bit present i) (bit nulls k) (drop start values)) (λ n. next (drop n (drop start values))) (rw here h.3.0) read in
-    let moved : next (drop (len_of (cell_at c (bit present i) (bit nulls k) (drop start values))) (drop start values)) ≡ next (drop p.end values) =
-    ap next (drop-drop (len_of (cell_at c (bit present i) (bit nulls k) (drop start values))) start values
-    ∙ ap (λ m. drop m values) (ap (λ m. start + m) (ap len_of here) ∙ ap (λ m. m + len_of (read_from c values p)) (sym h.2) ∙ sym h.3.1)) in
-    both.1 ∙ ap (λ o. content_in o ∷ cells_of (next (drop (len_of (cell_at c (bit present i) (bit nulls k) (drop start values))) (drop start values)))) here
-    ∙ ap (λ r. content_in (read_from c values p) ∷ cells_of r) moved
-    ∙ ap (λ l. content_in (read_from c values p) ∷ l) (fits_same cs present nulls (i + 1) (cond (bit present i) (k + 1) k) p.end values ps (subst IsRead moved both.0) h.4)
+    let f = first_of_all (cell_at c (bit present i) (bit nulls k) (drop start values)) (λ x. next (drop x.1 (drop start values))) read in
+    let at : read_from c values p ≡ Some (f.cell, f.len) = rw (h.0, h.1, h.2) f.is in
+    let ends : start + f.len ≡ p.end = omega (arith, h.2, h.3.1, ap len_of at) in
+    let moved : next (drop f.len (drop start values)) ≡ next (drop p.end values) = ap next (drop-drop f.len start values) ∙ ap (λ m. next (drop m values)) ends in
+    f.cells ∙ ap (λ l. f.cell ∷ l) (ap cells_of moved ∙ fits_same cs present nulls (i + 1) (cond (bit present i) (k + 1) k) p.end values ps (subst IsRead moved f.read) h.4) ∙ ap (λ o. content_in o ∷ cells_from cs values ps) (sym at)
 
 -- the place of a column, and its cell
 pub record At (columns : List Column) (values : List ℕ) (places : List CellPlace) (i : ℕ) (t : Column) (p : CellPlace) : Type 0 where
@@ -135,64 +106,20 @@ place_at (c ∷ cs) values (q ∷ ps) (suc i) t p h lt is at =
 -- the text of a value that is present and isn't null: it has the extent of its column, and means what stands there
 pub record IsText (column : Column) (values : List ℕ) (place : CellPlace) : Type 0 where
   pub cell : Content
-  pub ordered : place.start ≤ place.end
-  pub within : place.end ≤ length values
-  pub extent : HasExtent (extent_of column.layout) (take (place.end - place.start) (drop place.start values))
-  pub is : value_of column (take (place.end - place.start) (drop place.start values)) ≡ Some cell
+  pub spelled : Spells column cell (take (place.end - place.start) (drop place.start values))
   pub read : content_in (read_from column values place) ≡ cell
 
--- what is read at a place
-record Reads (column : Column) (values : List ℕ) (place : CellPlace) : Type 0 where
-  pub cell : Content
-  pub len : ℕ
-  pub is : read_from column values place ≡ Some (cell, len)
-  pub ends : place.end ≡ place.start + len
-  pub within : place.end ≤ length values
-
-reads_at : (column : Column) (values : List ℕ) (place : CellPlace) → IsPlace column values place → Reads column values place
-reads_at column values place h = by (read_from column values place) refl h.0
-  where
-    by : (o : Option (Content × ℕ)) → read_from column values place ≡ o → IsSome o → Reads column values place
-    by None e some = absurd cc
-    by (Some x) e some = record { cell = x.0; len = x.1; is = e; ends = h.1 ∙ ap (λ o. place.start + len_of o) e; within = h.2 }
-
-value_found : (o : Option Content) (m : ℕ) (cell : Content) (len : ℕ) → option_map {U = Content × ℕ} (λ v. (v, m)) o ≡ Some (cell, len) → (o ≡ Some cell) × (m ≡ len)
-value_found None m cell len e = absurd cc
-value_found (Some v) m cell len e =
-    let both : (v, m) ≡ (cell, len) = some_is (v, m) (cell, len) e in
-    (ap (λ (x : Content × ℕ). Some x.0) both, ap (λ (x : Content × ℕ). x.1) both)
-
-text_at : (column : Column) (bytes : List ℕ) (found : Option ℕ) (cell : Content) (len : ℕ) → extent_len (extent_of column.layout) bytes ≡ found
-    → option_and_then {U = Content × ℕ} (λ n. option_map {U = Content × ℕ} (λ v. (v, n)) (value_of column (take n bytes))) found ≡ Some (cell, len)
-    → (extent_len (extent_of column.layout) bytes ≡ Some len) × (value_of column (take len bytes) ≡ Some cell)
-text_at column bytes None cell len e h = absurd cc
-text_at column bytes (Some n) cell len e h =
-    let v = value_found (value_of column (take n bytes)) n cell len h in
-    (e ∙ ap Some v.1, ap (λ m. value_of column (take m bytes)) (sym v.1) ∙ v.0)
-
-text_from : (column : Column) (values : List ℕ) (place : CellPlace) → place.is_present ≡ true → place.is_null ≡ false → Reads column values place → IsText column values place
-unfolding cell_at value_at
-text_from column values place present some h =
-    let bytes = drop place.start values in
-    let at = rw (present, some) at h.is in
-    let t = text_at column bytes (extent_len (extent_of column.layout) bytes) h.cell h.len refl at in
-    let found = extent_len-found (extent_of column.layout) bytes h.len t.0 in
-    let fits = found.0 in
-    let ends = h.ends in
-    let within = h.within in
-    let room : length bytes ≡ length values - place.start = length-drop place.start values in
-    let size : place.end - place.start ≡ h.len = omega arith in
-    record {
-      cell = h.cell;
-      ordered = omega arith;
-      within = omega arith;
-      extent = rw size found.1;
-      is = rw size t.1;
-      read = ap content_in h.is;
-    }
-
 pub text_is : (column : Column) (values : List ℕ) (place : CellPlace) → place.is_present ≡ true → place.is_null ≡ false → IsPlace column values place → IsText column values place
-text_is column values place present some h = text_from column values place present some (reads_at column values place h)
+unfolding cell_at
+text_is column values place present some h = by (read_from column values place) refl h.0
+  where
+    by : (o : Option (Content × ℕ)) → read_from column values place ≡ o → IsSome o → IsText column values place
+    by None e is = absurd cc
+    by (Some x) e is =
+        let at : value_at column (drop place.start values) ≡ Some x = rw (present, some) at e in
+        let ends : place.end ≡ place.start + x.1 = h.1 ∙ ap (λ o. place.start + len_of o) e in
+        let size : place.end - place.start ≡ x.1 = omega arith in
+        record { cell = x.0; spelled = rw size (value_at-found column (drop place.start values) x.0 x.1 at).1; read = ap content_in e }
 
 pub absent_is : (column : Column) (values : List ℕ) (place : CellPlace) → place.is_present ≡ false → content_in (read_from column values place) ≡ absent
 unfolding cell_at
@@ -206,30 +133,9 @@ null_is column values place e n = rw (e, n) refl
 pub image_placed : (columns : List Column) (body : List ℕ) (bitmap : Part) (place : ℕ) (places : List CellPlace) → IsRead (image_in columns body bitmap place) → HasPlaces columns body bitmap place places
     → cells_from columns body places ≡ cells_of (image_in columns body bitmap place)
 unfolding image_at
-image_placed columns body bitmap place places read h = by_test (leb n (length bytes)) refl read
-  where
-    bytes : List ℕ
-    bytes = drop place body
-
-    n : ℕ
-    n = nulls_len (part_of body bitmap) (length columns)
-
-    cells : Option (List Content × ℕ)
-    cells = cells_at columns (part_of body bitmap) (take n bytes) 0 0 (drop n bytes)
-
-    same : (o : Option (List Content × ℕ)) → cells ≡ o → IsRead o → cells_from columns body places ≡ cells_of cells
-    same o e r =
-        let moved : cells ≡ cells_at columns (part_of body bitmap) (take n bytes) 0 0 (drop (place + n) body) = ap (λ (b : List ℕ). cells_at columns (part_of body bitmap) (take n bytes) 0 0 b) (drop-drop n place body) in
-        sym (ap cells_of moved ∙ fits_same columns (part_of body bitmap) (take n bytes) 0 0 (place + n) body places (subst IsRead moved (subst IsRead (sym e) r)) h)
-
-    mapped : (o : Option (List Content × ℕ)) → cells_of (option_map (λ x. (x.0, n + x.1)) o) ≡ cells_of o
-    mapped None = refl
-    mapped (Some x) = refl
-
-    read_too : (o : Option (List Content × ℕ)) → IsRead (option_map (λ x. (x.0, n + x.1)) o) → IsRead o
-    read_too None r = absurd cc
-    read_too (Some x) r = refl
-
-    by_test : (b : Bool) → b ≡ b → IsRead (cond b (option_map (λ x. (x.0, n + x.1)) cells) None) → cells_from columns body places ≡ cells_of (cond b (option_map (λ x. (x.0, n + x.1)) cells) None)
-    by_test true e r = same cells refl (read_too cells r) ∙ sym (mapped cells)
-    by_test false e r = absurd cc
+image_placed columns body bitmap place places read h =
+    let n = nulls_len (part_of body bitmap) (length columns) in
+    let nulls = take n (drop place body) in
+    let behind = read_behind (leb n (length (drop place body))) n (cells_at columns (part_of body bitmap) nulls 0 0 (drop n (drop place body))) read in
+    let moved : cells_at columns (part_of body bitmap) nulls 0 0 (drop n (drop place body)) ≡ cells_at columns (part_of body bitmap) nulls 0 0 (drop (place + n) body) = ap (λ (b : List ℕ). cells_at columns (part_of body bitmap) nulls 0 0 b) (drop-drop n place body) in
+    sym (behind.1 ∙ ap cells_of moved ∙ fits_same columns (part_of body bitmap) nulls 0 0 (place + n) body places (subst IsRead moved behind.0) h)

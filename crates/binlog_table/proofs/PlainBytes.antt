@@ -1,26 +1,17 @@
 -- The numbers that plain bytes spell, from the stored ones.
-use Rattle.std.proofs.Common.{◌≡◌, ℕ, zero, suc, ◌+◌, ◌*◌, ◌-◌, ◌^◌, ◌<◌, ◌≤◌, ltb, true, false, List, [], ◌∷◌, length, length-drop, get_or, drop, map, refl, ap, ◌∙◌, arith}
+use Rattle.std.proofs.Common.{◌≡◌, Fits, w8, ℕ, zero, suc, ◌+◌, ◌*◌, ◌-◌, ◌^◌, ◌<◌, ◌≤◌, ltb, true, false, List, [], ◌∷◌, length, length-drop, get_or, drop, map, refl, ap, ◌∙◌, arith}
 use Rattle.std.proofs.lemmas.Bool.{lt-ltb, le-ltb}
-use Rattle.std.proofs.lemmas.List.{drop-map, get_or-drop, length-map}
+use Rattle.std.proofs.lemmas.List.{drop-map, get_or-drop, get_or-map}
 use Rattle.byteorder.specs.Endian.{big_from, big_number}
 use Rattle.byteorder.specs.Numbers.{big_from-cons}
 use Rattle.binlog_table.specs.Decimal.{plain, plain_byte}
-
-map-at : (f : ℕ → ℕ) (xs : List ℕ) (i : ℕ) → i < length xs → get_or (map f xs) i 0 ≡ f (get_or xs i 0)
-map-at f [] i h = absurd (omega arith)
-map-at f (x ∷ xs) zero h = refl
-map-at f (x ∷ xs) (suc i) h = map-at f xs i (omega arith)
-
-pub length-plain : (text : List ℕ) → length (plain text) ≡ length text
-length-plain [] = refl
-length-plain (b ∷ bs) = ap suc (length-map bs (plain_byte (ltb b 128)))
 
 -- complemented bytes spell what the number lacks of the greatest one
 complemented : (i w : ℕ) (xs : List ℕ) → ((k : ℕ) → get_or xs k 0 < 256) → i + w ≤ length xs → big_from i w (map (plain_byte true) xs) + big_from i w xs + 1 ≡ 256 ^ w
 complemented i zero xs fits room = omega arith
 complemented i (suc w) xs fits room =
     let rest = complemented (suc i) w xs fits (omega arith) in
-    let here : get_or (map (plain_byte true) xs) i 0 ≡ 255 - get_or xs i 0 = map-at (plain_byte true) xs i (omega arith) in
+    let here : get_or (map (plain_byte true) xs) i 0 ≡ 255 - get_or xs i 0 = get_or-map (plain_byte true) xs i 0 0 (omega arith) in
     let whole : (get_or (map (plain_byte true) xs) i 0 + get_or xs i 0) * 256 ^ w ≡ 255 * 256 ^ w = ap (λ (n : ℕ). n * 256 ^ w) (let fit = fits i in omega arith) in
     omega (arith, rest, whole)
 
@@ -30,6 +21,9 @@ same_bytes (x ∷ xs) = ap (λ (ys : List ℕ). x ∷ ys) (same_bytes xs)
 
 abbrev pub AreBytes : List ℕ → Type 0
 AreBytes xs = (k : ℕ) → get_or xs k 0 < 256
+
+pub bytes_fit : (xs : List ℕ) → ((k : ℕ) → Fits w8 (get_or xs k 0)) → AreBytes xs
+bytes_fit xs h k = omega (arith, h k)
 
 tail_fits : (b : ℕ) (bs : List ℕ) → AreBytes (b ∷ bs) → AreBytes bs
 tail_fits b bs fits k = fits (suc k)

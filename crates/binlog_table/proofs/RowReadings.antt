@@ -1,19 +1,20 @@
 -- Rows that are read are spelled so, and rows that are spelled so are read.
-use Rattle.std.proofs.Common.{◌≡◌, ℕ, ◌+◌, ◌<◌, ◌≤◌, true, ltb, List, ◌∷◌, ◌++◌, length, take, drop, Option, Some, None, option_and_then, refl, sym, ap, subst, ◌∙◌, append_assoc, arith}
+use Rattle.std.proofs.Common.{◌≡◌, ℕ, ◌+◌, ◌<◌, ◌≤◌, true, ltb, List, ◌++◌, length, take, drop, Option, Some, None, option_and_then, refl, sym, ap, subst, ◌∙◌, append_assoc, arith}
 use Rattle.std.proofs.Math.Seq.{take-add}
 use Rattle.std.proofs.lemmas.Bool.{ltb-true, lt-ltb}
 use Rattle.std.proofs.lemmas.List.{take-append-drop, drop_at, length-append, length-take-le, length-drop}
+use Rattle.std.proofs.lemmas.Option.{same_Some}
 use Rattle.binlog_table.specs.declared.column.Column.{Column}
 use Rattle.binlog_table.specs.Value.{Content}
 use Rattle.binlog_table.specs.Image.{image_at}
-use Rattle.binlog_table.specs.Rows.{Row, IsOptionalImage, AreRows, optional_image_at, row_at, sized}
-use Rattle.binlog_table.proofs.Extents.{guarded, some_is}
-use Rattle.binlog_table.proofs.ImageReadings.{and_then_ok, map_ok, image_at-found, image_at-only}
+use Rattle.binlog_table.specs.Rows.{Row, IsOptionalImage, optional_image_at, row_at, sized}
+use Rattle.binlog_table.proofs.Options.{and_then_ok, map_ok, guarded}
+use Rattle.binlog_table.proofs.ImageReadings.{image_at-found, image_at-only}
 
 optional-found : (types : List Column) (p : Option (List ℕ)) (bytes : List ℕ) (o : Option (List Content)) (n : ℕ) → optional_image_at types p bytes ≡ Some (o, n) → (n ≤ length bytes) × IsOptionalImage types p o (take n bytes)
 unfolding optional_image_at
 optional-found types None bytes o n e =
-    subst (λ (x : Option (List Content) × ℕ). (x.1 ≤ length bytes) × IsOptionalImage types None x.0 (take x.1 bytes)) (some_is (None, 0) (o, n) e) (omega arith, refl)
+    subst (λ (x : Option (List Content) × ℕ). (x.1 ≤ length bytes) × IsOptionalImage types None x.0 (take x.1 bytes)) (same_Some (None, 0) (o, n) e) (omega arith, refl)
 optional-found types (Some present) bytes o n e =
     let m = map_ok (image_at types present bytes) (λ x. (Some x.0, x.1)) (o, n) e in
     subst (λ (x : Option (List Content) × ℕ). (x.1 ≤ length bytes) × IsOptionalImage types (Some present) x.0 (take x.1 bytes)) m.2 (image_at-found types present bytes m.0.0 m.0.1 m.1)
@@ -46,7 +47,7 @@ row-found types before after bytes row n e =
     let joined : take (b.0.1 + a.0.1) bytes ≡ take b.0.1 bytes ++ take a.0.1 (drop b.0.1 bytes) = take-add b.0.1 a.0.1 bytes in
     let fits : b.0.1 + a.0.1 ≤ length bytes = omega (arith, f.0, s.0, length-drop b.0.1 bytes) in
     let some : 0 < b.0.1 + a.0.1 = ltb-true _ _ g.0 in
-    subst (λ (x : Row × ℕ). Spelled types before after bytes x.0 x.1) (some_is (made, b.0.1 + a.0.1) (row, n) g.1) (record {
+    subst (λ (x : Row × ℕ). Spelled types before after bytes x.0 x.1) (same_Some (made, b.0.1 + a.0.1) (row, n) g.1) (record {
       front = take b.0.1 bytes;
       back = take a.0.1 (drop b.0.1 bytes);
       whole = sym (take-append-drop (b.0.1 + a.0.1) bytes) ∙ ap (λ (t : List ℕ). t ++ drop (b.0.1 + a.0.1) bytes) joined;
@@ -63,23 +64,3 @@ row-only types before after front back rest row some first second =
     let s = optional-only types after back rest row.after second in
     let test : ltb 0 (length front + length back) ≡ true = lt-ltb _ _ (omega (arith, length-append front back)) in
     ap (row_at types before after) (append_assoc front back rest) ∙ rw (f, drop_at front (back ++ rest) (length front) refl, s, test, length-append front back) refl
-
-pub rows-first : (types : List Column) (before after : Option (List ℕ)) (bytes : List ℕ) (row other : Row) (n : ℕ) (rows : List Row) → row_at types before after bytes ≡ Some (row, n) → AreRows types before after (other ∷ rows) bytes → (other ≡ row) × AreRows types before after rows (drop n bytes)
-rows-first types before after bytes row other n rows e h =
-    let front = h.0 in let back = h.1 in let rest = h.2 in
-    let only = row-only types before after front back rest other h.4 h.5 h.6 in
-    let pair = some_is (other, length (front ++ back)) (row, n) (sym only ∙ ap (row_at types before after) (sym h.3) ∙ e) in
-    let len : length (front ++ back) ≡ n = ap (λ (x : Row × ℕ). x.1) pair in
-    let left : drop n bytes ≡ rest = ap (drop n) h.3 ∙ drop_at (front ++ back) rest n len in
-    (ap (λ (x : Row × ℕ). x.0) pair, rw left h.7)
-
-pub rows-then : (types : List Column) (before after : Option (List ℕ)) (bytes : List ℕ) (row : Row) (n : ℕ) (rows : List Row) → row_at types before after bytes ≡ Some (row, n) → AreRows types before after rows (drop n bytes) → AreRows types before after (row ∷ rows) bytes
-rows-then types before after bytes row n rows e h =
-    let s = row-found types before after bytes row n e in
-    (s.front, s.back, drop n bytes, s.whole, s.some, s.first, s.second, h)
-
-pub rows-none : (types : List Column) (before after : Option (List ℕ)) (bytes : List ℕ) (row : Row) (rows : List Row) → row_at types before after bytes ≡ None → AreRows types before after (row ∷ rows) bytes → ⊥
-rows-none types before after bytes row rows e h =
-    let only = row-only types before after h.0 h.1 h.2 row h.4 h.5 h.6 in
-    let no_row : Some (row, length (h.0 ++ h.1)) ≡ None = sym only ∙ ap (row_at types before after) (sym h.3) ∙ e in
-    absurd cc

@@ -1,5 +1,5 @@
 -- The set bits of a bitmap, counted a byte at a time.
-use Rattle.std.proofs.Common.{◌≡◌, ℕ, zero, suc, ◌+◌, ◌*◌, ◌/◌, ◌%◌, ◌^◌, ◌<◌, ◌≤◌, Bool, true, false, cond, nat_eq, List, [], ◌∷◌, length, get_or, ◌==◌, refl, ap, subst, ◌∙◌, ◌⊎◌, inl, inr, arith}
+use Rattle.std.proofs.Common.{◌≡◌, ℕ, zero, suc, ◌+◌, ◌*◌, ◌/◌, ◌%◌, ◌^◌, ◌<◌, ◌≤◌, Bool, true, false, cond, nat_eq, List, length, get_or, refl, ap, subst, ◌∙◌, ◌⊎◌, inl, inr, arith}
 use Rattle.std.specs.Int.RustNames.{count_ones}
 use Rattle.std.specs.Prelude.{slice_index}
 use Rattle.std.proofs.lemmas.Bool.{cases_lt}
@@ -36,10 +36,6 @@ bit-in_byte bytes i j few =
 
 -- ---- the first bits of a bitmap
 
--- one more
-set_bits-next : (bytes : List ℕ) (n : ℕ) → set_bits bytes (suc n) ≡ set_bits bytes n + one (bit bytes n)
-set_bits-next bytes n = refl
-
 -- the first bits of a byte, behind the bytes before it
 pub set_bits-front : (bytes : List ℕ) (i j : ℕ) → j ≤ 8 → set_bits bytes (8 * i + j) ≡ set_bits bytes (8 * i) + count_ones (get_or bytes i 0 % 2 ^ j)
 set_bits-front bytes i zero few =
@@ -52,7 +48,7 @@ set_bits-front bytes i (suc j) few =
     let place : 8 * i + suc j ≡ suc (8 * i + j) = omega arith in
     let before : set_bits bytes (8 * i + j) ≡ set_bits bytes (8 * i) + count_ones (byte % 2 ^ j) = set_bits-front bytes i j (omega arith) in
     let here : one (bit bytes (8 * i + j)) ≡ one (bit_of byte j) = ap one (bit-in_byte bytes i j (omega arith)) in
-    let next : set_bits bytes (suc (8 * i + j)) ≡ set_bits bytes (8 * i + j) + one (bit bytes (8 * i + j)) = set_bits-next bytes (8 * i + j) in
+    let next : set_bits bytes (suc (8 * i + j)) ≡ set_bits bytes (8 * i + j) + one (bit bytes (8 * i + j)) = refl in
     let width : suc j ≡ 1 + j = omega arith in
     let ones : count_ones (byte % 2 ^ suc j) ≡ one (bit_of byte j) + count_ones (byte % 2 ^ j) = ap (λ (m : ℕ). count_ones (byte % 2 ^ m)) width ∙ count_ones-more byte j in
     ap (set_bits bytes) place ∙ omega arith
@@ -64,26 +60,20 @@ set_bits-byte bytes i fits =
     let whole : get_or bytes i 0 % 256 ≡ get_or bytes i 0 = omega arith in
     ap (set_bits bytes) place ∙ set_bits-front bytes i 8 (omega arith) ∙ ap (λ (n : ℕ). set_bits bytes (8 * i) + count_ones n) whole
 
-pub count_ones-byte : (byte : ℕ) → byte < 256 → count_ones byte ≤ 8
-count_ones-byte byte fits = ones-le 8 byte fits
-
 pub count_ones-front : (byte j : ℕ) → count_ones (byte % 2 ^ j) ≤ j
 count_ones-front byte j = ones-le j (byte % 2 ^ j) (omega (arith, pow_pos j))
 
-bit-behind : (bytes : List ℕ) (n : ℕ) → 8 * length bytes ≤ n → bit bytes n ≡ false
-bit-behind bytes n behind =
-    let nothing : get_or bytes (n / 8) 0 ≡ 0 = get_or_past bytes (n / 8) 0 (omega arith) in
-    let none : 0 / 2 ^ (n % 8) % 2 ≡ 0 = omega (arith, shr_le 0 (n % 8)) in
-    rw (nothing, none) refl
+bit-of_zero : (bytes : List ℕ) (i : ℕ) → get_or bytes (i / 8) 0 ≡ 0 → bit bytes i ≡ false
+bit-of_zero bytes i zero_is = let none : 0 / 2 ^ (i % 8) % 2 ≡ 0 = omega (arith, shr_le 0 (i % 8)) in rw (zero_is, none) refl
 
 -- behind the bitmap no bit is set
 pub set_bits-behind : (bytes : List ℕ) (n m : ℕ) → 8 * length bytes ≤ n → set_bits bytes (n + m) ≡ set_bits bytes n
 set_bits-behind bytes n zero behind = let place : n + 0 ≡ n = omega arith in ap (set_bits bytes) place
 set_bits-behind bytes n (suc m) behind =
     let place : n + suc m ≡ suc (n + m) = omega arith in
-    let none : one (bit bytes (n + m)) ≡ 0 = ap one (bit-behind bytes (n + m) (omega arith)) in
+    let none : one (bit bytes (n + m)) ≡ 0 = ap one (bit-of_zero bytes (n + m) (get_or_past bytes ((n + m) / 8) 0 (omega arith))) in
     let before : set_bits bytes (n + m) ≡ set_bits bytes n = set_bits-behind bytes n m behind in
-    let next : set_bits bytes (suc (n + m)) ≡ set_bits bytes (n + m) + one (bit bytes (n + m)) = set_bits-next bytes (n + m) in
+    let next : set_bits bytes (suc (n + m)) ≡ set_bits bytes (n + m) + one (bit bytes (n + m)) = refl in
     ap (set_bits bytes) place ∙ omega arith
 
 -- ---- all bits are set, or none is
@@ -112,28 +102,10 @@ bit-all_set bytes (suc n) i within all = by (bit bytes n) refl (λ less before. 
     by true e before = let ones : set_bits bytes n + 1 ≡ suc n = rw e at all in to_last (λ (k : ℕ). bit bytes k ≡ true) n i within (λ less. before less (omega (arith, ones))) e
     by false e before = let ones : set_bits bytes n + 0 ≡ suc n = rw e at all in absurd (omega (arith, ones, set_bits-le bytes n))
 
-pub bit-none_set : (bytes : List ℕ) (n i : ℕ) → i < n → set_bits bytes n ≡ 0 → bit bytes i ≡ false
-bit-none_set bytes zero i within none = absurd (omega arith)
-bit-none_set bytes (suc n) i within none = by (bit bytes n) refl (λ less before. bit-none_set bytes n i less before)
-  where
-    by : (b : Bool) → bit bytes n ≡ b → (i < n → set_bits bytes n ≡ 0 → bit bytes i ≡ false) → bit bytes i ≡ false
-    by true e before = let ones : set_bits bytes n + 1 ≡ 0 = rw e at none in absurd (omega (arith, ones))
-    by false e before = let ones : set_bits bytes n + 0 ≡ 0 = rw e at none in to_last (λ (k : ℕ). bit bytes k ≡ false) n i within (λ less. before less (omega (arith, ones))) e
-
 -- a bitmap of zeros has no bit that is set
-past-end : (bytes : List ℕ) (k : ℕ) → length bytes ≤ k → slice_index bytes k ≡ 0
-past-end [] k h = refl
-past-end (b ∷ bytes) zero h = absurd (omega arith)
-past-end (b ∷ bytes) (suc k) h = past-end bytes k (omega arith)
-
 pub bit-zeros : (bytes : List ℕ) → ((k : ℕ) → k < length bytes → slice_index bytes k ≡ 0) → (i : ℕ) → bit bytes i ≡ false
-bit-zeros bytes h i =
-    let byte : slice_index bytes (i / 8) ≡ 0 = by (cases_lt (i / 8) (length bytes)) in
-    rw byte (zero-bit (2 ^ (i % 8)))
+bit-zeros bytes h i = bit-of_zero bytes i (by (cases_lt (i / 8) (length bytes)))
   where
-    zero-bit : (n : ℕ) → (0 / n % 2 == 1) ≡ false
-    zero-bit n = let none : 0 / n ≡ 0 = omega arith in rw none refl
-
-    by : (i / 8 < length bytes) ⊎ (length bytes ≤ i / 8) → slice_index bytes (i / 8) ≡ 0
+    by : (i / 8 < length bytes) ⊎ (length bytes ≤ i / 8) → get_or bytes (i / 8) 0 ≡ 0
     by (inl less) = h (i / 8) less
-    by (inr past) = past-end bytes (i / 8) past
+    by (inr past) = get_or_past bytes (i / 8) 0 past

@@ -1,39 +1,29 @@
 -- The names of ENUM and SET values that are read are spelled so, and those that are spelled so are read.
-use Rattle.std.proofs.Common.{◌≡◌, ℕ, zero, suc, ◌<◌, Bool, true, false, cond, eqb, List, [], ◌∷◌, ◌++◌, length, map, Option, Some, None, option_map, Result, Ok, Err, refl, sym, ap, subst, ◌∙◌, append_assoc, append-nil, arith}
-use Rattle.std.specs.Prelude.{unwrap_or}
+use Rattle.std.proofs.Common.{◌≡◌, ℕ, zero, suc, ◌<◌, eqb, List, [], ◌∷◌, ◌++◌, length, map, Option, Some, None, option_map, Ok, refl, sym, ap, subst, ◌∙◌, append_assoc, arith}
+use Rattle.std.specs.Prelude.{Bool, unwrap_or}
 use Rattle.std.specs.List.{AllByRecursion}
 use Rattle.std.proofs.lemmas.Bool.{eqb-true}
 use Rattle.std.proofs.lemmas.List.{length-append, nil_from_length}
-use Rattle.binlog_table.specs.declared.fault.MapFault.{MapFault}
-use Rattle.binlog_table.specs.declared.fault.MapFault.TheVariants.{BadMap}
+use Rattle.std.proofs.lemmas.Option.{same_Some}
 use Rattle.binlog_table.specs.declared.column.Column.{Column}
 use Rattle.binlog_table.specs.declared.column.Layout.{Layout}
-use Rattle.binlog_table.specs.declared.column.Layout.TheVariants.{Integer, Year, Date, Text, Raw, Float, Bits, Timestamp, DateTime, Time, Decimal, Enum, Set}
-use Rattle.binlog_table.specs.MapResult.{◌>>=◌}
+use Rattle.binlog_table.specs.declared.column.Layout.TheVariants.{Enum, Set}
 use Rattle.binlog_table.specs.Packed.{IsPacked}
 use Rattle.binlog_table.specs.Fields.{number_at, string_at}
 use Rattle.binlog_table.specs.Names.{used_up, strings_at, list_in, value_names_of, value_names_at, value_names}
 use Rattle.binlog_table.specs.MapLists.{AreStrings, IsNameList, AreNameLists, is_set, is_enum, is_neither, names_at_columns, FieldSpells, AreValueNames}
-use Rattle.binlog_table.proofs.MapBodies.{number-found, number-only, string-found, string-only}
+use Rattle.binlog_table.proofs.FirstFaults.{bind_then, bind_known, ok_same, guarded_ok}
+use Rattle.binlog_table.proofs.MapBodies.{number-found, number-only, packed-some, string-found, string-only}
 
 abbrev Names : Type 0
 Names = List (List ℕ)
 
--- the value of a step that did not fail, as a variable
-bind_then : {A B P : Type 0} (r : Result A MapFault) (f : A → Result B MapFault) (y : B) → (r >>= f) ≡ Ok y → ((x : A) → r ≡ Ok x → f x ≡ Ok y → P) → P
-bind_then (Ok x) f y e k = k x refl e
-bind_then (Err d) f y e k = absurd cc
-
--- a step that is known
-bind_known : {A B : Type 0} (r : Result A MapFault) (f : A → Result B MapFault) (x : A) (y : Result B MapFault) → r ≡ Ok x → f x ≡ y → (r >>= f) ≡ y
-bind_known {A = A} r f x y e h = ap (λ (s : Result A MapFault). s >>= f) e ∙ h
-
-ok_same : {A : Type 0} (x y : A) → ◌≡◌ {A = Result A MapFault} (Ok x) (Ok y) → x ≡ y
-ok_same x y e = cc
+abbrev Fields : Type 0
+Fields = Option (List ℕ) × Option (List ℕ)
 
 -- ---- a list of names
 
-strings-found : (n : ℕ) (bytes : List ℕ) (x : Names × List ℕ) → strings_at n bytes ≡ Ok x → (text : List ℕ) × (bytes ≡ text ++ x.1) × AreStrings x.0 text × (length x.0 ≡ n)
+pub strings-found : (n : ℕ) (bytes : List ℕ) (x : Names × List ℕ) → strings_at n bytes ≡ Ok x → (text : List ℕ) × (bytes ≡ text ++ x.1) × AreStrings x.0 text × (length x.0 ≡ n)
 unfolding strings_at
 strings-found zero bytes x e =
     subst (λ (y : Names × List ℕ). (text : List ℕ) × (bytes ≡ text ++ y.1) × AreStrings y.0 text × (length y.0 ≡ 0)) (ok_same ([], bytes) x e) ([], refl, refl, refl)
@@ -73,10 +63,6 @@ list-only names text rest h =
 
 list-some : (names : Names) (text : List ℕ) → IsNameList names text → 0 < length text
 list-some names text h = omega (arith, packed-some (length names) h.0 h.3, ap length h.2, length-append h.0 h.1)
-  where
-    packed-some : (n : ℕ) (bytes : List ℕ) → IsPacked n bytes → 0 < length bytes
-    packed-some n [] p = absurd p
-    packed-some n (b ∷ bs) p = omega arith
 
 -- a field spells one list of lists
 pub lists-one : (value : List ℕ) (lists others : List Names) → AreNameLists lists value → AreNameLists others value → lists ≡ others
@@ -87,207 +73,98 @@ lists-one value (names ∷ lists) (other ∷ others) a b =
     let first : list_in (Some value) ≡ Ok (Some names, Some a.1) = ap (λ (y : List ℕ). list_in (Some y)) a.2 ∙ list-only names a.0 a.1 a.3 in
     let second : list_in (Some value) ≡ Ok (Some other, Some b.1) = ap (λ (y : List ℕ). list_in (Some y)) b.2 ∙ list-only other b.0 b.1 b.3 in
     let same = ok_same (Some names, Some a.1) (Some other, Some b.1) (sym first ∙ second) in
-    let head : names ≡ other = some_same names other (ap (λ (p : Option Names × Option (List ℕ)). p.0) same) in
-    let rest : a.1 ≡ b.1 = some_same a.1 b.1 (ap (λ (p : Option Names × Option (List ℕ)). p.1) same) in
+    let head : names ≡ other = same_Some names other (ap (λ (p : Option Names × Option (List ℕ)). p.0) same) in
+    let rest : a.1 ≡ b.1 = same_Some a.1 b.1 (ap (λ (p : Option Names × Option (List ℕ)). p.1) same) in
     let tail = lists-one b.1 lists others (subst (AreNameLists lists) rest a.4) b.4 in
     ap (λ (n : Names). n ∷ lists) head ∙ ap (λ (ns : List Names). other ∷ ns) tail
-  where
-    some_same : {A : Type 0} (x y : A) → Some x ≡ Some y → x ≡ y
-    some_same x y e = cc
 
 -- ---- a field from its front, and what is left of it
 
-abbrev SpellsTo : Option (List ℕ) → List (Option Names) → Option (List ℕ) → Type 0
-SpellsTo None names left = (left ≡ None) × AllByRecursion (λ own. own ≡ None) names
-SpellsTo (Some value) names left = (lists : List Names) × (text : List ℕ) × (rest : List ℕ) × (left ≡ Some rest) × (value ≡ text ++ rest) × (names ≡ map Some lists) × AreNameLists lists text
+-- the lists of some columns, one after the other
+abbrev Takes : Option (List ℕ) → List (Option Names) → Option (List ℕ) → Type 0
+Takes field [] left = left ≡ field
+Takes field (own ∷ names) left = (rest : Option (List ℕ)) × (list_in field ≡ Ok (own, rest)) × Takes rest names left
 
-spells-none : (field : Option (List ℕ)) → SpellsTo field [] field
-spells-none None = (refl, tt)
-spells-none (Some value) = ([], [], value, refl, refl, refl, refl)
+pub used_up-found : (bytes : List ℕ) (n : ℕ) → used_up bytes ≡ Ok n → bytes ≡ []
+used_up-found bytes n e = nil_from_length bytes (eqb-true _ _ (guarded_ok (eqb (length bytes) 0) (Ok 0) n e).0)
 
-spells-more : (field : Option (List ℕ)) (x : Option Names × Option (List ℕ)) (names : List (Option Names)) (left : Option (List ℕ)) → list_in field ≡ Ok x → SpellsTo x.1 names left → SpellsTo field (x.0 ∷ names) left
+takes-found : (field : Option (List ℕ)) (names : List (Option Names)) (left : Option (List ℕ)) → Takes field names left → unwrap_or left [] ≡ [] → FieldSpells field names
 unfolding list_in
-spells-more None x names left e h =
-    let is : (None, None) ≡ x = ok_same (None, None) x e in
-    let own : x.0 ≡ None = ap (λ (p : Option Names × Option (List ℕ)). p.0) (sym is) in
-    let rest : x.1 ≡ None = ap (λ (p : Option Names × Option (List ℕ)). p.1) (sym is) in
-    let given : SpellsTo None names left = subst (λ (f : Option (List ℕ)). SpellsTo f names left) rest h in
-    (given.0, (own, given.1))
-spells-more (Some value) x names left e h =
-    let f = list-found value x e in
-    let own : x.0 ≡ Some f.0 = ap (λ (p : Option Names × Option (List ℕ)). p.0) f.3 in
-    let rest : x.1 ≡ Some f.2 = ap (λ (p : Option Names × Option (List ℕ)). p.1) f.3 in
-    let given : SpellsTo (Some f.2) names left = subst (λ (g : Option (List ℕ)). SpellsTo g names left) rest h in
-    let whole : value ≡ (f.1 ++ given.1) ++ given.2 = f.5 ∙ ap (λ (y : List ℕ). f.1 ++ y) given.4 ∙ sym (append_assoc f.1 given.1 given.2) in
-    let all : x.0 ∷ names ≡ map Some (f.0 ∷ given.0) = ap (λ (o : Option Names). o ∷ names) own ∙ ap (λ (ns : List (Option Names)). Some f.0 ∷ ns) given.5 in
-    (f.0 ∷ given.0, f.1 ++ given.1, given.2, given.3, whole, all, (f.1, given.1, refl, f.4, given.6))
-
-spelled-none : (field left : Option (List ℕ)) → SpellsTo field [] left → left ≡ field
-spelled-none None left h = h.0
-spelled-none (Some value) left h = by_lists h.0 h.5 h.6
-  where
-    by_lists : (lists : List Names) → [] ≡ map Some lists → AreNameLists lists h.1 → left ≡ Some value
-    by_lists [] e a = h.3 ∙ ap Some (sym (h.4 ∙ ap (λ (y : List ℕ). y ++ h.2) a))
-    by_lists (names ∷ lists) e a = absurd cc
-
-spelled-more : (field : Option (List ℕ)) (own : Option Names) (names : List (Option Names)) (left : Option (List ℕ)) → SpellsTo field (own ∷ names) left
-    → (rest : Option (List ℕ)) × (list_in field ≡ Ok (own, rest)) × SpellsTo rest names left
-unfolding list_in
-spelled-more None own names left h = (None, ap (λ (o : Option Names). Ok (o, None)) (sym h.1.0), (h.0, h.1.1))
-spelled-more (Some value) own names left h = by_lists h.0 h.5 h.6
-  where
-    by_lists : (lists : List Names) → own ∷ names ≡ map Some lists → AreNameLists lists h.1 → (rest : Option (List ℕ)) × (list_in (Some value) ≡ Ok (own, rest)) × SpellsTo rest names left
-    by_lists [] e a = absurd cc
-    by_lists (first ∷ lists) e a =
-        let is : own ≡ Some first = cc in
-        let are : names ≡ map Some lists = cc in
-        let whole : value ≡ a.0 ++ (a.1 ++ h.2) = h.4 ∙ ap (λ (y : List ℕ). y ++ h.2) a.2 ∙ append_assoc a.0 a.1 h.2 in
-        let read : list_in (Some value) ≡ Ok (Some first, Some (a.1 ++ h.2)) = ap (λ (y : List ℕ). list_in (Some y)) whole ∙ list-only first a.0 (a.1 ++ h.2) a.3 in
-        (Some (a.1 ++ h.2), read ∙ ap (λ (o : Option Names). Ok (o, Some (a.1 ++ h.2))) (sym is), (lists, a.1, h.2, h.3, refl, are, a.4))
-
--- ---- columns by their layout
-
-abbrev Fields : Type 0
-Fields = Option (List ℕ) × Option (List ℕ)
-
-abbrev OfSet : Layout → Type 0
-OfSet l = (is_set l ≡ true) × (is_enum l ≡ false) × ((sets enums : Option (List ℕ)) → value_names_of l sets enums ≡ (list_in sets >>= λ x. Ok (x.0, (x.1, enums))))
-
-abbrev OfEnum : Layout → Type 0
-OfEnum l = (is_set l ≡ false) × (is_enum l ≡ true) × ((sets enums : Option (List ℕ)) → value_names_of l sets enums ≡ (list_in enums >>= λ x. Ok (x.0, (sets, x.1))))
-
-abbrev OfNeither : Layout → Type 0
-OfNeither l = (is_set l ≡ false) × (is_enum l ≡ false) × ((sets enums : Option (List ℕ)) → value_names_of l sets enums ≡ Ok (None, (sets, enums)))
-
-by_layout : {P : Type 0} (l : Layout) → (OfSet l → P) → (OfEnum l → P) → (OfNeither l → P) → P
-unfolding value_names_of
-by_layout (Set w) f g h = f (refl, refl, λ sets enums. refl)
-by_layout (Enum w) f g h = g (refl, refl, λ sets enums. refl)
-by_layout (Integer w) f g h = h (refl, refl, λ sets enums. refl)
-by_layout Year f g h = h (refl, refl, λ sets enums. refl)
-by_layout Date f g h = h (refl, refl, λ sets enums. refl)
-by_layout (Text w) f g h = h (refl, refl, λ sets enums. refl)
-by_layout (Raw w) f g h = h (refl, refl, λ sets enums. refl)
-by_layout (Float w) f g h = h (refl, refl, λ sets enums. refl)
-by_layout (Bits w) f g h = h (refl, refl, λ sets enums. refl)
-by_layout (Timestamp p) f g h = h (refl, refl, λ sets enums. refl)
-by_layout (DateTime p) f g h = h (refl, refl, λ sets enums. refl)
-by_layout (Time p) f g h = h (refl, refl, λ sets enums. refl)
-by_layout (Decimal d) f g h = h (refl, refl, λ sets enums. refl)
-
--- what columns are called, and what is left of the two fields
-pub record Called (columns : List Column) (sets enums : Option (List ℕ)) (names : List (Option Names)) (left : Fields) : Type 0 where
-  pub one_each : length names ≡ length columns
-  pub of_sets : SpellsTo sets (names_at_columns is_set columns names) left.0
-  pub of_enums : SpellsTo enums (names_at_columns is_enum columns names) left.1
-  pub of_others : AllByRecursion (λ own. own ≡ None) (names_at_columns is_neither columns names)
-
-module _ (column : Column) (columns : List Column) (own : Option Names) (names : List (Option Names)) (left : Fields) where
-  set-more : (sets enums rest : Option (List ℕ)) → OfSet column.layout → list_in sets ≡ Ok (own, rest) → Called columns rest enums names left → Called (column ∷ columns) sets enums (own ∷ names) left
-  set-more sets enums rest k e c = record {
-    one_each = ap suc c.one_each;
-    of_sets = rw k.0 (spells-more sets (own, rest) (names_at_columns is_set columns names) left.0 e c.of_sets);
-    of_enums = rw k.1 c.of_enums;
-    of_others = rw k.0 c.of_others;
-  }
-
-  enum-more : (sets enums rest : Option (List ℕ)) → OfEnum column.layout → list_in enums ≡ Ok (own, rest) → Called columns sets rest names left → Called (column ∷ columns) sets enums (own ∷ names) left
-  enum-more sets enums rest k e c = record {
-    one_each = ap suc c.one_each;
-    of_sets = rw k.0 c.of_sets;
-    of_enums = rw k.1 (spells-more enums (own, rest) (names_at_columns is_enum columns names) left.1 e c.of_enums);
-    of_others = rw (k.0, k.1) c.of_others;
-  }
-
-  neither-more : (sets enums : Option (List ℕ)) → OfNeither column.layout → own ≡ None → Called columns sets enums names left → Called (column ∷ columns) sets enums (own ∷ names) left
-  neither-more sets enums k e c = record {
-    one_each = ap suc c.one_each;
-    of_sets = rw k.0 c.of_sets;
-    of_enums = rw k.1 c.of_enums;
-    of_others = rw (k.0, k.1) (e, c.of_others);
-  }
-
-  set-less : (sets enums : Option (List ℕ)) → OfSet column.layout → Called (column ∷ columns) sets enums (own ∷ names) left → (rest : Option (List ℕ)) × (list_in sets ≡ Ok (own, rest)) × Called columns rest enums names left
-  set-less sets enums k c =
-      let s : SpellsTo sets (own ∷ names_at_columns is_set columns names) left.0 = rw k.0 at c.of_sets in
-      let t = spelled-more sets own (names_at_columns is_set columns names) left.0 s in
-      (t.0, t.1, record { one_each = omega (arith, c.one_each); of_sets = t.2; of_enums = rw k.1 at c.of_enums; of_others = rw k.0 at c.of_others })
-
-  enum-less : (sets enums : Option (List ℕ)) → OfEnum column.layout → Called (column ∷ columns) sets enums (own ∷ names) left → (rest : Option (List ℕ)) × (list_in enums ≡ Ok (own, rest)) × Called columns sets rest names left
-  enum-less sets enums k c =
-      let s : SpellsTo enums (own ∷ names_at_columns is_enum columns names) left.1 = rw k.1 at c.of_enums in
-      let t = spelled-more enums own (names_at_columns is_enum columns names) left.1 s in
-      (t.0, t.1, record { one_each = omega (arith, c.one_each); of_sets = rw k.0 at c.of_sets; of_enums = t.2; of_others = rw (k.0, k.1) at c.of_others })
-
-  neither-less : (sets enums : Option (List ℕ)) → OfNeither column.layout → Called (column ∷ columns) sets enums (own ∷ names) left → (own ≡ None) × Called columns sets enums names left
-  neither-less sets enums k c =
-      let o : (own ≡ None) × AllByRecursion (λ x. x ≡ None) (names_at_columns is_neither columns names) = rw (k.0, k.1) at c.of_others in
-      (o.0, record { one_each = omega (arith, c.one_each); of_sets = rw k.0 at c.of_sets; of_enums = rw k.1 at c.of_enums; of_others = o.1 })
-
-called-found : (columns : List Column) (sets enums : Option (List ℕ)) (x : List (Option Names) × Fields) → value_names_at columns sets enums ≡ Ok x → Called columns sets enums x.0 x.1
-unfolding value_names_at
-called-found [] sets enums x e =
-    subst (λ (y : List (Option Names) × Fields). Called [] sets enums y.0 y.1) (ok_same ([], (sets, enums)) x e) (record { one_each = refl; of_sets = spells-none sets; of_enums = spells-none enums; of_others = tt })
-called-found (column ∷ columns) sets enums x e =
-    bind_then (value_names_of column.layout sets enums) _ x e (λ y e1 k1. bind_then (value_names_at columns y.1.0 y.1.1) _ x k1 (λ r e2 k2.
-    let others = called-found columns y.1.0 y.1.1 r e2 in
-    subst (λ (z : List (Option Names) × Fields). Called (column ∷ columns) sets enums z.0 z.1) (ok_same (y.0 ∷ r.0, r.1) x k2)
-    (by_layout column.layout (λ k. bind_then (list_in sets) _ y (sym (k.2 sets enums) ∙ e1) (λ z e3 k3. of_set r y z k (ok_same (z.0, (z.1, enums)) y k3) e3 others))
-    (λ k. bind_then (list_in enums) _ y (sym (k.2 sets enums) ∙ e1) (λ z e3 k3. of_enum r y z k (ok_same (z.0, (sets, z.1)) y k3) e3 others))
-    (λ k. of_neither r y k (ok_same (None, (sets, enums)) y (sym (k.2 sets enums) ∙ e1)) others))))
-  where
-    of_set : (r : List (Option Names) × Fields) (y : Option Names × Fields) (z : Option Names × Option (List ℕ)) → OfSet column.layout → (z.0, (z.1, enums)) ≡ y → list_in sets ≡ Ok z → Called columns y.1.0 y.1.1 r.0 r.1 → Called (column ∷ columns) sets enums (y.0 ∷ r.0) r.1
-    of_set r y z k is e c =
-        subst (λ (w : Option Names × Fields). Called columns w.1.0 w.1.1 r.0 r.1 → Called (column ∷ columns) sets enums (w.0 ∷ r.0) r.1) is (λ d. set-more column columns z.0 r.0 r.1 sets enums z.1 k e d) c
-
-    of_enum : (r : List (Option Names) × Fields) (y : Option Names × Fields) (z : Option Names × Option (List ℕ)) → OfEnum column.layout → (z.0, (sets, z.1)) ≡ y → list_in enums ≡ Ok z → Called columns y.1.0 y.1.1 r.0 r.1 → Called (column ∷ columns) sets enums (y.0 ∷ r.0) r.1
-    of_enum r y z k is e c =
-        subst (λ (w : Option Names × Fields). Called columns w.1.0 w.1.1 r.0 r.1 → Called (column ∷ columns) sets enums (w.0 ∷ r.0) r.1) is (λ d. enum-more column columns z.0 r.0 r.1 sets enums z.1 k e d) c
-
-    of_neither : (r : List (Option Names) × Fields) (y : Option Names × Fields) → OfNeither column.layout → (None, (sets, enums)) ≡ y → Called columns y.1.0 y.1.1 r.0 r.1 → Called (column ∷ columns) sets enums (y.0 ∷ r.0) r.1
-    of_neither r y k is c =
-        subst (λ (w : Option Names × Fields). Called columns w.1.0 w.1.1 r.0 r.1 → Called (column ∷ columns) sets enums (w.0 ∷ r.0) r.1) is (λ d. neither-more column columns None r.0 r.1 sets enums k refl d) c
-
-called-only : (columns : List Column) (sets enums : Option (List ℕ)) (names : List (Option Names)) (left : Fields) → Called columns sets enums names left → value_names_at columns sets enums ≡ Ok (names, left)
-unfolding value_names_at
-called-only [] sets enums [] left c =
-    let s : left.0 ≡ sets = spelled-none sets left.0 c.of_sets in
-    let e : left.1 ≡ enums = spelled-none enums left.1 c.of_enums in
-    rw (← s, ← e) refl
-called-only [] sets enums (own ∷ names) left c = absurd (omega (arith, c.one_each))
-called-only (column ∷ columns) sets enums [] left c = absurd (omega (arith, c.one_each))
-called-only (column ∷ columns) sets enums (own ∷ names) left c =
-    by_layout column.layout
-    (λ k. let t = set-less column columns own names left sets enums k c in rw (k.2 sets enums, t.1, called-only columns t.0 enums names left t.2) refl)
-    (λ k. let t = enum-less column columns own names left sets enums k c in rw (k.2 sets enums, t.1, called-only columns sets t.0 names left t.2) refl)
-    (λ k. let t = neither-less column columns own names left sets enums k c in rw (k.2 sets enums, t.0, called-only columns sets enums names left t.1) refl)
-
--- ---- whole fields
-
-used_up-found : (bytes : List ℕ) (n : ℕ) → used_up bytes ≡ Ok n → bytes ≡ []
-used_up-found bytes n e = by_test (eqb (length bytes) 0) refl e
-  where
-    by_test : (b : Bool) → eqb (length bytes) 0 ≡ b → ◌≡◌ {A = Result ℕ MapFault} (cond b (Ok 0) (Err BadMap)) (Ok n) → bytes ≡ []
-    by_test true t e = nil_from_length bytes (eqb-true _ _ t)
-    by_test false t e = absurd cc
-
-field-found : (field : Option (List ℕ)) (names : List (Option Names)) (left : Option (List ℕ)) → SpellsTo field names left → unwrap_or left [] ≡ [] → FieldSpells field names
-field-found None names left h none = h.1
-field-found (Some value) names left h none =
-    let rest : h.2 ≡ [] = ap (λ (o : Option (List ℕ)). unwrap_or o []) (sym h.3) ∙ none in
-    (h.0, h.5, subst (AreNameLists h.0) (sym (h.4 ∙ ap (λ (y : List ℕ). h.1 ++ y) rest ∙ append-nil h.1)) h.6)
+takes-found None [] left h none = tt
+takes-found (Some value) [] left h none = ([], refl, sym (ap (λ (o : Option (List ℕ)). unwrap_or o []) h) ∙ none)
+takes-found None (own ∷ names) left h none =
+    let is : (None, None) ≡ (own, h.0) = ok_same (None, None) (own, h.0) h.1 in
+    (sym (ap (λ (p : Option Names × Option (List ℕ)). p.0) is), takes-found None names left (subst (λ (f : Option (List ℕ)). Takes f names left) (sym (ap (λ (p : Option Names × Option (List ℕ)). p.1) is)) h.2) none)
+takes-found (Some value) (own ∷ names) left h none =
+    let l = list-found value (own, h.0) h.1 in
+    let others = takes-found (Some l.2) names left (subst (λ (f : Option (List ℕ)). Takes f names left) (ap (λ (p : Option Names × Option (List ℕ)). p.1) l.3) h.2) none in
+    (l.0 ∷ others.0, ap (λ (p : Option Names × Option (List ℕ)). p.0 ∷ names) l.3 ∙ ap (λ (ns : List (Option Names)). Some l.0 ∷ ns) others.1, (l.1, l.2, l.5, l.4, others.2))
 
 -- nothing is left of a field that is there
 abbrev emptied : Option (List ℕ) → Option (List ℕ)
 emptied field = option_map (λ value. []) field
 
-field-only : (field : Option (List ℕ)) (names : List (Option Names)) → FieldSpells field names → SpellsTo field names (emptied field)
-field-only None names h = (refl, h)
-field-only (Some value) names h = (h.0, value, [], refl, sym (append-nil value), h.1, h.2)
+takes-only : (field : Option (List ℕ)) (names : List (Option Names)) → FieldSpells field names → Takes field names (emptied field)
+unfolding list_in
+takes-only None [] h = refl
+takes-only None (own ∷ names) h = (None, ap (λ (o : Option Names). Ok (o, None)) (sym h.0), takes-only None names h.1)
+takes-only (Some value) [] ([], e, a) = ap Some (sym a)
+takes-only (Some value) [] (first ∷ lists, e, a) = absurd cc
+takes-only (Some value) (own ∷ names) ([], e, a) = absurd cc
+takes-only (Some value) (own ∷ names) (first ∷ lists, e, a) =
+    let is : Some first ≡ own = cc in
+    let are : names ≡ map Some lists = cc in
+    (Some a.1, ap (λ (y : List ℕ). list_in (Some y)) a.2 ∙ list-only first a.0 a.1 a.3 ∙ ap (λ (o : Option Names). Ok (o, Some a.1)) is, takes-only (Some a.1) names (lists, are, a.4))
 
 emptied-used : (field : Option (List ℕ)) → used_up (unwrap_or (emptied field) []) ≡ Ok 0
 emptied-used None = refl
 emptied-used (Some value) = refl
+
+-- ---- columns, one after the other
+
+-- what columns are called, and what is left of the two fields
+record Called (columns : List Column) (sets enums : Option (List ℕ)) (names : List (Option Names)) (left : Fields) : Type 0 where
+  one_each : length names ≡ length columns
+  of_sets : Takes sets (names_at_columns is_set columns names) left.0
+  of_enums : Takes enums (names_at_columns is_enum columns names) left.1
+  of_others : AllByRecursion (λ own. own ≡ None) (names_at_columns is_neither columns names)
+
+-- one column more in front, by its layout
+module _ (unsigned : Bool) (columns : List Column) (names : List (Option Names)) (left : Fields) (sets enums : Option (List ℕ)) where
+  called-more : (l : Layout) (x : Option Names × Fields) → value_names_of l sets enums ≡ Ok x → Called columns x.1.0 x.1.1 names left → Called (record { layout = l; unsigned = unsigned } ∷ columns) sets enums (x.0 ∷ names) left
+  unfolding value_names_of
+  called-more (Set w) x e c = bind_then (list_in sets) _ x e (λ y e1 k. subst (λ (z : Option Names × Fields). Called columns z.1.0 z.1.1 names left → Called (record { layout = Set w; unsigned = unsigned } ∷ columns) sets enums (z.0 ∷ names) left) (ok_same (y.0, (y.1, enums)) x k)
+      (λ d. record { one_each = ap suc d.one_each; of_sets = (y.1, e1, d.of_sets); of_enums = d.of_enums; of_others = d.of_others }) c)
+  called-more (Enum w) x e c = bind_then (list_in enums) _ x e (λ y e1 k. subst (λ (z : Option Names × Fields). Called columns z.1.0 z.1.1 names left → Called (record { layout = Enum w; unsigned = unsigned } ∷ columns) sets enums (z.0 ∷ names) left) (ok_same (y.0, (sets, y.1)) x k)
+      (λ d. record { one_each = ap suc d.one_each; of_sets = d.of_sets; of_enums = (y.1, e1, d.of_enums); of_others = d.of_others }) c)
+  called-more other x e c = subst (λ (z : Option Names × Fields). Called columns z.1.0 z.1.1 names left → Called (record { layout = other; unsigned = unsigned } ∷ columns) sets enums (z.0 ∷ names) left) (ok_same (None, (sets, enums)) x e)
+      (λ d. record { one_each = ap suc d.one_each; of_sets = d.of_sets; of_enums = d.of_enums; of_others = (refl, d.of_others) }) c
+
+  called-less : (l : Layout) (own : Option Names) → Called (record { layout = l; unsigned = unsigned } ∷ columns) sets enums (own ∷ names) left → (rest : Fields) × (value_names_of l sets enums ≡ Ok (own, rest)) × Called columns rest.0 rest.1 names left
+  unfolding value_names_of
+  called-less (Set w) own c = let s = c.of_sets in ((s.0, enums), rw s.1 refl, record { one_each = omega (arith, c.one_each); of_sets = s.2; of_enums = c.of_enums; of_others = c.of_others })
+  called-less (Enum w) own c = let s = c.of_enums in ((sets, s.0), rw s.1 refl, record { one_each = omega (arith, c.one_each); of_sets = c.of_sets; of_enums = s.2; of_others = c.of_others })
+  called-less other own c =
+      let s = c.of_others in ((sets, enums), ap (λ (o : Option Names). Ok (o, (sets, enums))) (sym s.0), record { one_each = omega (arith, c.one_each); of_sets = c.of_sets; of_enums = c.of_enums; of_others = s.1 })
+
+called-found : (columns : List Column) (sets enums : Option (List ℕ)) (x : List (Option Names) × Fields) → value_names_at columns sets enums ≡ Ok x → Called columns sets enums x.0 x.1
+unfolding value_names_at
+called-found [] sets enums x e =
+    subst (λ (y : List (Option Names) × Fields). Called [] sets enums y.0 y.1) (ok_same ([], (sets, enums)) x e) (record { one_each = refl; of_sets = refl; of_enums = refl; of_others = tt })
+called-found (column ∷ columns) sets enums x e =
+    bind_then (value_names_of column.layout sets enums) _ x e (λ y e1 k1. bind_then (value_names_at columns y.1.0 y.1.1) _ x k1 (λ r e2 k2.
+    subst (λ (z : List (Option Names) × Fields). Called (column ∷ columns) sets enums z.0 z.1) (ok_same (y.0 ∷ r.0, r.1) x k2)
+    (called-more column.unsigned columns r.0 r.1 sets enums column.layout y e1 (called-found columns y.1.0 y.1.1 r e2))))
+
+called-only : (columns : List Column) (sets enums : Option (List ℕ)) (names : List (Option Names)) (left : Fields) → Called columns sets enums names left → value_names_at columns sets enums ≡ Ok (names, left)
+unfolding value_names_at
+called-only [] sets enums [] left c = rw (← c.of_sets, ← c.of_enums) refl
+called-only [] sets enums (own ∷ names) left c = absurd (omega (arith, c.one_each))
+called-only (column ∷ columns) sets enums [] left c = absurd (omega (arith, c.one_each))
+called-only (column ∷ columns) sets enums (own ∷ names) left c =
+    let t = called-less column.unsigned columns names left sets enums column.layout own c in rw (t.1, called-only columns t.0.0 t.0.1 names left t.2) refl
+
+-- ---- whole fields
 
 pub value_names-found : (columns : List Column) (sets enums : Option (List ℕ)) (names : List (Option Names)) → value_names columns sets enums ≡ Ok names → AreValueNames columns sets enums names
 unfolding value_names
@@ -296,8 +173,8 @@ value_names-found columns sets enums names e =
     let c = called-found columns sets enums r e1 in
     subst (AreValueNames columns sets enums) (ok_same r.0 names k3) (record {
       one_each = c.one_each;
-      of_sets = field-found sets (names_at_columns is_set columns r.0) r.1.0 c.of_sets (used_up-found (unwrap_or r.1.0 []) m e2);
-      of_enums = field-found enums (names_at_columns is_enum columns r.0) r.1.1 c.of_enums (used_up-found (unwrap_or r.1.1 []) n e3);
+      of_sets = takes-found sets (names_at_columns is_set columns r.0) r.1.0 c.of_sets (used_up-found (unwrap_or r.1.0 []) m e2);
+      of_enums = takes-found enums (names_at_columns is_enum columns r.0) r.1.1 c.of_enums (used_up-found (unwrap_or r.1.1 []) n e3);
       of_others = c.of_others;
     }))))
 
@@ -306,8 +183,8 @@ unfolding value_names
 value_names-only columns sets enums names h =
     let c : Called columns sets enums names (emptied sets, emptied enums) = record {
       one_each = h.one_each;
-      of_sets = field-only sets (names_at_columns is_set columns names) h.of_sets;
-      of_enums = field-only enums (names_at_columns is_enum columns names) h.of_enums;
+      of_sets = takes-only sets (names_at_columns is_set columns names) h.of_sets;
+      of_enums = takes-only enums (names_at_columns is_enum columns names) h.of_enums;
       of_others = h.of_others;
     } in
     bind_known _ _ (names, (emptied sets, emptied enums)) _ (called-only columns sets enums names (emptied sets, emptied enums) c)

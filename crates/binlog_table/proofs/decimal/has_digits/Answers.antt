@@ -1,6 +1,7 @@
 use Rattle.std.proofs.Common.{sym, ap, ◌∙◌, is_some, drop}
 use Rattle.binlog_table.specs.Decimal.{plain}
-use Rattle.binlog_table.proofs.DecimalGroups.{digits-some, is_some-map}
+use Rattle.binlog_table.proofs.Options.{is_some-map}
+use Rattle.binlog_table.proofs.DecimalGroups.{digits-some}
 use Rattle.binlog_table.proofs.decimal.has_digits.Goals as goal
 
 pub returns : goal.returns

@@ -1,6 +1,7 @@
-use Rattle.std.proofs.Common.{◌≡◌, ◌+◌, ◌<◌, ◌^◌, ◌%◌, ℕ, Some, drop, ap, sym, subst, ◌∙◌, arith}
+use Rattle.std.proofs.Common.{◌≡◌, ◌+◌, ◌%◌, ℕ, Some, drop, ap, ◌∙◌, arith}
 use Rattle.binlog_table.specs.Decimal.{plain, digits_of, group_len}
-use Rattle.binlog_table.proofs.DecimalParts.{behind-none, behind-cut, behind-short, behind-long, joined_small}
+use Rattle.binlog_table.proofs.Options.{stops_at, goes_on}
+use Rattle.binlog_table.proofs.DecimalParts.{behind-two, behind-short, behind-long, joined_small}
 use Rattle.binlog_table.proofs.decimal.number_behind.Goals as goal
 
 pub returns-then-digits-lt9-clause-value : goal.returns-then-digits-lt9-clause-value
@@ -10,12 +11,13 @@ returns-then-digits-lt9-clause-value c =
 
 pub returns-in_err-first-clause-value : goal.returns-in_err-first-clause-value
 returns-in_err-first-clause-value c =
-    rw c.from_residual.ensures (behind-none c.args.digits (drop c.args.at (plain c.args.text.now)) c.if-digits-lt9.false c.requires.few c.in_err-first.ensures.value)
+    rw c.from_residual.ensures (stops_at _ _ _ c.in_err-first.ensures.value (behind-two c.args.digits (drop c.args.at (plain c.args.text.now)) c.if-digits-lt9.false c.requires.few))
 
 pub returns-in_err-last-clause-value : goal.returns-in_err-last-clause-value
 returns-in_err-last-clause-value c =
     let text = plain c.args.text.now in
-    rw c.from_residual-in_err-last.ensures (behind-cut c.args.digits c.in_ok-first.first (drop c.args.at text) (drop (c.args.at + 4) text) c.if-digits-lt9.false c.requires.few c.in_ok-first.ensures.value c.in_err-last.ensures.value)
+    let first = goes_on _ (digits_of 9 c.in_ok-first.first, drop (c.args.at + 4) text) _ _ c.in_ok-first.ensures.value (behind-two c.args.digits (drop c.args.at text) c.if-digits-lt9.false c.requires.few) in
+    rw c.from_residual-in_err-last.ensures (stops_at _ _ _ c.in_err-last.ensures.value first)
 
 pub returns-clause-value : goal.returns-clause-value
 returns-clause-value c =
@@ -27,4 +29,4 @@ returns-clause-value c =
 pub returns-clause-small : goal.returns-clause-small
 returns-clause-small c =
     let all : 9 + c.args.digits % 9 ≡ c.args.digits = omega (arith, c.if-digits-lt9.false, c.requires.few) in
-    subst (λ (n : ℕ). n < 10 ^ c.args.digits) (sym c.joined.ensures) (joined_small 9 (c.args.digits % 9) c.args.digits c.in_ok-first.first c.in_ok-last.last all c.in_ok-first.ensures.small c.in_ok-last.ensures.small)
+    rw c.joined.ensures (joined_small 9 (c.args.digits % 9) c.args.digits c.in_ok-first.first c.in_ok-last.last all c.in_ok-first.ensures.small c.in_ok-last.ensures.small)

@@ -1,7 +1,7 @@
 use Rattle.std.proofs.Common.{◌≡◌, ◌<◌, [], length}
 use Rattle.std.specs.List.{All}
 use Rattle.binlog_table.specs.Names.{key_from}
-use Rattle.binlog_table.proofs.KeyLoop.{Marks}
+use Rattle.binlog_table.proofs.KeyLoop.{KeyLeft, Marks}
 use Rattle.binlog_table.proofs.key.key_from.Given as goal
 
 abbrev pub invariant-loop-rest : goal.invariant-loop-rest
@@ -9,7 +9,7 @@ invariant-loop-rest l = record {
   below : All (λ i. i < l.count) l.key.items;
   len : length l.seen.items ≡ l.count;
   marks : Marks l.seen.items l.key.items;
-  read : key_from (length l.rest) l.prefixed l.count l.key.items l.rest ≡ key_from (length l.bytes) l.prefixed l.count [] l.bytes;
+  read : KeyLeft l.prefixed l.count l.key.items l.rest (key_from (length l.bytes) l.prefixed l.count [] l.bytes);
 }
 
 abbrev pub decreases-loop-rest : goal.decreases-loop-rest

@@ -1,8 +1,5 @@
 use Rattle.binlog_table.proofs.ImageReadings.{image_at-found, image_at-only}
 use Rattle.binlog_table.proofs.laws.images_are_read.Goals as goal
 
-pub returns-clause-found : goal.returns-clause-found
-returns-clause-found c = image_at-found
-
-pub returns-clause-only : goal.returns-clause-only
-returns-clause-only c = image_at-only
+pub returns : goal.returns
+returns c = record { found = image_at-found; only = image_at-only }
