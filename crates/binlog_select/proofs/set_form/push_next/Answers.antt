@@ -5,18 +5,11 @@ use Rattle.binlog_select.proofs.AppendLemmas.{OnErr-from, BeginsWith-same, begin
 use Rattle.binlog_select.proofs.set_form.push_next.Goals as goal
 use Rattle.binlog_select.proofs.set_form.push_next.Goals.{then-interval-source+in_ok-push+in_ok-push_source, else-interval-source}
 
-pub returns-in_err-push-clause-ok : goal.returns-in_err-push-clause-ok
-returns-in_err-push-clause-ok c = IfOk-from_err c.from_residual.result _ c.from_residual.ensures.0
+pub returns-in_err-push : goal.returns-in_err-push
+returns-in_err-push c = record { ok = IfOk-from_err c.from_residual.result _ c.from_residual.ensures.0; err = OnErr-from c.from_residual.result (BeginsWith-same _ _ c.in_err-push.ensures.bytes) }
 
-pub returns-in_err-push-clause-err : goal.returns-in_err-push-clause-err
-returns-in_err-push-clause-err c = OnErr-from c.from_residual.result (BeginsWith-same _ _ c.in_err-push.ensures.bytes)
-
-pub returns-in_err-push_source-clause-ok : goal.returns-in_err-push_source-clause-ok
-returns-in_err-push_source-clause-ok c = IfOk-from_err c.from_residual-in_err-push_source.result _ c.from_residual-in_err-push_source.ensures.0
-
-pub returns-in_err-push_source-clause-err : goal.returns-in_err-push_source-clause-err
-returns-in_err-push_source-clause-err c =
-    OnErr-from c.from_residual-in_err-push_source.result (begins_1 _ _ _ _ c.in_ok-push.ensures.bytes c.in_err-push_source.ensures.err)
+pub returns-in_err-push_source : goal.returns-in_err-push_source
+returns-in_err-push_source c = record { ok = IfOk-from_err c.from_residual-in_err-push_source.result _ c.from_residual-in_err-push_source.ensures.0; err = OnErr-from c.from_residual-in_err-push_source.result (begins_1 _ _ _ _ c.in_ok-push.ensures.bytes c.in_err-push_source.ensures.err) }
 
 pub returns-clause-ok : goal.returns-clause-ok
 unfolding encode

@@ -7,11 +7,8 @@ use Rattle.binlog_select.proofs.set_form.push_rest.Goals as goal
 pub loop-interval-init : goal.loop-interval-init
 loop-interval-init c = (refl, BeginsWith-same _ _ refl)
 
-pub returns-in_err-push_next-clause-ok : goal.returns-in_err-push_next-clause-ok
-returns-in_err-push_next-clause-ok c = IfOk-from_err c.from_residual.result _ c.from_residual.ensures.0
-
-pub returns-in_err-push_next-clause-err : goal.returns-in_err-push_next-clause-err
-returns-in_err-push_next-clause-err c = OnErr-from c.from_residual.result (BeginsWith-trans _ _ _ c.loop-interval.invariant.1 c.in_err-push_next.ensures.err)
+pub returns-in_err-push_next : goal.returns-in_err-push_next
+returns-in_err-push_next c = record { ok = IfOk-from_err c.from_residual.result _ c.from_residual.ensures.0; err = OnErr-from c.from_residual.result (BeginsWith-trans _ _ _ c.loop-interval.invariant.1 c.in_err-push_next.ensures.err) }
 
 pub loop-interval-preserved : goal.loop-interval-preserved
 loop-interval-preserved c =
