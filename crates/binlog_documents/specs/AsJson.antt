@@ -1,5 +1,5 @@
 -- Documents as JSON values, in the words of the library `json`: what their texts are, by JSON's own grammar.
-use Rattle.std.specs.Prelude.{◌≡◌, ℕ, ◌<◌, ◌^◌, List, ◌==◌, ◌&&◌, ◌||◌, if◌then◌else◌, All, length, Option, Some, None, option_map, unwrap_or, codes, decimal}
+use Rattle.std.specs.Prelude.{◌≡◌, ℕ, ◌<◌, ◌^◌, List, ◌==◌, ◌&&◌, ◌||◌, if◌then◌else◌, All, drop, length, Option, Some, None, option_map, unwrap_or, codes, decimal}
 use Rattle.std.specs.Str.{is_utf8}
 use Rattle.std.specs.Fmt.{signed_decimal}
 use Rattle.base64.specs.Engines.{standard}
@@ -57,7 +57,16 @@ abbrev mutual
   members_json no_members = json.no_members
   members_json (member k d ms) = json.member k (as_json d) (members_json ms)
 
--- The text of each document that bytes spell is JSON, and its value is the document's.
+-- The value that is read in a text is that of the document which a column's value is, and none is where it is no document.
+abbrev pub IsJsonOf : List ℕ → List ℕ → Type 0
+IsJsonOf value bytes = json_value bytes ≡ option_map as_json (document_at value)
+
+-- the same of what was appended
+abbrev pub AppendsJson : List ℕ → List ℕ → List ℕ → Type 0
+AppendsJson value old new = IsJsonOf value (drop (length old) new)
+
+-- The text of each document that bytes spell is JSON, and the value that is read there is the document's, as above. Of a double or a
+-- decimal that says only that its text (`double_text`, `decimal_opaque`) is a number of JSON, and not which number it is.
 abbrev pub DocumentsAreJson : Type 0
 DocumentsAreJson =
     (bytes : List ℕ) (document : Document) → All (λ b. b < 2 ^ 8) bytes → document_at bytes ≡ Some document → json_value (document_text document) ≡ Some (as_json document)

@@ -1,7 +1,8 @@
 //! Documents as JSON, at the end of a text.
-ghost use Rattle.std.specs.Prelude.{◌≡◌, IfOk, OnErr, option_map};
+ghost use Rattle.std.specs.Prelude.{◌≡◌, IfOk, IfSome, OnErr, option_map};
 ghost use Rattle.std.specs.Str.{IsUtf8};
 ghost use Rattle.binlog_documents.specs.Appended.{IsRead, AppendsText};
+ghost use Rattle.binlog_documents.specs.AsJson.{AppendsJson, IsJsonOf};
 ghost use Rattle.binlog_documents.specs.Drafts.{said};
 ghost use Rattle.binlog_documents.specs.Values.{value_text};
 
@@ -27,7 +28,8 @@ impl DocumentWriter {
 
     /// The document that a column's value is, as compact JSON; none where the value is no document. It stands until the next call.
     pub fn text(&mut self, value: &[u8]) -> Result<Option<&[u8]>, AllocError>
-        ensures { IfOk result (λ text. option_map (λ t. t.now) text ≡ value_text value.now) }
+        ensures text { IfOk result (λ text. option_map (λ t. t.now) text ≡ value_text value.now) }
+        ensures json { IfOk result (λ text. IfSome text (λ t. IsJsonOf value.now t.now)) }
     {
         self.text.clear();
         if append_document(&mut self.text, value)? {
@@ -41,6 +43,7 @@ impl DocumentWriter {
     /// nor is it where memory runs out.
     pub fn append(&mut self, out: &mut Vec<u8>, value: &[u8]) -> Result<bool, AllocError>
         ensures text { IfOk result (AppendsText out.old.items out.new.items (value_text value.now)) }
+        ensures json { IfOk result (λ _. AppendsJson value.now out.old.items out.new.items) }
         ensures utf8 { IfOk result (λ _. IsUtf8 out.old.items → IsUtf8 out.new.items) }
         ensures err { OnErr result (out.new.items ≡ out.old.items) }
     {
