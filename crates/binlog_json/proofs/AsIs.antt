@@ -1,15 +1,18 @@
 -- Texts of digits and signs, which need no escape.
-use Rattle.std.proofs.Common.{◌≡◌, ◌∙◌, ℕ, zero, suc, ◌+◌, ◌-◌, ◌*◌, ◌%◌, ◌/◌, ◌<◌, ◌≤◌, ◌==◌, List, [], ◌∷◌, ◌++◌, Bool, true, false, cond, if◌then◌else◌, nat_lt, ltb-true, ltb-false, length, take, drop, replicate, decimal, lt-ltb, refl, ap, ap₂, arith}
-use Rattle.std.specs.Fmt.{digits, digits_onto, digit_glyph}
+use Rattle.std.proofs.Common.{◌≡◌, ◌∙◌, ℕ, zero, suc, ◌+◌, ◌-◌, ◌*◌, ◌<◌, ◌≤◌, ◌==◌, List, [], ◌∷◌, ◌++◌, Bool, true, false, if◌then◌else◌, nat_lt, ltb-true, ltb-false, take, decimal, refl, ap, ap₂, arith}
 use Rattle.std.specs.List.{All}
-use Rattle.std.proofs.lemmas.Grind.{flat_map-append, common_steps}
+use Rattle.std.proofs.lemmas.Bool.{cond_both}
+use Rattle.std.proofs.lemmas.Grind.{flat_map-append}
+use Rattle.std.proofs.lemmas.List.Elements.{All-drop, All-take}
 use Rattle.json.specs.Print.{escape, escape_byte, quoted}
 use Rattle.json.proofs.Printed.Strings.{escape_byte_plain}
 use Rattle.binlog_table.specs.declared.cell.Date.{Date}
 use Rattle.binlog_table.specs.declared.cell.DateTime.{DateTime}
 use Rattle.binlog_table.specs.declared.cell.Time.{Time}
 use Rattle.binlog_table.specs.declared.cell.Timestamp.{Timestamp}
-use Rattle.binlog_table.specs.Decimal.{Decimal, digits_of}
+use Rattle.binlog_documents.proofs.Digits.{decimal_digits, padded_digits, plain_digits}
+use Rattle.binlog_table.proofs.DecimalDigitLists.{digits_of-small}
+use Rattle.binlog_table.specs.Decimal.{Decimal}
 use Rattle.binlog_table.specs.DecimalParts.{front_len}
 use Rattle.binlog_table.specs.Extent.{fraction_len}
 use Rattle.uuid.specs.Text.{by_index, digit_place, hex_digit, hyphen, hyphenated_text, is_hyphen_place, lower, nibble}
@@ -27,30 +30,11 @@ byte x rest above below is =
 both : (a b : List ℕ) → AsIs a → AsIs b → AsIs (a ++ b)
 both a b p q = flat_map-append escape_byte a b ∙ ap₂ (λ (front back : List ℕ). front ++ back) p q
 
-glyph : (d : ℕ) → d < 10 → digit_glyph false d ≡ 48 + d
-glyph d small = rw (lt-ltb d 10 small) refl
-
-onto_at : (b : Bool) (front more : List ℕ) → AsIs front → AsIs more → AsIs (cond b front more)
-onto_at true front more p q = p
-onto_at false front more p q = q
-
-onto : (k n : ℕ) (rest : List ℕ) → AsIs rest → AsIs (digits_onto k 10 false n rest)
-onto zero n rest is = is
-onto (suc k) n rest is =
-    let small : n % 10 < 10 = omega arith in
-    let front : AsIs (digit_glyph false (n % 10) ∷ rest) = rw (glyph (n % 10) small) (byte (48 + n % 10) rest (omega arith) (omega arith) is) in
-    onto_at (n / 10 == 0) (digit_glyph false (n % 10) ∷ rest) (digits_onto k 10 false (n / 10) (digit_glyph false (n % 10) ∷ rest)) front (onto k (n / 10) _ front)
-
 number : (n : ℕ) → AsIs (decimal n)
-unfolding digits
-number n = onto 64 n [] refl
-
-zeros : (k : ℕ) → AsIs (replicate k 48)
-zeros zero = refl
-zeros (suc k) = byte 48 (replicate k 48) (omega arith) (omega arith) (zeros k)
+number n = (plain_digits (decimal n) (decimal_digits n)).escaped
 
 padded_number : (width n : ℕ) → AsIs (padded width n)
-padded_number width n = both (replicate (width - length (decimal n)) 48) (decimal n) (zeros _) (number n)
+padded_number width n = (plain_digits (padded width n) (padded_digits width n)).escaped
 
 shown : (ds : List ℕ) → All (λ d. d < 10) ds → AsIs (digits_text ds)
 shown [] small = refl
@@ -58,14 +42,10 @@ shown (d ∷ ds) small =
     let first : d < 10 = small 0 0 (omega arith) in
     byte (48 + d) (digits_text ds) (omega arith) (omega (arith, first)) (shown ds (λ k e l. small (suc k) e (omega (arith, l))))
 
-whole_at : (b : Bool) (skipped all : List ℕ) → AsIs skipped → AsIs all → AsIs (cond b skipped all)
-whole_at true skipped all p q = p
-whole_at false skipped all p q = q
-
 whole : (ds : List ℕ) → All (λ d. d < 10) ds → AsIs (whole_text ds)
 whole [] small = byte 48 [] (omega arith) (omega arith) refl
 whole (d ∷ ds) small =
-    whole_at (d == 0) (whole_text ds) (digits_text (d ∷ ds)) (whole ds (λ k e l. small (suc k) e (omega (arith, l)))) (shown (d ∷ ds) small)
+    cond_both (d == 0) (whole_text ds) (digits_text (d ∷ ds)) AsIs (λ e. whole ds (λ k e l. small (suc k) e (omega (arith, l)))) (λ e. shown (d ∷ ds) small)
 
 point : (ds : List ℕ) → All (λ d. d < 10) ds → AsIs (point_text ds)
 point [] small = refl
@@ -75,19 +55,8 @@ sign : (b : Bool) → AsIs (sign_text b)
 sign true = byte 45 [] (omega arith) (omega arith) refl
 sign false = refl
 
-taken : (n : ℕ) (ds : List ℕ) → All (λ d. d < 10) ds → All (λ d. d < 10) (take n ds)
-taken n ds small = grind (arith, common_steps)
-
-dropped : (n : ℕ) (ds : List ℕ) → All (λ d. d < 10) ds → All (λ d. d < 10) (drop n ds)
-dropped n ds small = grind (arith, common_steps)
-
-digits_small : (width n : ℕ) → All (λ d. d < 10) (digits_of width n)
-digits_small zero n k d l = absurd (omega (arith, l))
-digits_small (suc width) n zero d l = omega arith
-digits_small (suc width) n (suc k) d l = digits_small width n k d (omega (arith, l))
-
 fraction : (precision n : ℕ) → AsIs (fraction_text precision n)
-fraction precision n = point _ (taken precision _ (digits_small (2 * fraction_len precision) n))
+fraction precision n = point _ (All-take (λ d. d < 10) precision _ (digits_of-small (2 * fraction_len precision) n))
 
 date : (y m d : ℕ) → AsIs (day_text y m d)
 date y m d =
@@ -109,7 +78,7 @@ quoted_number width n = quoted_as_is _ (padded_number width n)
 
 pub quoted_decimal : (d : Decimal) → All (λ x. x < 10) d.digits → quoted (decimal_text d) ≡ 34 ∷ (decimal_text d ++ 34 ∷ [])
 quoted_decimal d small =
-    quoted_as_is _ (both (sign_text (is_below_zero d)) _ (sign (is_below_zero d)) (both (whole_text (take (front_len d) d.digits)) _ (whole _ (taken (front_len d) d.digits small)) (point _ (dropped (front_len d) d.digits small))))
+    quoted_as_is _ (both (sign_text (is_below_zero d)) _ (sign (is_below_zero d)) (both (whole_text (take (front_len d) d.digits)) _ (whole _ (All-take (λ x. x < 10) (front_len d) d.digits small)) (point _ (All-drop (λ x. x < 10) (front_len d) d.digits small))))
 
 pub quoted_date : (d : Date) → quoted (date_text d) ≡ 34 ∷ (date_text d ++ 34 ∷ [])
 quoted_date d = quoted_as_is _ (date d.year d.month d.day)

@@ -1,8 +1,9 @@
 -- The texts of an image's columns, in the order of their names.
-use Rattle.std.proofs.Common.{◌≡◌, ℕ, zero, suc, ◌+◌, ◌<◌, ◌≤◌, List, [], ◌∷◌, ◌++◌, Bool, true, false, cond, not, ◌||◌, length, drop, get_or, slice_get, slice_index_or, Some, append_assoc, drop_of_length-le, drop-cons, add-one, refl, ap, sym, ◌∙◌, arith}
+use Rattle.std.proofs.Common.{◌≡◌, ℕ, ◌+◌, ◌<◌, ◌≤◌, List, [], ◌∷◌, ◌++◌, Bool, true, false, cond, not, ◌||◌, length, drop, get_or, slice_get, Some, append_assoc, refl, ap, ◌∙◌}
+use Rattle.std.proofs.lemmas.List.{drop_all, drop_more, get_or_past}
+use Rattle.std.proofs.lemmas.Option.{get_or_from_slice_get}
 use Rattle.json.specs.Print.{quoted}
-use Rattle.binlog_json.specs.Json.{Data, Members, member}
-use Rattle.binlog_json.specs.Json.{compact_text, members_text}
+use Rattle.binlog_json.specs.Json.{Data, Members, member, compact_text, members_text}
 use Rattle.binlog_table.specs.declared.cell.Cell.{Cell}
 use Rattle.binlog_table.specs.declared.cell.Cell.TheVariants as cells
 use Rattle.binlog_table.specs.MapWords.{value_names_in}
@@ -18,52 +19,26 @@ use Rattle.binlog_json.proofs.NameOrders.{members-listed}
 
 present_at : (c : Cell) → (c ≡ cells.Absent → ⊥) → is_absent (view c) ≡ false
 present_at cells.Absent h = absurd (h refl)
-present_at cells.Null h = refl
-present_at (cells.Int z) h = refl
-present_at (cells.UInt n) h = refl
-present_at (cells.Decimal d) h = refl
-present_at (cells.Year n) h = refl
-present_at (cells.Date d) h = refl
-present_at (cells.DateTime d) h = refl
-present_at (cells.Time t) h = refl
-present_at (cells.Timestamp t) h = refl
-present_at (cells.Bits n) h = refl
-present_at (cells.Enum n) h = refl
-present_at (cells.Set n) h = refl
-present_at (cells.Bytes b) h = refl
-present_at (cells.Raw b) h = refl
-
-pub index_of_get : {A : Type 0} (xs : List A) (i : ℕ) (x z : A) → slice_get xs i ≡ Some x → slice_index_or xs i z ≡ x
-index_of_get [] i x z e = absurd (cc)
-index_of_get (y ∷ xs) zero x z e = cc
-index_of_get (y ∷ xs) (suc i) x z e = index_of_get xs i x z e
-
-index_past : {A : Type 0} (xs : List A) (i : ℕ) (z : A) → length xs ≤ i → slice_index_or xs i z ≡ z
-index_past [] i z h = refl
-index_past (y ∷ xs) zero z h = absurd (omega arith)
-index_past (y ∷ xs) (suc i) z h = index_past xs i z (omega arith)
+present_at other h = refl
 
 -- a column that the image has no cell for is absent
 pub past_is_absent : (image : RowImage) (column : ℕ) → length image.cells ≤ column → is_absent (cell_in image column) ≡ true
-past_is_absent image column h = ap is_absent (index_past image.cells column absent h)
+past_is_absent image column h = ap is_absent (get_or_past image.cells column absent h)
 
 pub absent_is : (image : RowImage) (column : ℕ) (cell : Cell) → slice_get image.cells column ≡ Some (view cell) → cell ≡ cells.Absent → is_absent (cell_in image column) ≡ true
-absent_is image column cell at is = ap is_absent (index_of_get image.cells column (view cell) absent at ∙ ap view is)
+absent_is image column cell at is = ap is_absent (get_or_from_slice_get image.cells column (view cell) absent at ∙ ap view is)
 
 pub present_is : (image : RowImage) (column : ℕ) (cell : Cell) → slice_get image.cells column ≡ Some (view cell) → (cell ≡ cells.Absent → ⊥) → is_absent (cell_in image column) ≡ false
-present_is image column cell at some = ap is_absent (index_of_get image.cells column (view cell) absent at) ∙ present_at cell some
+present_is image column cell at some = ap is_absent (get_or_from_slice_get image.cells column (view cell) absent at) ∙ present_at cell some
 
 -- the text of a present column
 pub column_is_by : (f : ℕ → Data) (value : Data) (later : Bool) (image : RowImage) (column : ℕ) (cell : Cell) → slice_get image.cells column ≡ Some (view cell) → (cell ≡ cells.Absent → ⊥) → f column ≡ value
     → column_text_by f later image column ≡ comma_if later ++ (quoted (name_of image.table.names column) ++ (58 ∷ compact_text value))
-column_is_by f value later image column cell at some is = rw (index_of_get image.cells column (view cell) absent at, present_at cell some, is) refl
+column_is_by f value later image column cell at some is = rw (get_or_from_slice_get image.cells column (view cell) absent at, present_at cell some, is) refl
 
 pub column_is : (later : Bool) (image : RowImage) (column : ℕ) (cell : Cell) → slice_get image.cells column ≡ Some (view cell) → (cell ≡ cells.Absent → ⊥)
     → column_text later image column ≡ comma_if later ++ (quoted (name_of image.table.names column) ++ (58 ∷ compact_text (content_data (value_names_in image.table column) (view cell))))
-column_is later image column cell at some = rw (index_of_get image.cells column (view cell) absent at, present_at cell some) refl
-
-pub then_value : (old name value a q t : List ℕ) → name ≡ old ++ (a ++ (q ++ 58 ∷ [])) → value ≡ name ++ t → value ≡ old ++ (a ++ (q ++ (58 ∷ t)))
-then_value old name value a q t is_name is_value = rw (is_value, is_name) (simp append_assoc)
+column_is later image column cell at some = rw (get_or_from_slice_get image.cells column (view cell) absent at, present_at cell some) refl
 
 step_at : (b later : Bool) (name : List ℕ) (d : Data) (rest : Members)
     → members_text later (cond b rest (member name d rest)) ≡ cond b [] (comma_if later ++ member_text name d) ++ members_text (not b || later) rest
@@ -77,18 +52,13 @@ pub members_more_by : (f : ℕ → Data) (image : RowImage) (order start out new
     → new ++ members_text now (listed_by f image (drop (k + 1) order)) ≡ start
 members_more_by f image order start out new k later now below inv appended then_later =
     let column = get_or order k 0 in
-    let first : drop k order ≡ column ∷ drop (suc k) order = drop-cons order k 0 below in
-    let step = step_at (is_absent (cell_in image column)) later (name_of image.table.names column) (f column) (listed_by f image (drop (suc k) order)) in
-    let next : k + 1 ≡ suc k = add-one k in
-    rw (next, appended, then_later, append_assoc, ← step) (rw first at inv)
+    let step = step_at (is_absent (cell_in image column)) later (name_of image.table.names column) (f column) (listed_by f image (drop (k + 1) order)) in
+    rw (appended, then_later, append_assoc, ← step) (rw (drop_more order k 0 below) at inv)
 
 pub members_end_by : (f : ℕ → Data) (image : RowImage) (order old start out new : List ℕ) (k : ℕ) (later : Bool) → out ++ members_text later (listed_by f image (drop k order)) ≡ start ++ members_text false (listed_by f image order)
     → length order ≤ k → start ≡ old ++ 123 ∷ [] → new ≡ out ++ 125 ∷ [] → IsNameOrder image.table.names order → new ≡ old ++ (123 ∷ members_text false (members_by f image))
 members_end_by f image order old start out new k later inv end begun closed is =
-    let none : drop k order ≡ [] = drop_of_length-le order {i = k} end in
-    let last : out ++ 125 ∷ [] ≡ start ++ members_text false (listed_by f image order) = rw none at inv in
-    let whole : (old ++ 123 ∷ []) ++ members_text false (listed_by f image order) ≡ old ++ (123 ∷ members_text false (listed_by f image order)) = append_assoc old (123 ∷ []) _ in
-    closed ∙ last ∙ ap (λ s. s ++ members_text false (listed_by f image order)) begun ∙ whole ∙ ap (λ ms. old ++ (123 ∷ members_text false ms)) (sym (members-listed f image order is))
+    rw (closed, members-listed f image order is) ((rw (drop_all k order end, begun) at inv) ∙ append_assoc old (123 ∷ []) _)
 
 pub members_more : (image : RowImage) (order start out new : List ℕ) (k : ℕ) (later now : Bool) → k < length order
     → out ++ members_text later (listed image (drop k order)) ≡ start → new ≡ out ++ column_text later image (get_or order k 0)

@@ -32,9 +32,8 @@ none_read old new (Some text) e = absurd (cc)
 pub units_more : (order : ByteOrder) (front rest : List ℕ) (total : Option (List ℕ)) → 2 ≤ length rest → behind front (units_of order rest) ≡ total
     → behind (front ++ unit_in order (get_or rest 0 0) (get_or rest 1 0) ∷ []) (units_of order (drop 2 rest)) ≡ total
 unfolding units_of
-units_more order front [] total many e = absurd (omega arith)
-units_more order front (x ∷ []) total many e = absurd (omega arith)
 units_more order front (first ∷ second ∷ rest) total many e = behind_one front (unit_in order first second) (units_of order rest) ∙ e
+units_more order front other total many e = absurd (omega arith)
 
 pub units_done : (order : ByteOrder) (front rest : List ℕ) (total : Option (List ℕ)) (whole : Bool) → length rest < 2 → whole ≡ (length rest == 0) → behind front (units_of order rest) ≡ behind [] total → IsRead [] front total whole
 unfolding units_of
@@ -51,27 +50,19 @@ first_code bytes = utf32_code (get_or bytes 0 0) (get_or bytes 1 0) (get_or byte
 pub utf32_more : (front rest : List ℕ) (code : ℕ) (total : Option (List ℕ)) → 4 ≤ length rest → IsScalar (first_code rest) → code ≡ first_code rest → behind front (utf32_text rest) ≡ total
     → behind (front ++ encode_utf8 code) (utf32_text (drop 4 rest)) ≡ total
 unfolding utf32_text
-utf32_more front [] code total many scalar is e = absurd (omega arith)
-utf32_more front (a ∷ []) code total many scalar is e = absurd (omega arith)
-utf32_more front (a ∷ b ∷ []) code total many scalar is e = absurd (omega arith)
-utf32_more front (a ∷ b ∷ c ∷ []) code total many scalar is e = absurd (omega arith)
 utf32_more front (a ∷ b ∷ c ∷ d ∷ rest) code total many scalar is e =
     ap (λ (n : ℕ). behind (front ++ encode_utf8 n) (utf32_text rest)) is ∙ behind_more front (encode_utf8 (utf32_code a b c d)) (utf32_text rest) ∙ (rw scalar at e)
+utf32_more front other code total many scalar is e = absurd (omega arith)
 
 pub utf32_none : (old new rest : List ℕ) (total : Option (List ℕ)) → 4 ≤ length rest → ¬ (IsScalar (first_code rest)) → behind new (utf32_text rest) ≡ behind old total → IsRead old new total false
 unfolding utf32_text
-utf32_none old new [] total many not e = absurd (omega arith)
-utf32_none old new (a ∷ []) total many not e = absurd (omega arith)
-utf32_none old new (a ∷ b ∷ []) total many not e = absurd (omega arith)
-utf32_none old new (a ∷ b ∷ c ∷ []) total many not e = absurd (omega arith)
 utf32_none old new (a ∷ b ∷ c ∷ d ∷ rest) total many not e =
     let no : scalar (utf32_code a b c d) ≡ false = false_from_ne_true (scalar (utf32_code a b c d)) not in
     none_read old new total (rw no at e)
+utf32_none old new other total many not e = absurd (omega arith)
 
 pub utf32_done : (old front rest : List ℕ) (total : Option (List ℕ)) (whole : Bool) → length rest < 4 → whole ≡ (length rest == 0) → behind front (utf32_text rest) ≡ behind old total → IsRead old front total whole
 unfolding utf32_text
 utf32_done old front [] total whole few is e = subst (λ (b : Bool). IsRead old front total b) (sym is) (all_read old front total e)
-utf32_done old front (x ∷ []) total whole few is e = subst (λ (b : Bool). IsRead old front total b) (sym is) (none_read old front total e)
-utf32_done old front (x ∷ y ∷ []) total whole few is e = subst (λ (b : Bool). IsRead old front total b) (sym is) (none_read old front total e)
-utf32_done old front (x ∷ y ∷ z ∷ []) total whole few is e = subst (λ (b : Bool). IsRead old front total b) (sym is) (none_read old front total e)
 utf32_done old front (x ∷ y ∷ z ∷ u ∷ rest) total whole few is e = absurd (omega arith)
+utf32_done old front other total whole few is e = subst (λ (b : Bool). IsRead old front total b) (sym is) (none_read old front total e)

@@ -1,35 +1,35 @@
 -- The digits of a number, and what is shown of them.
-use Rattle.std.proofs.Common.{◌≡◌, ◌∙◌, ℕ, zero, suc, ◌+◌, ◌-◌, ◌*◌, ◌/◌, ◌%◌, ◌^◌, ◌<◌, List, [], ◌∷◌, ◌++◌, length, take, drop, set, get_or, length-drop, refl, sym, ap, ap₂, subst, mul_comm, add-one, arith}
+use Rattle.std.proofs.Common.{◌≡◌, ◌∙◌, ℕ, zero, suc, ◌+◌, ◌-◌, ◌*◌, ◌/◌, ◌%◌, ◌^◌, ◌<◌, List, [], ◌∷◌, ◌++◌, length, take, drop, take_at, set, get_or, sym, ap, ap₂, subst, mul_comm, arith}
 use Rattle.std.specs.List.{All}
 use Rattle.std.specs.Str.{IsAscii, IsUtf8}
-use Rattle.std.proofs.Math.Nat.{div-div-eq-div-mul}
+use Rattle.std.proofs.Math.Nat.{div-div-eq-div-mul, pow-suc}
 use Rattle.std.proofs.Math.Seq.{take-length}
-use Rattle.std.proofs.lemmas.Grind.{common_steps, pow_more}
-use Rattle.std.proofs.lemmas.List.{map-append, drop-map, take_more, take_more_set}
+use Rattle.std.proofs.lemmas.Grind.{common_steps}
+use Rattle.std.proofs.lemmas.List.{map-append, drop-map, take_all, take_more, take_more_set, take_rest}
 use Rattle.std.proofs.lemmas.Str.{IsUtf8-from_ascii}
 use Rattle.binlog_table.specs.Decimal.{digits_of}
 use Rattle.binlog_table.specs.Extent.{fraction_len}
 use Rattle.binlog_table.proofs.DecimalDigitLists.{digits_of-length}
 use Rattle.binlog_json.specs.Texts.{digits_text}
 
--- the digits of a number but the last
-without_last : (k n : ℕ) → digits_of k (n / 10) ≡ take k (digits_of (suc k) n)
-without_last zero n = refl
-without_last (suc k) n =
-    let first : n / 10 / 10 ^ k ≡ n / 10 ^ suc k = div-div-eq-div-mul n 10 (10 ^ k) ∙ ap (λ (power : ℕ). n / power) (mul_comm 10 (10 ^ k) ∙ sym (pow_more 10 k) ∙ ap (λ (e : ℕ). 10 ^ e) (add-one k)) in
-    ap₂ (λ (front : ℕ) (rest : List ℕ). front % 10 ∷ rest) first (without_last k n)
+-- the last digit stands behind those of a tenth of the number
+pub digits_snoc : (d n : ℕ) → digits_of (suc d) n ≡ digits_of d (n / 10) ++ (n % 10 ∷ [])
+digits_snoc zero n = ap (λ (k : ℕ). k % 10 ∷ []) (omega arith)
+digits_snoc (suc d) n =
+    let turned : 10 ^ suc d ≡ 10 * 10 ^ d = pow-suc 10 d ∙ mul_comm (10 ^ d) 10 in
+    let first : n / 10 ^ suc d ≡ n / 10 / 10 ^ d = ap (λ (p : ℕ). n / p) turned ∙ sym (div-div-eq-div-mul n 10 (10 ^ d)) in
+    ap₂ (λ (digit : ℕ) (others : List ℕ). digit ∷ others) (ap (λ (q : ℕ). q % 10) first) (digits_snoc d n)
 
 -- those of a fraction of a second that are shown: all of them, or all but the last
 pub all_shown : (precision n : ℕ) → precision % 2 ≡ 0 → digits_of precision n ≡ take precision (digits_of (2 * fraction_len precision) n)
 all_shown precision n even =
     let count : precision ≡ 2 * fraction_len precision = omega (arith, even) in
-    let whole : digits_of precision n ≡ take precision (digits_of precision n) = sym (ap (λ (k : ℕ). take k (digits_of precision n)) (sym (digits_of-length precision n)) ∙ take-length (digits_of precision n)) in
-    whole ∙ ap (λ (k : ℕ). take precision (digits_of k n)) count
+    sym (take_all precision (digits_of precision n) (omega (arith, digits_of-length precision n))) ∙ ap (λ (k : ℕ). take precision (digits_of k n)) count
 
 pub all_but_last_shown : (precision n : ℕ) → (precision % 2 ≡ 0 → ⊥) → digits_of precision (n / 10) ≡ take precision (digits_of (2 * fraction_len precision) n)
 all_but_last_shown precision n odd =
     let count : suc precision ≡ 2 * fraction_len precision = omega (arith, odd) in
-    without_last precision n ∙ ap (λ (k : ℕ). take precision (digits_of k n)) count
+    sym (ap (take precision) (digits_snoc precision n) ∙ take_at (digits_of precision (n / 10)) (n % 10 ∷ []) precision (digits_of-length precision (n / 10))) ∙ ap (λ (k : ℕ). take precision (digits_of k n)) count
 
 -- digits are ASCII
 pub digits_ascii : (xs : List ℕ) → All (λ d. d < 10) xs → IsAscii (digits_text xs)
@@ -56,8 +56,7 @@ shown_whole digits shown place all front =
 -- what is left of digits, as characters
 pub left_shown : (digits shown : List ℕ) (at : ℕ) → shown ≡ digits_text digits → take (length shown - at) (drop at shown) ≡ digits_text (drop at digits)
 left_shown digits shown at is =
-    let whole : take (length shown - at) (drop at shown) ≡ drop at shown = ap (λ n. take n (drop at shown)) (sym (length-drop at shown)) ∙ take-length (drop at shown) in
-    whole ∙ ap (drop at) is ∙ drop-map (λ d. 48 + d) at digits
+    take_rest shown at ∙ ap (drop at) is ∙ drop-map (λ d. 48 + d) at digits
 
 pub left_utf8 : (digits shown : List ℕ) (at : ℕ) → All (λ d. d < 10) digits → shown ≡ digits_text digits → IsUtf8 (take (length shown - at) (drop at shown))
 left_utf8 digits shown at small is =

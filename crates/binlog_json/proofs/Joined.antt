@@ -21,12 +21,6 @@ pub joined : (between : List ℕ) (members : List (List ℕ)) → joined_behind 
 joined between [] = refl
 joined between (first ∷ more) = behind_first between first more
 
--- one more
-pub join_more : (between front first : List ℕ) (more : List (List ℕ)) (later : Bool) (total : List ℕ) → front ++ joined_behind later between (first ∷ more) ≡ total
-    → ((front ++ between_if later between) ++ first) ++ joined_behind true between more ≡ total
-join_more between front first more later total e =
-    append_assoc (front ++ between_if later between) first (joined_behind true between more) ∙ append_assoc front (between_if later between) (first ++ joined_behind true between more) ∙ e
-
 pub join_end : (between front old : List ℕ) (later : Bool) (left members : List (List ℕ)) → left ≡ [] → front ++ joined_behind later between left ≡ old ++ joined_behind false between members → front ≡ old ++ joined_by between members
 join_end between front old later left members none e = sym (append-nil front) ∙ (rw none at e) ∙ ap (λ (l : List ℕ). old ++ l) (joined between members)
 
@@ -49,6 +43,3 @@ read_end old front None e = absurd (cc)
 read_end old front (Some texts) e =
     let same : front ++ [] ≡ old ++ joined_behind false comma texts = cc in
     (refl, sym (append-nil front) ∙ same ∙ ap (λ (l : List ℕ). old ++ l) (joined comma texts))
-
-pub comma_pushed : (old new : List ℕ) → new ≡ old ++ comma → new ≡ old ++ between_if true comma
-comma_pushed old new e = e

@@ -1,19 +1,16 @@
 -- The labels of columns, kept behind one another.
-use Rattle.std.proofs.Common.{◌≡◌, ℕ, zero, suc, ◌+◌, ◌-◌, ◌<◌, ◌≤◌, nat_lt, List, [], ◌∷◌, ◌++◌, Bool, true, false, cond, length, take, drop, slice_get, slice_index_or, Some, ltb-true, ltb-false, length-append, append_assoc, refl, ap, sym, subst, ◌∙◌, arith}
-use Rattle.std.proofs.lemmas.List.{drop-take, take-append-le, take_all}
+use Rattle.std.proofs.Common.{inl, inr, ◌≡◌, ℕ, zero, suc, ◌+◌, ◌-◌, ◌<◌, ◌≤◌, List, [], ◌∷◌, ◌++◌, Bool, true, false, cond, length, take, drop, slice_get, slice_index_or, Some, length-append, append_assoc, refl, ap, sym, subst, ◌∙◌, arith}
+use Rattle.std.proofs.Math.Seq.{drop-append_seam}
+use Rattle.std.proofs.lemmas.Bool.{cases_lt}
+use Rattle.std.proofs.lemmas.List.{drop-append-le, drop-take, get_or_append_left, get_or_default, get_or_push, length-drop, take-append-le, take_all}
 use Rattle.std.proofs.lemmas.Str.{IsCharBoundary-before_ascii, IsUtf8-append, IsUtf8-drop, IsUtf8-from_is_utf8, is_utf8-from_IsUtf8}
 use Rattle.std.specs.Str.{IsUtf8, is_utf8}
+use Rattle.std.proofs.lemmas.Option.{get_or_from_slice_get}
 use Rattle.json.specs.Print.{quoted}
 use Rattle.json.proofs.Printed.Utf8.{IsUtf8-are_ascii, IsUtf8-key}
 use Rattle.binlog_table.specs.NameOrder.{name_of}
 use Rattle.binlog_json.specs.Joining.{comma_if}
 use Rattle.binlog_json.specs.Labels.{label_text, IsLabel, AreWritten, AreLabels}
-use Rattle.binlog_json.proofs.ColumnTexts.{index_of_get}
-
-slice_longer : (text more : List ℕ) (s n : ℕ) → s + n ≤ length text → take n (drop s (text ++ more)) ≡ take n (drop s text)
-slice_longer text more zero n h = take-append-le n text more (omega arith)
-slice_longer [] more (suc s) n h = absurd (omega arith)
-slice_longer (x ∷ text) more (suc s) n h = slice_longer text more s n (omega arith)
 
 longer : (names : List (List ℕ)) (text more new : List ℕ) (column : ℕ) (b : ℕ × ℕ) → IsLabel names text column b → new ≡ text ++ more → IsLabel names new column b
 longer names text more new column b h is =
@@ -23,17 +20,13 @@ longer names text more new column b h is =
     record {
       ordered = h.ordered;
       within = omega arith;
-      is = rw is (slice_longer text more b.0 (b.1 - b.0) (omega arith) ∙ h.is);
+      is = rw (is, drop-append-le b.0 text more (omega arith), take-append-le (b.1 - b.0) (drop b.0 text) more (omega (arith, length-drop b.0 text))) h.is;
       utf8 = h.utf8;
     }
 
 -- what stands behind labels leaves them
 pub longer_labels : (names : List (List ℕ)) (text more new : List ℕ) (bounds : List (ℕ × ℕ)) → AreWritten names text bounds → new ≡ text ++ more → AreWritten names new bounds
 longer_labels names text more new bounds each is column below = longer names text more new column (slice_index_or bounds column (0, 0)) (each column below) is
-
-at_end : (text more : List ℕ) → drop (length text) (text ++ more) ≡ more
-at_end [] more = refl
-at_end (x ∷ text) more = at_end text more
 
 newest : (names : List (List ℕ)) (text new : List ℕ) (k : ℕ) → new ≡ text ++ label_text names k → is_utf8 (label_text names k) ≡ true → IsLabel names new k (length text, length new)
 newest names text new k is utf8 =
@@ -42,52 +35,32 @@ newest names text new k is utf8 =
     record {
       ordered = omega arith;
       within = omega arith;
-      is = ap (λ n. take n (drop (length text) new)) size ∙ ap (λ t. take (length (label_text names k)) (drop (length text) t)) is
-          ∙ ap (take (length (label_text names k))) (at_end text (label_text names k)) ∙ take_all (length (label_text names k)) (label_text names k) (omega arith);
+      is = rw (size, is, drop-append_seam text (label_text names k)) (take_all (length (label_text names k)) (label_text names k) (omega arith));
       utf8 = utf8;
     }
-
-index_front : (bounds : List (ℕ × ℕ)) (x : ℕ × ℕ) (i : ℕ) → i < length bounds → slice_index_or (bounds ++ x ∷ []) i (0, 0) ≡ slice_index_or bounds i (0, 0)
-index_front [] x i h = absurd (omega arith)
-index_front (b ∷ bounds) x zero h = refl
-index_front (b ∷ bounds) x (suc i) h = index_front bounds x i (omega arith)
-
-index_last : (bounds : List (ℕ × ℕ)) (x : ℕ × ℕ) → slice_index_or (bounds ++ x ∷ []) (length bounds) (0, 0) ≡ x
-index_last [] x = refl
-index_last (b ∷ bounds) x = index_last bounds x
-
-each_at : (b : Bool) (names : List (List ℕ)) (text new : List ℕ) (bounds : List (ℕ × ℕ)) → AreWritten names text bounds → new ≡ text ++ label_text names (length bounds)
-    → is_utf8 (label_text names (length bounds)) ≡ true → (column : ℕ) → column < length bounds + 1 → nat_lt column (length bounds) ≡ b → IsLabel names new column (slice_index_or (bounds ++ (length text, length new) ∷ []) column (0, 0))
-each_at true names text new bounds each is utf8 column below before =
-    let lower : column < length bounds = ltb-true column (length bounds) before in
-    subst (IsLabel names new column) (sym (index_front bounds (length text, length new) column lower))
-    (longer names text (label_text names (length bounds)) new column _ (each column lower) is)
-each_at false names text new bounds each is utf8 column below before =
-    let upper : length bounds ≤ column = ltb-false column (length bounds) before in
-    let same : length bounds ≡ column = omega arith in
-    subst (λ c. IsLabel names new c (slice_index_or (bounds ++ (length text, length new) ∷ []) c (0, 0))) same
-    (subst (IsLabel names new (length bounds)) (sym (index_last bounds (length text, length new))) (newest names text new (length bounds) is utf8))
 
 pub each_more : (names : List (List ℕ)) (text new : List ℕ) (bounds after : List (ℕ × ℕ)) (k : ℕ) → AreWritten names text bounds → length bounds ≡ k → new ≡ text ++ label_text names k → is_utf8 (label_text names k) ≡ true
     → after ≡ bounds ++ (length text, length new) ∷ [] → AreWritten names new after
 each_more names text new bounds after k each count is utf8 pushed column below =
     let len : length after ≡ length bounds + 1 = ap length pushed ∙ length-append bounds ((length text, length new) ∷ []) in
-    let more : new ≡ text ++ label_text names (length bounds) = rw count is in
-    let whole : is_utf8 (label_text names (length bounds)) ≡ true = rw count utf8 in
-    subst (λ bs. IsLabel names new column (slice_index_or bs column (0, 0))) (sym pushed)
-    (each_at (nat_lt column (length bounds)) names text new bounds each more whole column (omega arith) refl)
+    rw pushed (elim (cases_lt column (length bounds)) [
+      | inl lower ↦ rw (get_or_append_left bounds ((length text, length new) ∷ []) (0, 0) column lower) (longer names text (label_text names k) new column _ (each column lower) is)
+      | inr upper ↦
+          let same : length bounds ≡ column = omega arith in
+          rw (get_or_push bounds (length text, length new) (0, 0) column same) (newest names text new column (rw (← count, same) at is) (rw (← count, same) at utf8))
+    ])
 
 pub named_label : (names : List (List ℕ)) (text comma new : List ℕ) (k : ℕ) (name : List ℕ) → slice_get names k ≡ Some name → comma ≡ text ++ 44 ∷ [] → new ≡ comma ++ (quoted name ++ 58 ∷ [])
     → new ≡ text ++ label_text names k
 named_label names text comma new k name at behind is =
-    is ∙ ap (λ (t : List ℕ). t ++ (quoted name ++ 58 ∷ [])) behind ∙ append_assoc text (44 ∷ []) (quoted name ++ 58 ∷ []) ∙ ap (λ n. text ++ (44 ∷ (quoted n ++ 58 ∷ []))) (sym (index_of_get names k name [] at))
+    is ∙ ap (λ (t : List ℕ). t ++ (quoted name ++ 58 ∷ [])) behind ∙ append_assoc text (44 ∷ []) (quoted name ++ 58 ∷ []) ∙ ap (λ n. text ++ (44 ∷ (quoted n ++ 58 ∷ []))) (sym (get_or_from_slice_get names k name [] at))
 
 comma_utf8 : IsUtf8 (44 ∷ [])
 comma_utf8 = IsUtf8-are_ascii (44 ∷ []) refl
 
 pub named_utf8 : (names : List (List ℕ)) (k : ℕ) (name : List ℕ) → slice_get names k ≡ Some name → IsUtf8 name → is_utf8 (label_text names k) ≡ true
 named_utf8 names k name at text =
-    ap (λ n. is_utf8 (44 ∷ (quoted n ++ 58 ∷ []))) (index_of_get names k name [] at)
+    ap (λ n. is_utf8 (44 ∷ (quoted n ++ 58 ∷ []))) (get_or_from_slice_get names k name [] at)
     ∙ is_utf8-from_IsUtf8 (44 ∷ (quoted name ++ 58 ∷ [])) (IsUtf8-append (44 ∷ []) (quoted name ++ 58 ∷ []) comma_utf8 (IsUtf8-key name text))
 
 -- a label is text
@@ -125,15 +98,10 @@ pub some_label : (names : List (List ℕ)) (column count : ℕ) (text : List ℕ
 some_label names column zero text is = absurd (cc)
 some_label names column (suc count) text is = omega arith
 
-index_any : (bounds : List (ℕ × ℕ)) (i : ℕ) (d e : ℕ × ℕ) → i < length bounds → slice_index_or bounds i d ≡ slice_index_or bounds i e
-index_any [] i d e h = absurd (omega arith)
-index_any (b ∷ bounds) zero d e h = refl
-index_any (b ∷ bounds) (suc i) d e h = index_any bounds i d e (omega arith)
-
 -- a label ends behind its beginning
 pub bounds_ordered : (names : List (List ℕ)) (text : List ℕ) (bounds : List (ℕ × ℕ)) (column : ℕ) (b : ℕ × ℕ) → AreLabels names text bounds → column < length names → b ≡ slice_index_or bounds column b → b.0 ≤ b.1
 bounds_ordered names text bounds column b h below at =
     let all = h.all in
     let within : column < length bounds = omega arith in
-    let same : slice_index_or bounds column (0, 0) ≡ b = index_any bounds column (0, 0) b within ∙ sym at in
+    let same : slice_index_or bounds column (0, 0) ≡ b = get_or_default bounds column (0, 0) b within ∙ sym at in
     subst (λ (p : ℕ × ℕ). p.0 ≤ p.1) same (h.each column within).ordered

@@ -4,7 +4,6 @@ pub mod Utf8
 pub mod Folding
 pub mod Putting
 pub mod NameOrders
-pub mod Quoting
 pub mod AsIs
 pub mod ColumnTexts
 pub mod KeyTexts

@@ -1,20 +1,9 @@
 -- Texts at places of bytes that have room for them.
-use Rattle.std.proofs.Common.{◌≡◌, ◌∙◌, ℕ, ◌+◌, ◌≤◌, List, ◌++◌, Bool, true, false, if◌then◌else◌, length, take, drop, replicate, refl, length-append, length-take-le, take-add, take-take, take_at, drop_at, ap, sym, subst, arith}
+use Rattle.std.proofs.Common.{◌≡◌, ◌∙◌, ℕ, ◌+◌, ◌≤◌, List, ◌++◌, Bool, true, false, if◌then◌else◌, length, take, drop, replicate, refl, length-append, take-add, take_at, ap, sym, subst, arith}
 use Rattle.std.specs.Str.{IsUtf8}
 use Rattle.std.proofs.lemmas.List.{take_all, take-append-le}
 use Rattle.std.proofs.lemmas.Str.{IsUtf8-append, IsUtf8-had}
 use Rattle.json.specs.Filled.{Placed}
-
--- only the first bytes of what was put count
-pub placed_less : {a b xs : List ℕ} {i j : ℕ} (n : ℕ) → i ≤ length a → n ≤ length xs → Placed a b i xs j → Placed a b i (take n xs) (i + n)
-placed_less {a} {b} {xs} {i} {j} n within few p =
-    let front = length-take-le i a within in
-    record {
-      bytes = sym (take-take (i + n) j b (omega (arith, p.moved))) ∙ ap (take (i + n)) p.bytes ∙ take-add i n (take i a ++ xs)
-          ∙ (λ k. take_at (take i a) xs i front k ++ take n (drop_at (take i a) xs i front k));
-      moved = omega (arith, length-take-le n xs few);
-      len = p.len;
-    }
 
 -- digits that end where their room does
 pub placed_digits : {a b xs : List ℕ} (rest : List ℕ) (i s j : ℕ) → s + length xs ≡ j → j ≡ i + length xs → drop s b ≡ xs ++ rest → take s b ≡ take s a → length b ≡ length a → Placed a b i xs j
@@ -28,13 +17,12 @@ placed_digits {a} {b} {xs} rest i s j ends moved written before len =
       len = len;
     }
 
--- what was text is text behind another one too
-pub placed_utf8 : {a b xs items : List ℕ} {i j : ℕ} → Placed a b i xs j → a ≡ items → ∥ IsUtf8 (take i items) ∥₁ → IsUtf8 xs → ∥ IsUtf8 (take j b) ∥₁
-placed_utf8 {a} {b} {xs} {items} {i} p is had text =
-    ∣ subst IsUtf8 (sym (p.bytes ∙ ap (λ l. take i l ++ xs) is)) (IsUtf8-append (take i items) xs (IsUtf8-had (take i items) had) text) ∣₁
-
-pub placed_within : {a b xs items : List ℕ} {i j : ℕ} → Placed a b i xs j → a ≡ items → i + length xs ≤ length items → j ≤ length b
-placed_within {a} {b} {xs} {items} {i} p is room = omega (arith, p.moved, p.len, ap length is, room)
+-- what was put behind a text has its room, and all is text
+pub held : {a b xs items l : List ℕ} {i j : ℕ} → l ≡ b → Placed a b i xs j → a ≡ items → i + length xs ≤ length items → ∥ IsUtf8 (take i items) ∥₁ → IsUtf8 xs → (j ≤ length l) × ∥ IsUtf8 (take j l) ∥₁
+held {a} {b} {xs} {items} {l} {i} {j} same p is room had text = (
+  omega (arith, p.moved, p.len, ap length same, ap length is, room),
+  ∣ subst IsUtf8 (sym (ap (take j) same ∙ p.bytes ∙ ap (λ l. take i l ++ xs) is)) (IsUtf8-append (take i items) xs (IsUtf8-had (take i items) had) text) ∣₁,
+)
 
 -- behind what is written room is added, or none is
 pub roomier : (ok : Bool) (old new : List ℕ) (len room more : ℕ) → len ≤ length old → length old ≤ room → new ≡ (if ok then take room old ++ replicate more 0 else old)

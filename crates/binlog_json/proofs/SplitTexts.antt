@@ -1,9 +1,10 @@
 -- The text of a decimal that is given as two numbers.
-use Rattle.std.proofs.Common.{◌≡◌, ◌∙◌, ℕ, zero, suc, ◌+◌, ◌-◌, ◌*◌, ◌/◌, ◌%◌, ◌^◌, ◌<◌, ◌≤◌, ◌==◌, List, [], ◌∷◌, ◌++◌, Bool, true, false, not, ◌&&◌, nat_lt, length, take, drop, set, decimal, ltb-true, ltb-false, refl, sym, ap, ap₂, subst, arith}
+use Rattle.std.proofs.Common.{◌≡◌, ◌∙◌, ℕ, zero, suc, ◌+◌, ◌-◌, ◌/◌, ◌%◌, ◌^◌, ◌<◌, ◌≤◌, ◌==◌, List, [], ◌∷◌, ◌++◌, Bool, not, ◌&&◌, length, take, drop, take_at, drop_at, set, decimal, inl, inr, refl, sym, ap, ap₂, subst, arith}
 use Rattle.std.specs.List.{All, list_all}
 use Rattle.std.specs.Str.{IsUtf8}
-use Rattle.std.proofs.Math.Nat.{div-div-eq-div-mul, mul_comm, one-le-pow, pow-suc}
-use Rattle.std.proofs.Math.Seq.{take-append_seam, drop-append_seam, take-add}
+use Rattle.std.proofs.Math.Nat.{div-eq_of_lt, mul_comm, one-le-pow, pow-suc}
+use Rattle.std.proofs.Math.Seq.{take-add}
+use Rattle.std.proofs.lemmas.Bool.{cases_lt}
 use Rattle.std.proofs.lemmas.Bool.Decides.{nat_tests}
 use Rattle.std.proofs.lemmas.Fmt.{decimal_digit, decimal_step}
 use Rattle.std.proofs.lemmas.List.{length-map, map-append, length-set, drop-set}
@@ -18,7 +19,7 @@ use Rattle.binlog_table.specs.DecimalParts.{IsSplit, front_len}
 use Rattle.binlog_table.proofs.DecimalDigitLists.{digits_of-length, digits_of-small, left-next}
 use Rattle.binlog_json.specs.Texts.{digits_text, whole_text, point_text, sign_text, is_below_zero, decimal_text}
 use Rattle.binlog_json.proofs.AsIs.{quoted_decimal}
-use Rattle.binlog_json.proofs.DigitLists.{digits_ascii}
+use Rattle.binlog_json.proofs.DigitLists.{digits_ascii, digits_snoc}
 
 pub digits_text-length : (width n : ℕ) → length (digits_text (digits_of width n)) ≡ width
 digits_text-length width n = length-map (digits_of width n) (λ d. 48 + d) ∙ digits_of-length width n
@@ -87,14 +88,6 @@ digits_placed old new at width number before size written = record {
 
 -- ---- a number of so many digits, without leading zeros
 
--- the last digit stands behind those of a tenth of the number
-digits_snoc : (d n : ℕ) → digits_of (suc d) n ≡ digits_of d (n / 10) ++ (n % 10 ∷ [])
-digits_snoc zero n = ap (λ (k : ℕ). k % 10 ∷ []) (omega arith)
-digits_snoc (suc d) n =
-    let turned : 10 ^ suc d ≡ 10 * 10 ^ d = pow-suc 10 d ∙ mul_comm (10 ^ d) 10 in
-    let first : n / 10 ^ suc d ≡ n / 10 / 10 ^ d = ap (λ (p : ℕ). n / p) turned ∙ sym (div-div-eq-div-mul n 10 (10 ^ d)) in
-    ap₂ (λ (digit : ℕ) (others : List ℕ). digit ∷ others) (ap (λ (q : ℕ). q % 10) first) (digits_snoc d n)
-
 shown_decimal : (d n : ℕ) → 10 ^ d ≤ n → n < 10 ^ suc d → n < 2 ^ 64 → digits_text (digits_of (suc d) n) ≡ decimal n
 shown_decimal zero n above below small =
     let few : n < 10 = omega (arith, below) in
@@ -116,12 +109,7 @@ kept digit others some = grind (arith, nat_tests)
 
 -- the first of its digits
 first_none : (d n : ℕ) → n < 10 ^ d → n / 10 ^ d % 10 ≡ 0
-first_none d n less = ap (λ (q : ℕ). q % 10) (div_zero d n less)
-  where
-    div_zero : (d n : ℕ) → n < 10 ^ d → n / 10 ^ d ≡ 0
-    div_zero d n less =
-        let below = div_below n (10 ^ d) 1 (one-le-pow d 10 (omega arith)) (omega (arith, less)) in
-        omega (arith, below)
+first_none d n less = ap (λ (q : ℕ). q % 10) (div-eq_of_lt less)
 
 first_some : (d n : ℕ) → 10 ^ d ≤ n → n < 10 ^ suc d → 0 < n / 10 ^ d % 10
 first_some d n above below =
@@ -134,18 +122,10 @@ pub whole_is : (d n : ℕ) → n < 10 ^ d → n < 2 ^ 64 → whole_text (digits_
 whole_is zero n below small =
     let none : n ≡ 0 = omega (arith, below) in
     sym (ap decimal none ∙ decimal_digit 0 (omega arith))
-whole_is (suc d) n below small = by (nat_lt n (10 ^ d)) refl (λ less. whole_is d n less small)
-  where
-    by : (b : Bool) → nat_lt n (10 ^ d) ≡ b → (n < 10 ^ d → whole_text (digits_of d n) ≡ decimal n) → whole_text (digits_of (suc d) n) ≡ decimal n
-    by true test before =
-        let less = ltb-true n (10 ^ d) test in
-        skipped (n / 10 ^ d % 10) (digits_of d n) (first_none d n less) ∙ before less
-    by false test before =
-        let above = ltb-false n (10 ^ d) test in
-        kept (n / 10 ^ d % 10) (digits_of d n) (first_some d n above below) ∙ shown_decimal d n above below small
-
-zeros_front : (digit n : ℕ) (rest : Bool) → digit ≡ 0 → rest ≡ (n == 0) → ((digit == 0) && rest) ≡ (n == 0)
-zeros_front digit n rest none is = rw none is
+whole_is (suc d) n below small = elim (cases_lt n (10 ^ d)) [
+  | inl less ↦ skipped (n / 10 ^ d % 10) (digits_of d n) (first_none d n less) ∙ whole_is d n less small
+  | inr above ↦ kept (n / 10 ^ d % 10) (digits_of d n) (first_some d n above below) ∙ shown_decimal d n above below small
+]
 
 zeros_none : (digit n : ℕ) (rest : Bool) → 0 < digit → 0 < n → ((digit == 0) && rest) ≡ (n == 0)
 zeros_none digit n rest some more = grind (arith, nat_tests)
@@ -155,39 +135,18 @@ zeros_is : (d n : ℕ) → n < 10 ^ d → list_all (λ x. x == 0) (digits_of d n
 zeros_is zero n below =
     let none : n ≡ 0 = omega (arith, below) in
     rw none refl
-zeros_is (suc d) n below = by (nat_lt n (10 ^ d)) refl (zeros_is d n)
-  where
-    by : (b : Bool) → nat_lt n (10 ^ d) ≡ b → (n < 10 ^ d → list_all (λ x. x == 0) (digits_of d n) ≡ (n == 0)) → list_all (λ x. x == 0) (digits_of (suc d) n) ≡ (n == 0)
-    by true test before =
-        let less = ltb-true n (10 ^ d) test in
-        zeros_front (n / 10 ^ d % 10) n (list_all (λ x. x == 0) (digits_of d n)) (first_none d n less) (before less)
-    by false test before =
-        let above = ltb-false n (10 ^ d) test in
-        let some : 0 < n = omega (arith, above, one-le-pow d 10 (omega arith)) in
-        zeros_none (n / 10 ^ d % 10) n (list_all (λ x. x == 0) (digits_of d n)) (first_some d n above below) some
+zeros_is (suc d) n below = elim (cases_lt n (10 ^ d)) [
+  | inl less ↦ rw (first_none d n less) (zeros_is d n less)
+  | inr above ↦
+      let some : 0 < n = omega (arith, above, one-le-pow d 10 (omega arith)) in
+      zeros_none (n / 10 ^ d % 10) n (list_all (λ x. x == 0) (digits_of d n)) (first_some d n above below) some
+]
 
 -- ---- the text of both numbers
 
-pub point_none : (d n : ℕ) → d ≡ 0 → point_text (digits_of d n) ≡ []
-point_none zero n none = refl
-point_none (suc d) n none = absurd (omega (arith, none))
-
-pub point_some : (d n : ℕ) → 0 < d → point_text (digits_of d n) ≡ 46 ∷ digits_text (digits_of d n)
-point_some zero n some = absurd (omega (arith, some))
-point_some (suc d) n some = refl
-
-pub split_small : (d : Decimal) (whole fraction : ℕ) → IsSplit d whole fraction → All (λ x. x < 10) d.digits
-split_small d whole fraction split =
-    subst (All (λ (x : ℕ). x < 10)) (sym split.digits) (All-append (λ (x : ℕ). x < 10) (digits_of (front_len d) whole) (digits_of d.scale fraction) (digits_of-small (front_len d) whole) (digits_of-small d.scale fraction))
-
 pub quoted_split : (d : Decimal) (whole fraction : ℕ) → IsSplit d whole fraction → quoted (decimal_text d) ≡ 34 ∷ (decimal_text d ++ 34 ∷ [])
-quoted_split d whole fraction split = quoted_decimal d (split_small d whole fraction split)
-
-taken_front : (w : ℕ) (ds front back : List ℕ) → ds ≡ front ++ back → length front ≡ w → take w ds ≡ front
-taken_front w ds front back is len = ap (λ (k : ℕ). take k ds) (sym len) ∙ ap (take (length front)) is ∙ take-append_seam front back
-
-dropped_front : (w : ℕ) (ds front back : List ℕ) → ds ≡ front ++ back → length front ≡ w → drop w ds ≡ back
-dropped_front w ds front back is len = ap (λ (k : ℕ). drop k ds) (sym len) ∙ ap (drop (length front)) is ∙ drop-append_seam front back
+quoted_split d whole fraction split =
+    quoted_decimal d (subst (All (λ (x : ℕ). x < 10)) (sym split.digits) (All-append (λ (x : ℕ). x < 10) (digits_of (front_len d) whole) (digits_of d.scale fraction) (digits_of-small (front_len d) whole) (digits_of-small d.scale fraction)))
 
 split_zeros : (d : Decimal) (whole fraction : ℕ) → IsSplit d whole fraction → list_all (λ x. x == 0) d.digits ≡ ((whole == 0) && (fraction == 0))
 split_zeros d whole fraction split =
@@ -200,6 +159,7 @@ split_text d whole fraction sign split small sign_is =
     let len = digits_of-length (front_len d) whole in
     let sign_same : sign ≡ is_below_zero d = sign_is ∙ ap (λ (b : Bool). d.negative && not b) (sym (split_zeros d whole fraction split)) in
     let front : decimal whole ≡ whole_text (take (front_len d) d.digits) =
-    sym (ap whole_text (taken_front (front_len d) d.digits (digits_of (front_len d) whole) (digits_of d.scale fraction) split.digits len) ∙ whole_is (front_len d) whole split.front small) in
-    let behind : digits_of d.scale fraction ≡ drop (front_len d) d.digits = sym (dropped_front (front_len d) d.digits (digits_of (front_len d) whole) (digits_of d.scale fraction) split.digits len) in
+    sym (ap whole_text (ap (take (front_len d)) split.digits ∙ take_at (digits_of (front_len d) whole) (digits_of d.scale fraction) (front_len d) len) ∙ whole_is (front_len d) whole split.front small) in
+    let behind : digits_of d.scale fraction ≡ drop (front_len d) d.digits =
+    sym (ap (drop (front_len d)) split.digits ∙ drop_at (digits_of (front_len d) whole) (digits_of d.scale fraction) (front_len d) len) in
     ap₂ (λ (a b : List ℕ). a ++ b) (ap sign_text sign_same) (ap₂ (λ (a b : List ℕ). a ++ b) front (ap point_text behind))

@@ -1,5 +1,7 @@
 -- The types of a table's columns, as they are written.
-use Rattle.std.proofs.Common.{◌≡◌, ◌++◌, ◌∷◌, ℕ, zero, suc, ◌<◌, ◌≤◌, List, [], Bool, true, false, Result, Ok, Err, OnOk, Some, length, replicate, slice_get, slice_index_or, append_assoc, ap, sym, refl, ◌∙◌, arith}
+use Rattle.std.proofs.Common.{◌≡◌, ◌++◌, ◌∷◌, ℕ, ◌<◌, ◌≤◌, List, [], Bool, true, false, Some, length, replicate, slice_get, slice_index_or, append_assoc, ap, sym, refl, ◌∙◌, arith}
+use Rattle.std.proofs.lemmas.List.{get_or-replicate, get_or_past, length-replicate}
+use Rattle.std.proofs.lemmas.Option.{get_or_from_slice_get}
 use Rattle.json.specs.Print.{quoted}
 use Rattle.binlog_table.specs.Map.{Map}
 use Rattle.binlog_table.specs.NameOrder.{name_of}
@@ -12,27 +14,12 @@ use Rattle.binlog_json.specs.Joining.{comma_if}
 use Rattle.binlog_json.specs.TypeTexts.{every_column, type_of_column, type_text}
 use Rattle.binlog_json.specs.Values.{is_absent}
 use Rattle.binlog_json.specs.Written.{column_text_by}
-use Rattle.binlog_json.proofs.ColumnTexts.{index_of_get}
-
-past_nulls : (n column : ℕ) → n ≤ column → is_absent (slice_index_or (replicate n null) column absent) ≡ true
-past_nulls zero column h = refl
-past_nulls (suc n) zero h = absurd (omega arith)
-past_nulls (suc n) (suc column) h = past_nulls n column (omega arith)
-
-within_nulls : (n column : ℕ) → column < n → is_absent (slice_index_or (replicate n null) column absent) ≡ false
-within_nulls zero column h = absurd (omega arith)
-within_nulls (suc n) zero h = refl
-within_nulls (suc n) (suc column) h = within_nulls n column (omega arith)
 
 pub past_columns : (table : Map) (column : ℕ) → length table.names ≤ column → is_absent (cell_in (every_column table) column) ≡ true
-past_columns table column h = past_nulls (length table.names) column h
+past_columns table column h = ap is_absent (get_or_past (replicate (length table.names) null) column absent (omega (arith, length-replicate (length table.names) null)))
 
 pub within_columns : (table : Map) (column : ℕ) → column < length table.names → is_absent (cell_in (every_column table) column) ≡ false
-within_columns table column h = within_nulls (length table.names) column h
-
-pub declared_written : {E : Type 0} (r : Result (Unit {0}) E) (l1 l2 new a b c : List ℕ) → l1 ≡ a → l2 ≡ l1 ++ b → OnOk r (new ≡ l2 ++ c) → OnOk r (new ≡ a ++ (b ++ c))
-declared_written (Ok u) l1 l2 new a b c p q is = is ∙ rw (q, p) (append_assoc a b c)
-declared_written (Err x) l1 l2 new a b c p q is = tt
+within_columns table column h = ap is_absent (get_or-replicate (length table.names) column null absent h)
 
 joined : (old comma name value : List ℕ) → ((old ++ comma) ++ (name ++ 58 ∷ [])) ++ value ≡ old ++ (comma ++ (name ++ (58 ∷ value)))
 joined old comma name value = simp append_assoc
@@ -41,7 +28,7 @@ pub type_written : (table : Map) (column : ℕ) (later : Bool) (old l1 l2 new na
     → t ≡ slice_index_or (types_of table.sections) column unknown_type → l1 ≡ old ++ comma_if later → l2 ≡ l1 ++ (quoted name ++ 58 ∷ []) → text ≡ empty ++ type_text t → shown ≡ text → new ≡ l2 ++ quoted shown
     → new ≡ old ++ column_text_by (type_of_column table) later (every_column table) column
 type_written table column later old l1 l2 new name empty text shown t within named e is p q s u w =
-    let named_is : name ≡ name_of table.names column = sym (index_of_get table.names column name [] named) in
+    let named_is : name ≡ name_of table.names column = sym (get_or_from_slice_get table.names column name [] named) in
     let shown_is : shown ≡ type_text (slice_index_or (types_of table.sections) column unknown_type) = u ∙ s ∙ ap (λ (front : List ℕ). front ++ type_text t) e ∙ ap type_text is in
     let parts : new ≡ old ++ (comma_if later ++ (quoted name ++ (58 ∷ quoted shown))) = w ∙ rw (q, p) (joined old (comma_if later) (quoted name) (quoted shown)) in
     parts ∙ ap (λ (n : List ℕ). old ++ (comma_if later ++ (quoted n ++ (58 ∷ quoted shown)))) named_is

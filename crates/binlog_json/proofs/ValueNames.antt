@@ -1,7 +1,9 @@
 -- The names of an ENUM's and a SET's values.
-use Rattle.std.proofs.Common.{◌≡◌, ℕ, zero, suc, ◌+◌, ◌-◌, ◌*◌, ◌/◌, ◌%◌, ◌^◌, ◌<◌, ◌≤◌, ◌==◌, nat_lt, nat_le, subst, List, [], ◌∷◌, ◌++◌, Bool, true, false, ◌||◌, cond, if◌then◌else◌, length, drop, Option, Some, None, option_map, option_and_then, unwrap_or, slice_get, append_assoc, append-nil, ne_eqb, refl, ap, sym, ◌∙◌, arith}
-use Rattle.std.proofs.Math.Nat.{pow-le-pow_right, one-le-pow, lt-mul-div-succ, mul-div-le}
+use Rattle.std.proofs.Common.{inl, inr, ◌≡◌, ℕ, zero, suc, ◌-◌, ◌*◌, ◌/◌, ◌%◌, ◌^◌, ◌<◌, ◌≤◌, ◌==◌, nat_lt, nat_le, List, [], ◌∷◌, ◌++◌, Bool, true, false, ◌||◌, cond, if◌then◌else◌, length, drop, Option, Some, None, option_map, option_and_then, unwrap_or, slice_get, append_assoc, append-nil, ne_eqb, refl, ap, sym, ◌∙◌, arith}
+use Rattle.std.proofs.Math.Nat.{div-eq_of_lt, pow-le-pow_right, one-le-pow}
+use Rattle.std.proofs.lemmas.Bool.{cases_lt}
 use Rattle.std.proofs.lemmas.Grind.{common_steps}
+use Rattle.std.proofs.lemmas.Nat.{le-div}
 use Rattle.std.specs.List.{join_with_byte}
 use Rattle.binlog_json.specs.Json.{Data}
 use Rattle.binlog_json.specs.Joining.{comma_if, joined_from}
@@ -108,26 +110,14 @@ named_all given names count n e many fits =
     let more : 2 ^ 64 ≤ 2 ^ count = pow-le-pow_right (omega arith) many in
     rw yes (set_named given names count n e (omega arith))
 
-below_all : (n m : ℕ) → 0 < m → n / m ≡ 0 → n < m
-below_all n m some is =
-    let next : n < m * (n / m + 1) = lt-mul-div-succ n some in
-    let once : m * (n / m + 1) ≡ m = rw is (grind (arith, common_steps)) in
-    subst (λ k. n < k) once next
-
-above_one : (n m q : ℕ) → n / m ≡ suc q → m ≤ n
-above_one n m q is =
-    let whole : m * (n / m) ≤ n = mul-div-le n m in
-    let more : m * (n / m) ≡ m + m * q = rw is (grind (arith, common_steps)) in
-    omega arith
-
-named_at : (given : List (List ℕ) → Data) (names : Option (List (List ℕ))) (count n : ℕ) (q : ℕ) → q ≡ n / 2 ^ count → Some count ≡ option_map length names
-    → set_by given names n ≡ (if q == 0 then given (members_in (unwrap_or names []) n) else whole_number n)
-named_at given names count n zero is e = set_named given names count n e (below_all n (2 ^ count) (one-le-pow count 2 (omega arith)) (sym is))
-named_at given names count n (suc q) is e = rw (ne_eqb (suc q) 0 (λ e. absurd (omega arith))) (set_unnamed given names count n e (above_one n (2 ^ count) q (sym is)))
-
 pub named_some : (given : List (List ℕ) → Data) (names : Option (List (List ℕ))) (count n : ℕ) → Some count ≡ option_map length names
     → set_by given names n ≡ (if n / 2 ^ count == 0 then given (members_in (unwrap_or names []) n) else whole_number n)
-named_some given names count n e = named_at given names count n (n / 2 ^ count) refl e
+named_some given names count n e = elim (cases_lt n (2 ^ count)) [
+  | inl below ↦ rw (div-eq_of_lt below) (set_named given names count n e below)
+  | inr above ↦
+      let some : 1 ≤ n / 2 ^ count = le-div 1 n (2 ^ count) (one-le-pow count 2 (omega arith)) (omega (arith, above)) in
+      rw (ne_eqb (n / 2 ^ count) 0 (λ e. absurd (omega arith))) (set_unnamed given names count n e above)
+]
 
 -- the members, one after the other
 pub members_taken : (names front : List (List ℕ)) (place rest : ℕ) (name : List ℕ) (total : List (List ℕ)) → Some name ≡ slice_get names place → rest % 2 ≡ 1 → front ++ members_in (drop place names) rest ≡ total

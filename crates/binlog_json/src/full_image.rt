@@ -1,5 +1,5 @@
 //! Images of full lines, written in the order of the columns' names.
-ghost use Rattle.std.specs.Prelude.{◌≡◌, ◌<◌, length, slice_index_or, OnOk, IfOk};
+ghost use Rattle.std.specs.Prelude.{◌≡◌, slice_index_or, OnOk, IfOk};
 ghost use Rattle.binlog_types.specs.ColumnTypes.{types_of};
 ghost use Rattle.binlog_json.specs.FullValues.{unknown_type};
 ghost use Rattle.binlog_json.specs.Written.{TellsLater};
@@ -9,7 +9,6 @@ ghost use Rattle.binlog_json.specs.Growth.{Gains, Prints};
 ghost use Rattle.binlog_json.specs.KeptLabels.{HasLabels};
 
 use crate::full_values::append_full_value;
-use crate::image::joined;
 use crate::labels::Labels;
 use crate::lines::Line;
 use crate::room::Room;
@@ -80,9 +79,7 @@ fn append_full_column(
     match &cell {
         Cell::Absent => Ok(later),
         present => {
-            let (label, count) = labels.label(column);
-            let (label, count) = joined(label, count, later);
-            out.push_first(label, count)?;
+            labels.append_label(out, column, later)?;
             let column_type = type_at(types, column);
             append_full_value(out, room, image, column, &column_type, present)?;
             Ok(true)

@@ -1,8 +1,8 @@
 //! Images as objects, written in the order of the columns' names.
-ghost use Rattle.std.specs.Prelude.{◌≡◌, ◌<◌, ◌≤◌, length, take, OnOk, IfOk};
+ghost use Rattle.std.specs.Prelude.{◌≡◌, OnOk, IfOk};
 ghost use Rattle.binlog_json.specs.Json.{object};
 ghost use Rattle.binlog_json.specs.Images.{image_members};
-ghost use Rattle.binlog_json.specs.Written.{column_text, TellsLater, label_joined};
+ghost use Rattle.binlog_json.specs.Written.{column_text, TellsLater};
 ghost use Rattle.binlog_json.specs.Growth.{Gains, Prints};
 ghost use Rattle.binlog_json.specs.KeptLabels.{HasLabels};
 
@@ -57,26 +57,9 @@ fn append_column(
     match &cell {
         Cell::Absent => Ok(later),
         present => {
-            let (label, count) = labels.label(column);
-            let (label, count) = joined(label, count, later);
-            out.push_first(label, count)?;
+            labels.append_label(out, column, later)?;
             append_value(out, room, image, column, present)?;
             Ok(true)
         }
-    }
-}
-
-/// A label of so many bytes, without the comma in front of it unless a member stands before it.
-#[inline(always)]
-pub(crate) fn joined(label: &[u8], count: usize, later: bool) -> (&[u8], usize)
-    requires some { 0 < count }
-    requires count { count ≤ length label.now }
-    ensures label { take result.1 result.0.now ≡ label_joined later (take count label.now) }
-    ensures count { result.1 ≤ length result.0.now }
-{
-    if later {
-        (label, count)
-    } else {
-        (&label[1..], count - 1)
     }
 }

@@ -1,10 +1,10 @@
 //! A table's names as lines have them, and those of its columns as they stand in front of members, each behind a comma. They are kept
 //! from image to image by the body of the table's map.
-ghost use Rattle.std.specs.Prelude.{◌≡◌, ◌<◌, ℕ, List, length, true, Ok, OnOk};
+ghost use Rattle.std.specs.Prelude.{◌≡◌, ◌<◌, ◌≤◌, ℕ, List, length, take, true, Ok, OnOk};
 ghost use Rattle.std.proofs.Props.{props};
 ghost use Rattle.binlog_table.specs.Map.{Map, map_at};
 ghost use Rattle.binlog_json.specs.Labels.{AreLabels, label_text};
-ghost use Rattle.binlog_json.specs.Written.{table_text};
+ghost use Rattle.binlog_json.specs.Written.{label_joined, table_text};
 ghost use Rattle.binlog_json.specs.LineBytes.{line_bytes};
 ghost use Rattle.binlog_json.specs.Growth.{Gains};
 
@@ -39,7 +39,7 @@ impl Labels {
     ghost use Rattle.std.specs.Prelude.{◌≡◌, ◌<◌, ◌≤◌, ℕ, List, length, take, true, Ok, OnOk};
     ghost use Rattle.binlog_json.specs.Labels.{AreLabels, label_text};
     ghost use Rattle.binlog_json.specs.Written.{table_text};
-    ghost use Rattle.binlog_json.specs.KeptLabels.{GivesLabel, HasLabelOf, HasLabels};
+    ghost use Rattle.binlog_json.specs.KeptLabels.{GainsLabel, GivesLabel, HasLabelOf, HasLabels};
 
     fn new(alloc: Global) -> Labels {
         Labels {
@@ -78,13 +78,44 @@ impl Labels {
 
     /// The label of a column, with the comma in front of it: so many bytes of what is answered.
     #[inline(always)]
-    pub(crate) fn label(&self, column: usize) -> (&[u8], usize)
+    fn label(&self, column: usize) -> (&[u8], usize)
         requires { HasLabelOf self.now column }
         ensures label { GivesLabel self.now column result }
         ensures count { result.1 ≤ length result.0.now }
     {
         let (start, end) = self.bounds[column];
         (&self.text.as_bytes()[start..], end - start)
+    }
+
+    /// Appends the label of a column, without the comma in front of it unless a member stands before it.
+    #[inline(always)]
+    pub(crate) fn append_label(
+        &self,
+        out: &mut Line,
+        column: usize,
+        later: bool,
+    ) -> Result<(), AllocError>
+        requires { HasLabelOf self.now column }
+        ensures { OnOk result (GainsLabel self.now column later out.old out.new) }
+    {
+        let (label, count) = self.label(column);
+        let (label, count) = joined(label, count, later);
+        out.push_first(label, count)
+    }
+}
+
+/// A label of so many bytes, without the comma in front of it unless a member stands before it.
+#[inline(always)]
+fn joined(label: &[u8], count: usize, later: bool) -> (&[u8], usize)
+    requires some { 0 < count }
+    requires count { count ≤ length label.now }
+    ensures label { take result.1 result.0.now ≡ label_joined later (take count label.now) }
+    ensures count { result.1 ≤ length result.0.now }
+{
+    if later {
+        (label, count)
+    } else {
+        (&label[1..], count - 1)
     }
 }
 

@@ -1,7 +1,6 @@
 use Rattle.binlog_json.specs.LineBytes.{line_bytes}
 use Rattle.std.proofs.Common.{◌≡◌, ◌++◌, drop, false, option_map}
-use Rattle.binlog_json.specs.Json.{items_of}
-use Rattle.binlog_json.specs.Json.{items_text}
+use Rattle.binlog_json.specs.Json.{items_of, items_text}
 use Rattle.binlog_json.specs.Keys.{values_in}
 use Rattle.binlog_json.proofs.key.image_key.Given as goal
 

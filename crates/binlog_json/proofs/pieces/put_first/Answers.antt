@@ -1,7 +1,7 @@
 use Rattle.std.proofs.Common.{◌+◌, ◌≤◌, length, take, arith, length-take-le, subst}
 use Rattle.std.proofs.lemmas.List.{take-take}
 use Rattle.json.specs.Filled.{Placed}
-use Rattle.binlog_json.proofs.Places.{placed_less}
+use Rattle.binlog_documents.proofs.Placing.{placed_less}
 use Rattle.binlog_json.proofs.pieces.put_first.Goals as goal
 
 pub returns : goal.returns

@@ -1,10 +1,7 @@
 use Rattle.binlog_json.specs.LineBytes.{line_bytes}
-use Rattle.binlog_json.specs.Texts.{date_text}
 use Rattle.binlog_json.proofs.AsIs.{quoted_date}
 use Rattle.binlog_json.proofs.LineParts.{in_quotes}
 use Rattle.binlog_json.proofs.texts.append_date.Goals as goal
 
 pub returns : goal.returns
-returns c =
-    in_quotes c.push-2.result (line_bytes c.args.out.now) (line_bytes c.push.new.self) (line_bytes c.push_day.new.text) (line_bytes c.push-2.new.self) (date_text c.args.date)
-    c.in_ok-push.ensures.bytes (rw c.from.ensures at c.in_ok-push_day.ensures) c.push-2.ensures.bytes (quoted_date c.args.date)
+returns c = in_quotes c.push-2.result (line_bytes c.args.out.now) _ _ _ _ c.in_ok-push.ensures.bytes (rw c.from.ensures at c.in_ok-push_day.ensures) c.push-2.ensures.bytes (quoted_date c.args.date)

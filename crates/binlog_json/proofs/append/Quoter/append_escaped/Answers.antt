@@ -2,7 +2,7 @@ use Rattle.std.proofs.Common.{◌≡◌, subst, sym, arith}
 use Rattle.std.proofs.lemmas.Grind.{common_steps}
 use Rattle.std.specs.Str.{IsUtf8}
 use Rattle.json.specs.Print.{print}
-use Rattle.binlog_json.proofs.Quoting.{print_string}
+use Rattle.binlog_documents.proofs.Quoting.{print_string}
 use Rattle.binlog_json.proofs.append.Quoter.append_escaped.Goals as goal
 
 pub from_utf8_unchecked-requires : goal.from_utf8_unchecked-requires

@@ -1,16 +1,12 @@
-use Rattle.std.proofs.Common.{◌∙◌, ℕ, ◌≤◌, List, length, take, sym, subst}
-use Rattle.std.specs.Str.{IsUtf8}
+use Rattle.std.proofs.Common.{◌∙◌}
 use Rattle.std.proofs.lemmas.List.{with_items_is}
-use Rattle.binlog_json.proofs.Places.{placed_utf8, placed_within}
+use Rattle.binlog_json.proofs.Places.{held}
 use Rattle.binlog_json.proofs.Utf8.{utf8_byte}
 use Rattle.binlog_json.proofs.lines.Line.push.Goals as goal
 
 pub invariant_of-self : goal.invariant_of-self
 invariant_of-self c =
-    let items = c.as_mut_slice.ensures.value in
     let put = c.put_byte-self.ensures in
     let same = with_items_is c.make_room.new.self.bytes c.put_byte-self.new.bytes (put.len ∙ c.as_mut_slice.ensures.len) in
-    record {
-      within = subst (λ (l : List ℕ). c.put_byte-self.result ≤ length l) (sym same) (placed_within put items c.in_ok-make_room.ensures.room);
-      utf8 = subst (λ (l : List ℕ). ∥ IsUtf8 (take c.put_byte-self.result l) ∥₁) (sym same) (placed_utf8 put items c.make_room.new.self.utf8 (utf8_byte c.args.byte c.requires));
-    }
+    let both = held same put c.as_mut_slice.ensures.value c.in_ok-make_room.ensures.room c.make_room.new.self.utf8 (utf8_byte c.args.byte c.requires) in
+    record { within = both.0; utf8 = both.1 }
