@@ -4,7 +4,7 @@
 usage: tests/house.py [--list NAME]
 
 The figures are of what a reader meets: definitions that share a name, long clauses, calls with many of them, long functions and files,
-lines of proofs and documents, clauses that docs/GUARANTEES.md names and
+places that are never reached, lines of proofs and documents, clauses that docs/GUARANTEES.md names and
 the code hasn't, words of the glossary. --list prints what a figure counts. The last line is `N passed, M failed`.
 """
 import argparse
@@ -144,6 +144,11 @@ def long_files() -> Iterator[Item]:
     return (Item(f"{short(path)}: {len(lines_of(path))}") for path in found if len(lines_of(path)) > LONG_FILE)
 
 
+def unreachables() -> Iterator[Item]:
+    """Places of the code that are held never to be reached."""
+    return (Item(f"{short(path)}:{at}") for path in sources() for at, line in enumerate(lines_of(path), 1) if "unreachable!" in line)
+
+
 def flat_wrong_bodies() -> Iterator[Item]:
     """Wrong bodies that lie beside no others of their file."""
     return (Item(short(path)) for path in sorted(TOP.glob("crates/*/wrong-bodies/*.edit")))
@@ -200,6 +205,7 @@ FIGURES = {
     "public_calls_with_over_16_clauses": calls_with_many_clauses,
     "functions_over_40_lines": long_functions,
     "files_over_800_lines": long_files,
+    "unreachables": unreachables,
     "flat_wrong_bodies": flat_wrong_bodies,
     "lines_of_proofs": proof_lines,
     "lines_of_rows": lambda: lines_in([TOP / "tests/rows.jsonl"]),
