@@ -1,7 +1,7 @@
 -- What a subcommand that was found comes to.
 use Rattle.std.proofs.Common.{◌≡◌, refl, Bool, true, false, true≢false, List, Option, Some, None, option_map, Result, Ok, Err, codes, sym, ap, subst, ◌∙◌}
 use Rattle.std.proofs.lemmas.Slice.Eq.{bytes_eq-Decides}
-use Rattle.std.specs.Prelude.{Box, IfErr, IsErrAnd}
+use Rattle.std.specs.Prelude.{Box, IsErrAnd}
 use Rattle.std.specs.Str.{bytes_eq}
 use Rattle.std.specs.Box.{box_value}
 use Rattle.std.specs.declared.alloc.Global.{Global}
@@ -9,14 +9,11 @@ use Rattle.clap.specs.Words.{Row, Text, subcommand_name_of, subcommand_rows, sub
 use Rattle.clap.specs.declared.parser.matches.ArgMatches.{ArgMatches}
 use Rattle.clap.specs.declared.parser.matches.ArgMatches.TheViews.{out-ArgMatches, out-SubCommand}
 use Rattle.clap.specs.declared.parser.matches.SubCommand.{SubCommand}
-use Rattle.binlogfeed.specs.Options.{AnswersOptions}
 use Rattle.binlogfeed.specs.Words.{AnswersFound, NamesNone, style_given}
-use Rattle.binlogfeed.specs.StartWords.{IsTokenFault, token_text}
 use Rattle.binlogfeed.specs.KeyWords.{IsKeyFault, value_given}
-use Rattle.binlog_select.specs.declared.filter.Filter.{Filter}
 use Rattle.binlogfeed.specs.declared.words.Order.{Order}
 use Rattle.binlogfeed.specs.declared.words_fault.WordsFault.{WordsFault}
-use Rattle.binlogfeed.specs.declared.words_fault.WordsFault.TheVariants.{Help, CommandLine, EventName, Set, Token, Key, OutOfMemory}
+use Rattle.binlogfeed.specs.declared.words_fault.WordsFault.TheVariants.{Key, OutOfMemory}
 use Rattle.binlogfeed.proofs.Parsing.{named_is}
 
 -- ---- a name that is compared
@@ -55,40 +52,13 @@ none_answers matches h = unnamed (out-ArgMatches matches).subcommand h
 
 -- ---- faults of what was given to it
 
-pub options_refused : (rows : List Row) (fault : WordsFault) → AnswersOptions rows (Err fault) → AnswersFound (Some (codes "read", rows)) (Err fault)
-options_refused rows (EventName word) h = (rows, refl, h)
-options_refused rows (Set at) h = (rows, refl, h)
-options_refused rows OutOfMemory h = tt
-options_refused rows Token h = absurd h
-options_refused rows Key h = absurd h
-options_refused rows (CommandLine said) h = absurd h
-options_refused rows (Help error) h = absurd h
-
-pub token_refused : (rows : List Row) (filter : Filter) (fault : WordsFault) → AnswersOptions rows (Ok filter) → IsTokenFault (token_text rows) fault
-    → AnswersFound (Some (codes "read", rows)) (Err fault)
-token_refused rows filter (EventName word) k h = absurd h
-token_refused rows filter (Set at) k h = absurd h
-token_refused rows filter OutOfMemory k h = tt
-token_refused rows filter Token k h = (rows, refl, (filter, k), h)
-token_refused rows filter Key k h = absurd h
-token_refused rows filter (CommandLine said) k h = absurd h
-token_refused rows filter (Help error) k h = absurd h
-
 pub key_refused : (rows : List Row) (fault : WordsFault) → IsKeyFault (style_given rows) (value_given (codes "key") rows) fault → AnswersFound (Some (codes "history", rows)) (Err fault)
-key_refused rows (EventName word) h = absurd h
-key_refused rows (Set at) h = absurd h
 key_refused rows OutOfMemory h = tt
-key_refused rows Token h = absurd h
 key_refused rows Key h = (rows, refl, h)
-key_refused rows (CommandLine said) h = absurd h
-key_refused rows (Help error) h = absurd h
+key_refused rows other h = absurd h
 
 -- ---- what is answered where a fault is found
 
 pub failed : (found : Option (Text × List Row)) (fault : WordsFault) (result : Result Order WordsFault) → AnswersFound found (Err fault) → IsErrAnd result (λ given. given ≡ fault) → AnswersFound found result
 failed found fault (Ok order) h k = absurd k
 failed found fault (Err given) h k = subst (λ (f : WordsFault). AnswersFound found (Err f)) (sym k) h
-
-pub token_failed : {A : Type 0} (given : Option Text) (fault : WordsFault) (result : Result A WordsFault) → IsTokenFault given fault → IsErrAnd result (λ found. found ≡ fault) → IfErr result (IsTokenFault given)
-token_failed given fault (Ok order) h k = tt
-token_failed given fault (Err found) h k = subst (IsTokenFault given) (sym k) h

@@ -109,10 +109,6 @@ abbrev pub ReadsPaths : Option (List ℕ) → Option (List ℕ) → List Text �
 ReadsPaths None later paths = Unit {0}
 ReadsPaths (Some bytes) later paths = (left : List ℕ) × Each IsPath paths × (bytes ≡ flat_map line_text paths ++ left) × (later ≡ Some left)
 
-pub no_paths : (old : Option (List ℕ)) → ReadsPaths old old []
-no_paths None = tt
-no_paths (Some bytes) = (bytes, tt, refl, refl)
-
 -- a line more
 text_more : (paths : List Text) (line left : List ℕ) → flat_map line_text paths ++ (line_text line ++ left) ≡ flat_map line_text (paths ++ line ∷ []) ++ left
 text_more paths line left =
@@ -132,11 +128,6 @@ list_read (Some bytes) mid new paths line (left, each, parts, is) read e =
     let (behind, plain, split, now) = subst (λ (o : Option (List ℕ)). ReadsLine o new (Some line)) is read in
     let empty : left ≡ 10 ∷ behind = split ∙ ap (λ (l : List ℕ). line_text l ++ behind) e in
     (behind, record { paths = each; parts = parts ∙ ap (λ (l : List ℕ). flat_map line_text paths ++ l) empty ∙ sym (append_assoc (flat_map line_text paths) (10 ∷ []) behind) }, now)
-
-pub none_read : (old mid new : Option (List ℕ)) (paths : List Text) → ReadsPaths old mid paths → ReadsLine mid new None → ReadsList old new None
-none_read None mid new paths h read = tt
-none_read (Some bytes) mid new paths (left, each, parts, is) read =
-    record { paths = paths; unfinished = left; each = each; open_line = subst (λ (o : Option (List ℕ)). ReadsLine o new None) is read; parts = parts }
 
 -- a line that isn't empty, by its length
 pub some_line : (len : ℕ) (line : Text) → len ≡ length line → (len == 0) ≡ false → line ≢ []

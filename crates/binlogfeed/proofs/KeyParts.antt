@@ -1,13 +1,14 @@
 -- A key of the command line has no float.
 use Rattle.std.proofs.Common.{◌≡◌, List, [], ◌∷◌, ℕ, suc, length, ◌==◌, Bool, true, false, true≢false, ◌&&◌, ◌||◌, Option, Some, None, String, BTreeMap, Global, codes, refl, sym, ap, ◌∙◌, subst, ◌⊎◌, inl, inr, arith}
-use Rattle.std.proofs.lemmas.Bool.{ne_eqb}
+use Rattle.std.proofs.lemmas.Bool.{ne_eqb, or_from}
+use Rattle.binlog_frame.proofs.Places.{both_true}
 use Rattle.std.proofs.lemmas.Map.Lookups.{exact_bytes}
 use Rattle.std.specs.Prelude.{option_and_then, is_some}
 use Rattle.std.specs.Ordering.{match_ordering, nat_cmp}
 use Rattle.std.specs.Cmp.Lexicographic.{slice_cmp}
 use Rattle.std.specs.declared.cmp.Ordering.{Ordering}
-use Rattle.std.specs.declared.cmp.Ordering.TheVariants.{Less, Equal, Greater}
-use Rattle.serde_json.specs.Data.{Data, null, boolean, number, string, array, object, unsigned, negative, float, Items, no_items, item, Members, no_members, member}
+use Rattle.std.specs.declared.cmp.Ordering.TheVariants.{Equal}
+use Rattle.serde_json.specs.Data.{Data, number, string, array, object, float, Items, no_items, item, Members, no_members, member}
 use Rattle.serde_json.specs.Events.{members_len}
 use Rattle.serde_json.specs.Find.{as_str}
 use Rattle.serde_json.specs.View.{view, members_view}
@@ -18,33 +19,17 @@ use Rattle.binlog_json.specs.declared.style.Style.{Style}
 use Rattle.binlog_json.specs.declared.style.Style.TheVariants.{Plain, Full}
 use Rattle.binlogfeed.specs.KeyWords.{has_text, is_coded, is_in_charset, is_key_object, is_key_part, are_key_parts, is_key}
 
-neither : (a b : Bool) → a ≡ false → b ≡ false → (a || b) ≡ false
-neither a b p q = rw (p, q) refl
-
-first_true : (a b : Bool) → (a && b) ≡ true → a ≡ true
-first_true true b h = refl
-first_true false b h = absurd cc
-
-second_true : (a b : Bool) → (a && b) ≡ true → b ≡ true
-second_true true b h = h
-second_true false b h = absurd cc
-
 either_true : (a b c : Bool) → (a || b) ≡ true → (a ≡ true → c ≡ false) → (b ≡ true → c ≡ false) → c ≡ false
 either_true true b c h f g = f refl
 either_true false b c h f g = g h
 
 text_float : (d : Data) → is_some (as_str d) ≡ true → has_float d ≡ false
-text_float null h = refl
-text_float (boolean b) h = refl
-text_float (number n) h = absurd cc
 text_float (string s) h = refl
-text_float (array ds) h = absurd cc
-text_float (object ms) h = absurd cc
+text_float other h = absurd cc
 
-found_float : (o : Ordering) (d : Data) → is_some (option_and_then as_str (match_ordering o None (Some d) None)) ≡ true → has_float d ≡ false
-found_float Less d h = absurd cc
-found_float Equal d h = text_float d h
-found_float Greater d h = absurd cc
+text_behind : (p : Ordering) (e : Data) → is_some (option_and_then as_str (match_ordering p None (Some e) None)) ≡ true → (p ≡ Equal) × (has_float e ≡ false)
+text_behind Equal e h = (refl, text_float e h)
+text_behind other e h = absurd cc
 
 two_are_more : (n : ℕ) → (suc (suc n) == 1) ≡ true → ⊥
 two_are_more n h = true≢false (sym h ∙ ne_eqb (suc (suc n)) 1 (λ e. omega (arith, e)))
@@ -56,11 +41,11 @@ coded_float : (ms : Members) → is_coded (members_len ms) (object ms) ≡ true 
 coded_float no_members h = absurd cc
 coded_float (member name d no_members) h =
     let alone = object (member name d no_members) in
-    neither (has_float d) false
+    or_from (has_float d) false
     (either_true (has_text (codes "base64") alone) (has_text (codes "raw") alone) (has_float d) h
-    (found_float (slice_cmp nat_cmp (codes "base64") name) d) (found_float (slice_cmp nat_cmp (codes "raw") name) d))
+    (λ k. (text_behind (slice_cmp nat_cmp (codes "base64") name) d k).1) (λ k. (text_behind (slice_cmp nat_cmp (codes "raw") name) d k).1))
     refl
-coded_float (member name d (member other e ms)) h = absurd (two_are_more (members_len ms) (first_true (members_len (member name d (member other e ms)) == 1) _ h))
+coded_float (member name d (member other e ms)) h = absurd (two_are_more (members_len ms) (both_true (members_len (member name d (member other e ms)) == 1) _ h).0)
 
 -- ---- two members
 
@@ -68,24 +53,18 @@ coded_float (member name d (member other e ms)) h = absurd (two_are_more (member
 abbrev found_of : Ordering → Ordering → Data → Data → Option Data
 found_of o p d e = match_ordering o (match_ordering p None (Some e) None) (Some d) (match_ordering p None (Some e) None)
 
-text_behind : (p : Ordering) (e : Data) → is_some (option_and_then as_str (match_ordering p None (Some e) None)) ≡ true → (p ≡ Equal) × (has_float e ≡ false)
-text_behind Less e h = absurd cc
-text_behind Equal e h = (refl, text_float e h)
-text_behind Greater e h = absurd cc
-
 -- a text that is found is the one or the other
 text_at : (o p : Ordering) (d e : Data) → is_some (option_and_then as_str (found_of o p d e)) ≡ true → ((o ≡ Equal) × (has_float d ≡ false)) ⊎ ((p ≡ Equal) × (has_float e ≡ false))
-text_at Less p d e h = inr (text_behind p e h)
 text_at Equal p d e h = inl (refl, text_float d h)
-text_at Greater p d e h = inr (text_behind p e h)
+text_at other p d e h = inr (text_behind p e h)
 
 -- two that are found by different names are both
 both_texts : (o p q r : Ordering) (d e : Data) → (o ≡ Equal → q ≡ Equal → ⊥) → (p ≡ Equal → r ≡ Equal → ⊥)
     → ((o ≡ Equal) × (has_float d ≡ false)) ⊎ ((p ≡ Equal) × (has_float e ≡ false)) → ((q ≡ Equal) × (has_float d ≡ false)) ⊎ ((r ≡ Equal) × (has_float e ≡ false))
     → (has_float d || (has_float e || false)) ≡ false
 both_texts o p q r d e first second (inl (a, x)) (inl (b, y)) = absurd (first a b)
-both_texts o p q r d e first second (inl (a, x)) (inr (b, y)) = neither (has_float d) (has_float e || false) x (neither (has_float e) false y refl)
-both_texts o p q r d e first second (inr (a, y)) (inl (b, x)) = neither (has_float d) (has_float e || false) x (neither (has_float e) false y refl)
+both_texts o p q r d e first second (inl (a, x)) (inr (b, y)) = or_from (has_float d) (has_float e || false) x (or_from (has_float e) false y refl)
+both_texts o p q r d e first second (inr (a, y)) (inl (b, x)) = or_from (has_float d) (has_float e || false) x (or_from (has_float e) false y refl)
 both_texts o p q r d e first second (inr (a, x)) (inr (b, y)) = absurd (second a b)
 
 different_names : (name : List ℕ) → slice_cmp nat_cmp (codes "base64") name ≡ Equal → slice_cmp nat_cmp (codes "charset") name ≡ Equal → ⊥
@@ -99,17 +78,16 @@ in_charset_float no_members h = absurd cc
 in_charset_float (member name d no_members) h = absurd cc
 in_charset_float (member name d (member other e no_members)) h =
     let both = object (member name d (member other e no_members)) in
-    let bytes : has_text (codes "base64") both ≡ true = first_true (has_text (codes "base64") both) (has_text (codes "charset") both) h in
-    let charset : has_text (codes "charset") both ≡ true = second_true (has_text (codes "base64") both) (has_text (codes "charset") both) h in
+    let texts = both_true (has_text (codes "base64") both) (has_text (codes "charset") both) h in
     let o = slice_cmp nat_cmp (codes "base64") name in
     let p = slice_cmp nat_cmp (codes "base64") other in
     let q = slice_cmp nat_cmp (codes "charset") name in
     let r = slice_cmp nat_cmp (codes "charset") other in
-    both_texts o p q r d e (different_names name) (different_names other) (text_at o p d e bytes) (text_at q r d e charset)
+    both_texts o p q r d e (different_names name) (different_names other) (text_at o p d e texts.0) (text_at q r d e texts.1)
 in_charset_float (member name d (member other e (member third f ms))) h =
     let all = object (member name d (member other e (member third f ms))) in
     let count = members_len (member name d (member other e (member third f ms))) == 2 in
-    absurd (three_are_more (members_len ms) (first_true count (has_text (codes "base64") all) (first_true (count && has_text (codes "base64") all) (has_text (codes "charset") all) h)))
+    absurd (three_are_more (members_len ms) (both_true count (has_text (codes "base64") all) (both_true (count && has_text (codes "base64") all) (has_text (codes "charset") all) h).0).0)
 
 object_float : (style : Style) (ms : Members) → is_key_object style (members_len ms) (object ms) ≡ true → members_have_float ms ≡ false
 object_float Plain ms h = coded_float ms h
@@ -117,27 +95,20 @@ object_float Full ms h =
     either_true (is_coded (members_len ms) (object ms)) (is_in_charset (members_len ms) (object ms)) (members_have_float ms) h (coded_float ms) (in_charset_float ms)
 
 part_float : (style : Style) (d : Data) → is_key_part style d ≡ true → has_float d ≡ false
-part_float style null h = refl
-part_float style (boolean b) h = refl
-part_float style (number (unsigned n)) h = refl
-part_float style (number (negative z)) h = refl
 part_float style (number (float x)) h = absurd cc
-part_float style (string s) h = refl
 part_float style (array ds) h = absurd cc
 part_float style (object ms) h = object_float style ms h
+part_float style other h = refl
 
 parts_float : (style : Style) (ds : Items) → are_key_parts style ds ≡ true → items_have_float ds ≡ false
 parts_float style no_items h = refl
 parts_float style (item d ds) h =
-    neither (has_float d) (items_have_float ds) (part_float style d (first_true (is_key_part style d) (are_key_parts style ds) h)) (parts_float style ds (second_true (is_key_part style d) (are_key_parts style ds) h))
+    let each = both_true (is_key_part style d) (are_key_parts style ds) h in
+    or_from (has_float d) (items_have_float ds) (part_float style d each.0) (parts_float style ds each.1)
 
 pub key_float : (style : Style) (d : Data) → is_key style d ≡ true → has_float d ≡ false
-key_float style null h = absurd cc
-key_float style (boolean b) h = absurd cc
-key_float style (number n) h = absurd cc
-key_float style (string s) h = absurd cc
 key_float style (array ds) h = parts_float style ds h
-key_float style (object ms) h = absurd cc
+key_float style other h = absurd cc
 
 -- ---- an object, as the code looks at it
 

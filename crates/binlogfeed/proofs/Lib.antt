@@ -1,6 +1,5 @@
 pub mod Parsing
 pub mod Building
-pub mod Coming
 pub mod Keeping
 pub mod Ends
 pub mod Answering

@@ -1,5 +1,5 @@
 -- What the parser's answer comes to.
-use Rattle.std.proofs.Common.{◌≡◌, refl, Bool, true, false, true≢false, List, [], Option, Some, None, option_map, Result, Ok, Err, ap, sym, subst, ◌∙◌, inl, inr}
+use Rattle.std.proofs.Common.{◌≡◌, refl, Bool, true, false, true≢false, List, [], Option, Some, None, option_map, Result, Err, ap, sym, subst, ◌∙◌, inl, inr}
 use Rattle.std.specs.Prelude.{Box}
 use Rattle.std.specs.Box.{box_value}
 use Rattle.std.specs.declared.alloc.Global.{Global}
@@ -13,7 +13,7 @@ use Rattle.clap.specs.declared.error.kind.ErrorKind.TheVariants as kind
 use Rattle.binlogfeed.specs.Words.{program_app, IsParserFault, AnswersFound, AnswersParse}
 use Rattle.binlogfeed.specs.declared.words.Order.{Order}
 use Rattle.binlogfeed.specs.declared.words_fault.WordsFault.{WordsFault}
-use Rattle.binlogfeed.specs.declared.words_fault.WordsFault.TheVariants.{Help, CommandLine, EventName, Set, Token, Key, OutOfMemory}
+use Rattle.binlogfeed.specs.declared.words_fault.WordsFault.TheVariants.{Help, CommandLine, OutOfMemory}
 
 abbrev is_help : ErrorKind → Bool
 is_help kind.DisplayHelp = true
@@ -28,33 +28,23 @@ parse_refused faults found error (Help shown) (inl memory) h = absurd (help_is_n
 parse_refused faults found error (Help shown) (inr among) h = (subst (λ (k : ErrorKind). IsAmong k faults) h.1 among, ap kind_of h.0 ∙ h.1)
 parse_refused faults found error (CommandLine said) (inl memory) h = absurd (h.2 memory)
 parse_refused faults found error (CommandLine said) (inr among) h = inl (kind_of error, among, h.1)
-parse_refused faults found error (EventName word) k h = absurd h
-parse_refused faults found error (Set at) k h = absurd h
-parse_refused faults found error Token k h = absurd h
-parse_refused faults found error Key k h = absurd h
 parse_refused faults found error OutOfMemory k h = tt
+parse_refused faults found error other k h = absurd h
 
 pub parse_taken : (faults : Kinds) (found : Option (Text × List Row)) (result : Result Order WordsFault)
     → faults ≡ [] → AnswersFound found result → AnswersParse faults found result
-parse_taken faults found (Ok order) none h = (none, h)
 parse_taken faults found (Err (Help error)) none h = absurd h
 parse_taken faults found (Err (CommandLine said)) none h = inr (none, h)
-parse_taken faults found (Err (EventName word)) none h = (none, h)
-parse_taken faults found (Err (Set at)) none h = (none, h)
-parse_taken faults found (Err Token) none h = (none, h)
-parse_taken faults found (Err Key) none h = (none, h)
 parse_taken faults found (Err OutOfMemory) none h = tt
+parse_taken faults found other none h = (none, h)
 
 -- where only memory may be wanting
 pub parse_without_memory : (found : Option (Text × List Row)) (error : Error) (fault : WordsFault)
     → kind_of error ≡ kind.OutOfMemory → IsParserFault error fault → AnswersFound found (Err fault)
 parse_without_memory found error (Help shown) memory h = absurd (help_is_no_memory (kind_of error) h.1 memory)
 parse_without_memory found error (CommandLine said) memory h = absurd (h.2 memory)
-parse_without_memory found error (EventName word) memory h = absurd h
-parse_without_memory found error (Set at) memory h = absurd h
-parse_without_memory found error Token memory h = absurd h
-parse_without_memory found error Key memory h = absurd h
 parse_without_memory found error OutOfMemory memory h = tt
+parse_without_memory found error other memory h = absurd h
 
 -- what holds of a command holds of the program's
 pub faults_found : (app : App) (words : List Text) (error : Error) → app ≡ program_app

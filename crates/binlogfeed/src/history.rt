@@ -36,17 +36,7 @@ pub fn run_history<L: Logs, W: Write>(
     ensures named { IfErr result.1 (IsNamed (L.names result.0)) }
     ensures failed { IfErr result.1 (ReadsFailed (L.failures logs) (L.failures result.0)) }
 {
-    let wanted = Wanted::OfKey { schema, table, key };
-    write_feed(
-        alloc,
-        logs,
-        Filter::new(),
-        Start::Beginning,
-        &wanted,
-        Style::Plain,
-        window,
-        out,
-    )
+    run_history_as(Style::Plain, alloc, logs, schema, table, key, window, out)
 }
 
 /// Does what [`run_history`] does, with lines in a style, and with a key whose values are those of such lines: in the plain one they are

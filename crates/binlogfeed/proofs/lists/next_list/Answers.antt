@@ -1,10 +1,9 @@
-use Rattle.std.proofs.Common.{◌≡◌, ◌∙◌, ℕ, List, [], ◌∷◌, ◌++◌, map, string_bytes, String, Global, Some, ap, sym, subst}
+use Rattle.std.proofs.Common.{◌≡◌, ◌∙◌, [], ◌∷◌, map, string_bytes, Some, ap, sym}
 use Rattle.std.specs.Vec.{vec_len}
 use Rattle.std.proofs.lemmas.Bool.{eqb-true}
-use Rattle.std.proofs.lemmas.List.{map-append}
-use Rattle.std.proofs.lemmas.List.{nil_from_length}
+use Rattle.std.proofs.lemmas.List.{map-append, nil_from_length}
 use Rattle.binlogfeed.specs.Lists.{ReadsLine}
-use Rattle.binlogfeed.proofs.InputLines.{ReadsPaths, list_read, paths_more, some_line}
+use Rattle.binlogfeed.proofs.InputLines.{list_read, paths_more, some_line}
 use Rattle.binlogfeed.proofs.lists.next_list.Goals as goal
 
 pub returns-then-is_empty : goal.returns-then-is_empty
@@ -19,9 +18,6 @@ lines-preserved g c =
     let line = c.in-Some.line in
     let read : ReadsLine (g.B.Read.remaining c.lines.input) (g.B.Read.remaining c.next_line.new.input) (Some line.items) = rw c.in-Some.is at c.in_ok-line.ensures in
     let path : string_bytes c.in-Ok.path ≡ line.items = ap (λ v. v.items) c.in-Ok.ensures.ok in
-    let pushed : map string_bytes c.push.new.self.items ≡ map string_bytes c.lines.paths.items ++ line.items ∷ [] =
-    ap (λ (l : List (String Global)). map string_bytes l) c.in_ok-push-in-Ok.ensures.items ∙ map-append string_bytes c.lines.paths.items (c.in-Ok.path ∷ [])
-    ∙ ap (λ (b : List ℕ). map string_bytes c.lines.paths.items ++ b ∷ []) path in
-    subst (λ (paths : List (List ℕ)). ReadsPaths (g.B.Read.remaining c.args.input.now) (g.B.Read.remaining c.next_line.new.input) paths) (sym pushed)
+    rw (c.in_ok-push-in-Ok.ensures.items, map-append string_bytes c.lines.paths.items (c.in-Ok.path ∷ []), path)
     (paths_more (g.B.Read.remaining c.args.input.now) (g.B.Read.remaining c.lines.input) (g.B.Read.remaining c.next_line.new.input) (map string_bytes c.lines.paths.items) line.items
     c.lines.invariant read (some_line (vec_len line) line.items line.ok.0 (sym c.is_empty.ensures ∙ c.if-is_empty.false)))

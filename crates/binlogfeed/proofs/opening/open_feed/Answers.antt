@@ -1,40 +1,31 @@
-use Rattle.std.proofs.Common.{ℕ, List, length, refl, subst, ◌∙◌, arith}
-use Rattle.binlogfeed.specs.Faults.{IsNamed, fault_of_opening}
-use Rattle.binlogfeed.proofs.Beginning.{grows, still_failed, still_named, still_refused}
-use Rattle.binlogfeed.proofs.Keeping.{reads_failed_since, source_kept_further, takes_from_first}
+use Rattle.std.proofs.Common.{◌<◌, length, refl, ◌∙◌, arith}
+use Rattle.binlog_feed.proofs.Sources.{same_source, source_then}
+use Rattle.binlogfeed.proofs.Beginning.{still_refused, still_tells}
+use Rattle.binlogfeed.proofs.Keeping.{takes_from_first}
 use Rattle.binlogfeed.proofs.opening.open_feed.Goals as goal
 
 pub opening-init : goal.opening-init
-opening-init g c = record {
-  source = record { same_names = refl; same_contents = refl; same_lengths = refl; was_honest = λ h. h; no_fewer = omega arith };
-  filter = refl;
-  start = refl;
-}
+opening-init g c = record { source = same_source _; filter = refl; start = refl }
 
 pub opening-preserved : goal.opening-preserved
 opening-preserved g c =
-    let back = c.in-Err.ensures in
-    record {
-      source = source_kept_further _ _ _ _ _ _ _ _ c.opening.invariant.source back.handed_back.source_back;
-      filter = back.handed_back.filter_back ∙ c.opening.invariant.filter;
-      start = back.handed_back.start_back ∙ c.opening.invariant.start;
-    }
+    let inv = c.opening.invariant in
+    let back = c.in-Err.ensures.handed_back in
+    record { source = source_then _ _ _ inv.source back.source_back; filter = back.filter_back ∙ inv.filter; start = back.start_back ∙ inv.start }
 
 pub opening-smaller : goal.opening-smaller
 opening-smaller g c =
-    let window = length c.opening.window.items in
-    let larger = length c.in-Ok-larger_window.larger.items in
-    let rises = grows (g.L.Logs.names c.opening.logs) window (g.L.Logs.failures c.opening.logs) (g.L.Logs.failures c.in-Err.logs_back) c.in-Err.fault larger c.in-Err.ensures.reason c.in-Ok-larger_window.ensures.larger in
+    let rises : length c.opening.window.items < length c.in-Ok-larger_window.larger.items = rw c.in-Ok-larger_window.ensures.larger at c.in-Err.ensures.reason in
     omega (arith, rises, c.in-Ok-larger_window.ensures.fits)
 
 pub returns-in-Ok : goal.returns-in-Ok
 returns-in-Ok g c =
-    let kept = c.opening.invariant.source in
+    let inv = c.opening.invariant in
     let given = c.in-Ok.ensures in
     record {
-      begins = λ h. rw (kept.same_names, kept.same_contents, c.opening.invariant.start, c.opening.invariant.filter) at (given.begins h);
+      begins = λ h. rw (inv.source.same_names, inv.source.same_contents, inv.start, inv.filter) at (given.begins h);
       sound = given.sound;
-      source = takes_from_first g.L.Logs c.args.logs c.opening.logs c.in-Ok.feed kept given.source;
+      source = takes_from_first g.L.Logs c.args.logs c.opening.logs c.in-Ok.feed inv.source given.source;
       refused = tt;
       source_back = tt;
       filter_back = tt;
@@ -45,23 +36,21 @@ returns-in-Ok g c =
 
 pub returns-in-Err-larger_window : goal.returns-in-Err-larger_window
 returns-in-Err-larger_window g c =
-    let kept = c.opening.invariant.source in
+    let inv = c.opening.invariant in
+    let kept = inv.source in
+    let logs = c.opening.logs in
     let back = c.in-Err.ensures in
-    let names = g.L.Logs.names c.opening.logs in
-    let window = length c.opening.window.items in
-    let before = g.L.Logs.failures c.opening.logs in
-    let after = g.L.Logs.failures c.in-Err.logs_back in
-    let fault = c.in-Err.fault in
     let why = c.in-Err-larger_window.fault in
     let ends = c.in-Err-larger_window.ensures.refused in
+    let told = still_tells (g.L.Logs.names logs) (length c.opening.window.items) (g.L.Logs.failures c.args.logs) (g.L.Logs.failures logs) (g.L.Logs.failures c.in-Err.logs_back) c.in-Err.fault why kept.no_fewer back.reason ends in
     record {
       begins = tt;
       sound = tt;
       source = tt;
-      refused = λ h. rw (kept.same_names, kept.same_contents, c.opening.invariant.start) at (still_refused names (g.L.Logs.contents c.opening.logs) c.opening.start fault why (back.refused h) ends);
-      source_back = source_kept_further _ _ _ _ _ _ _ _ kept back.handed_back.source_back;
-      filter_back = back.handed_back.filter_back ∙ c.opening.invariant.filter;
-      start_back = back.handed_back.start_back ∙ c.opening.invariant.start;
-      named = subst (λ (list : List (List ℕ)). IsNamed list (fault_of_opening why)) kept.same_names (still_named names window before after fault why back.reason ends);
-      failed = reads_failed_since (g.L.Logs.failures c.args.logs) before after (fault_of_opening why) kept.no_fewer (still_failed names window before after fault why back.reason ends);
+      refused = λ h. rw (kept.same_names, kept.same_contents, inv.start) at (still_refused (g.L.Logs.names logs) (g.L.Logs.contents logs) c.opening.start c.in-Err.fault why (back.refused h) ends);
+      source_back = source_then _ _ _ kept back.handed_back.source_back;
+      filter_back = back.handed_back.filter_back ∙ inv.filter;
+      start_back = back.handed_back.start_back ∙ inv.start;
+      named = rw kept.same_names at told.0;
+      failed = told.1;
     }

@@ -1,41 +1,32 @@
-use Rattle.std.proofs.Common.{ℕ, List, length, refl, subst, ◌∙◌, arith}
-use Rattle.binlogfeed.specs.Faults.{IsNamed, fault_of_opening}
-use Rattle.binlogfeed.specs.Looks.{told_at_end}
-use Rattle.binlogfeed.proofs.Beginning.{grows, still_failed, still_named}
-use Rattle.binlogfeed.proofs.BeginningAtEnd.{told_failed, told_named, told_refused}
-use Rattle.binlogfeed.proofs.Keeping.{reads_failed_since, source_kept_further, takes_from_first}
+use Rattle.std.proofs.Common.{◌<◌, length, refl, ◌∙◌, arith}
+use Rattle.binlog_feed.proofs.Sources.{same_source, source_then}
+use Rattle.binlogfeed.proofs.Beginning.{still_tells}
+use Rattle.binlogfeed.proofs.BeginningAtEnd.{told_refused, told_tells}
+use Rattle.binlogfeed.proofs.Keeping.{takes_from_first}
 use Rattle.binlogfeed.proofs.opening_at_end.open_end.Goals as goal
 
 pub ending-init : goal.ending-init
-ending-init g c = record {
-  source = record { same_names = refl; same_contents = refl; same_lengths = refl; was_honest = λ h. h; no_fewer = omega arith };
-  filter = refl;
-  token = refl;
-}
+ending-init g c = record { source = same_source _; filter = refl; token = refl }
 
 pub ending-preserved : goal.ending-preserved
 ending-preserved g c =
-    let back = c.in-Err.ensures in
-    record {
-      source = source_kept_further _ _ _ _ _ _ _ _ c.ending.invariant.source back.handed_back.source_back;
-      filter = back.handed_back.filter_back ∙ c.ending.invariant.filter;
-      token = back.handed_back.start_back ∙ c.ending.invariant.token;
-    }
+    let inv = c.ending.invariant in
+    let back = c.in-Err.ensures.handed_back in
+    record { source = source_then _ _ _ inv.source back.source_back; filter = back.filter_back ∙ inv.filter; token = back.start_back ∙ inv.token }
 
 pub ending-smaller : goal.ending-smaller
 ending-smaller g c =
-    let window = length c.ending.window.items in
-    let larger = length c.in-Ok-larger_window.larger.items in
-    let rises = grows (g.L.Logs.names c.ending.logs) window (g.L.Logs.failures c.ending.logs) (g.L.Logs.failures c.in-Err.logs_back) c.in-Err.fault larger c.in-Err.ensures.reason c.in-Ok-larger_window.ensures.larger in
+    let rises : length c.ending.window.items < length c.in-Ok-larger_window.larger.items = rw c.in-Ok-larger_window.ensures.larger at c.in-Err.ensures.reason in
     omega (arith, rises, c.in-Ok-larger_window.ensures.fits)
 
 pub returns-in-Ok-open_at_end : goal.returns-in-Ok-open_at_end
 returns-in-Ok-open_at_end g c =
-    let kept = c.ending.invariant.source in
+    let inv = c.ending.invariant in
+    let kept = inv.source in
     let given = c.in-Ok-open_at_end.ensures in
     record {
-      fits = λ h. rw (kept.same_names, kept.same_contents, c.ending.invariant.token) at (given.fits h);
-      goes_on = λ h. rw (kept.same_names, kept.same_contents, c.ending.invariant.token, c.ending.invariant.filter) at (given.joins h);
+      fits = λ h. rw (kept.same_names, kept.same_contents, inv.token) at (given.fits h);
+      goes_on = λ h. rw (kept.same_names, kept.same_contents, inv.token, inv.filter) at (given.joins h);
       sound = given.sound;
       source = takes_from_first g.L.Logs c.args.logs c.ending.logs c.in-Ok-open_at_end.feed kept given.source;
       refused = tt;
@@ -46,22 +37,22 @@ returns-in-Ok-open_at_end g c =
 
 pub returns-in-Err-larger_window : goal.returns-in-Err-larger_window
 returns-in-Err-larger_window g c =
-    let kept = c.ending.invariant.source in
+    let inv = c.ending.invariant in
+    let kept = inv.source in
+    let logs = c.ending.logs in
     let back = c.in-Err.ensures in
-    let names = g.L.Logs.names c.ending.logs in
-    let window = length c.ending.window.items in
-    let before = g.L.Logs.failures c.ending.logs in
-    let after = g.L.Logs.failures c.in-Err.logs_back in
-    let fault = c.in-Err.fault in
     let why = c.in-Err-larger_window.fault in
     let ends = c.in-Err-larger_window.ensures.refused in
+    let after = g.L.Logs.failures c.in-Err.logs_back in
+    let told = still_tells (g.L.Logs.names logs) (length c.ending.window.items) (g.L.Logs.failures c.args.logs) (g.L.Logs.failures logs) after c.in-Err.fault why kept.no_fewer back.reason ends in
+    let again = told_tells (g.L.Logs.names logs) (g.L.Logs.failures c.args.logs) after why told in
     rw c.told_at_end.ensures (record {
       fits = tt;
       goes_on = tt;
       sound = tt;
       source = tt;
-      refused = λ h. rw (kept.same_names, kept.same_contents, c.ending.invariant.token) at (told_refused names (g.L.Logs.contents c.ending.logs) c.ending.token fault why (back.refused h) ends);
-      source_back = source_kept_further _ _ _ _ _ _ _ _ kept back.handed_back.source_back;
-      named = told_named (g.L.Logs.names c.args.logs) why (subst (λ (list : List (List ℕ)). IsNamed list (fault_of_opening why)) kept.same_names (still_named names window before after fault why back.reason ends));
-      failed = reads_failed_since (g.L.Logs.failures c.args.logs) before after (fault_of_opening (told_at_end why)) kept.no_fewer (told_failed before after why (still_failed names window before after fault why back.reason ends));
+      refused = λ h. rw (kept.same_names, kept.same_contents, inv.token) at (told_refused (g.L.Logs.names logs) (g.L.Logs.contents logs) c.ending.token c.in-Err.fault why (back.refused h) ends);
+      source_back = source_then _ _ _ kept back.handed_back.source_back;
+      named = rw kept.same_names at again.0;
+      failed = again.1;
     })
