@@ -1,5 +1,5 @@
 -- From a vector's mask to text that stands in a string as it is.
-use Rattle.std.proofs.Common.{◌≡◌, ℕ, zero, suc, ◌+◌, ◌*◌, ◌-◌, ◌%◌, ◌^◌, ◌<◌, ◌≤◌, Bool, true, false, not, cond, ◌==◌, ◌||◌, nat_lt, nat_le, List, [], ◌∷◌, length, drop, get_or, map, replicate, bit_or, refl, sym, ap, ap₂, ◌∙◌, subst, inl, inr, zero-add, arith, get_or-take, get_or-drop}
+use Rattle.std.proofs.Common.{◌≡◌, ℕ, zero, suc, ◌+◌, ◌*◌, ◌%◌, ◌^◌, ◌<◌, ◌≤◌, Bool, true, false, not, cond, ◌==◌, ◌||◌, nat_lt, nat_le, List, [], ◌∷◌, length, drop, get_or, map, replicate, bit_or, refl, sym, ap, ap₂, ◌∙◌, subst, inl, inr, zero-add, arith, get_or-take, get_or-drop}
 use Rattle.std.proofs.lemmas.Bool.{or_parts, not-true, eqb-true, eq-eqb, leb-false, leb-true, le-leb, cases_eq, cases_lt}
 use Rattle.std.proofs.lemmas.List.{length-map}
 use Rattle.std.proofs.lemmas.List.Sums.{prefix_len_passes}
@@ -92,7 +92,7 @@ plain_first limit text count room few e k p q =
     let place : get_or (chunk 0 16 text) k 0 ≡ get_or text k 0 = get_or-take 16 (drop 0 text) k 0 (omega arith) ∙ get_or-drop 0 text k 0 ∙ ap (λ j. get_or text j 0) (zero-add k) in
     ap (λ x. not (needs_care limit x)) (sym place) ∙ prefix_len_passes (λ x. not (needs_care limit x)) (chunk 0 16 text) k 0 front
 
--- and the other way
+-- the plain front of bytes reaches as far as each of them is plain
 plain_run : (limit : ℕ) (v : List ℕ) (count : ℕ) → count ≤ length v → ((k : ℕ) → k < count → not (needs_care limit (get_or v k 0)) ≡ true) → count ≤ prefix_len (λ x. not (needs_care limit x)) v
 plain_run limit [] count le h = omega arith
 plain_run limit (x ∷ v) zero le h = omega arith
