@@ -1,5 +1,5 @@
 -- Texts at places of bytes that have room for them.
-use Rattle.std.proofs.Common.{◌≡◌, ◌∙◌, ℕ, ◌+◌, ◌≤◌, List, ◌++◌, length, take, length-take-le, take-add, take-take, take_at, drop_at, ap, sym, arith}
+use Rattle.std.proofs.Common.{◌∙◌, ℕ, ◌+◌, ◌≤◌, List, ◌++◌, length, take, length-take-le, take-add, take-take, take_at, drop_at, ap, sym, arith}
 use Rattle.json.specs.Filled.{Placed}
 
 -- only the first bytes of what was put count

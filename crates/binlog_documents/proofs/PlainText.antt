@@ -1,9 +1,9 @@
 -- From a vector's mask to text that stands in a string as it is.
-use Rattle.std.proofs.Common.{◌≡◌, ℕ, zero, suc, ◌+◌, ◌*◌, ◌-◌, ◌%◌, ◌^◌, ◌<◌, ◌≤◌, Bool, true, false, not, cond, ◌==◌, ◌||◌, nat_lt, nat_le, List, [], ◌∷◌, length, drop, get_or, map, replicate, bit_or, refl, sym, ap, ap₂, ◌∙◌, subst, inl, inr, zero-add, arith, get_or-take, get_or-drop}
+use Rattle.std.proofs.Common.{◌≡◌, ℕ, zero, suc, ◌+◌, ◌*◌, ◌%◌, ◌^◌, ◌<◌, ◌≤◌, Bool, true, false, not, cond, ◌==◌, ◌||◌, nat_lt, nat_le, List, [], ◌∷◌, length, drop, get_or, map, replicate, bit_or, refl, sym, ap, ap₂, ◌∙◌, subst, inl, inr, zero-add, arith, get_or-take, get_or-drop}
 use Rattle.std.proofs.lemmas.Bool.{or_parts, not-true, eqb-true, eq-eqb, leb-false, leb-true, le-leb, cases_eq, cases_lt}
 use Rattle.std.proofs.lemmas.List.{length-map}
-use Rattle.std.proofs.lemmas.List.Sums.{prefix_len-le-length, prefix_len_passes}
-use Rattle.std.proofs.lemmas.Simd.{length-chunk, leading_from_mask_l, trailing_mask_l, zip2_splat, zip2_splat_left, mask_l-mod}
+use Rattle.std.proofs.lemmas.List.Sums.{prefix_len_passes}
+use Rattle.std.proofs.lemmas.Simd.{length-chunk, none_from_empty_mask, leading_from_mask_l, trailing_mask_l, zip2_splat, zip2_splat_left, mask_l-mod}
 use Rattle.std.proofs.lemmas.Str.{IsUtf8-from_ascii, is_utf8-from_IsUtf8}
 use Rattle.std.specs.Prelude.{◌↔◌, IsTrue}
 use Rattle.std.specs.List.{prefix_len}
@@ -14,22 +14,8 @@ use Rattle.json.specs.Print.{escape}
 use Rattle.json.proofs.Printed.Plain.{escape_on_plain}
 use Rattle.binlog_documents.specs.PlainText.{needs_care, PlainBetween, IsPlainBelow, IsPlain}
 
-one_more : (p : Bool) (n l : ℕ) → n ≤ l → cond p (1 + n) 0 ≡ suc l → (p ≡ true) × (n ≡ l)
-one_more true n l h e = (refl, omega arith)
-one_more false n l h e = absurd (omega arith)
-
--- a list whose plain front is the whole of it
-all_plain : (limit : ℕ) (xs : List ℕ) → prefix_len (λ x. not (needs_care limit x)) xs ≡ length xs → IsPlainBelow limit xs
-all_plain limit [] e k p q = absurd (omega arith)
-all_plain limit (x ∷ xs) e zero p q = (one_more (not (needs_care limit x)) _ (length xs) (prefix_len-le-length (λ x. not (needs_care limit x)) xs) e).0
-all_plain limit (x ∷ xs) e (suc k) p q = all_plain limit xs (one_more (not (needs_care limit x)) _ (length xs) (prefix_len-le-length (λ x. not (needs_care limit x)) xs) e).1 k (omega arith) (omega arith)
-
 from_mask : (limit : ℕ) (text : List ℕ) (at n : ℕ) → at + n ≤ length text → mask_l (map (needs_care limit) (chunk at n text)) ≡ 0 → PlainBetween limit text at (at + n)
-from_mask limit text at n room none k p q =
-    let long = length-chunk at n text room in
-    let back : at + (k - at) ≡ k = omega arith in
-    ap (λ x. not (needs_care limit x)) (sym (get_or-take n (drop at text) (k - at) 0 (omega arith) ∙ get_or-drop at text (k - at) 0 ∙ ap (λ j. get_or text j 0) back))
-    ∙ all_plain limit (chunk at n text) (leading_from_mask_l (needs_care limit) (chunk at n text) none) (k - at) (omega arith) (omega arith)
+from_mask limit text at n room none k p q = ap not (none_from_empty_mask (needs_care limit) text at n 0 room none k p q)
 
 -- a lane of a test that is true, or not
 abbrev lane : Bool → ℕ
@@ -106,7 +92,7 @@ plain_first limit text count room few e k p q =
     let place : get_or (chunk 0 16 text) k 0 ≡ get_or text k 0 = get_or-take 16 (drop 0 text) k 0 (omega arith) ∙ get_or-drop 0 text k 0 ∙ ap (λ j. get_or text j 0) (zero-add k) in
     ap (λ x. not (needs_care limit x)) (sym place) ∙ prefix_len_passes (λ x. not (needs_care limit x)) (chunk 0 16 text) k 0 front
 
--- and the other way
+-- the plain front of bytes reaches as far as each of them is plain
 plain_run : (limit : ℕ) (v : List ℕ) (count : ℕ) → count ≤ length v → ((k : ℕ) → k < count → not (needs_care limit (get_or v k 0)) ≡ true) → count ≤ prefix_len (λ x. not (needs_care limit x)) v
 plain_run limit [] count le h = omega arith
 plain_run limit (x ∷ v) zero le h = omega arith
