@@ -1,6 +1,7 @@
 //! Carries out cases: text that describes files, what is done with them, and what has to come of it.
 #![tactic(auto)]
 
+mod jobs;
 mod language;
 mod program;
 mod readers;
@@ -9,8 +10,7 @@ mod verbs;
 
 use language::judge_input;
 use std::io;
-use verbs::AllVerbs;
 
 fn main(rt: HostRuntime) -> io::Result<()> {
-    judge_input(&rt, &AllVerbs)
+    judge_input(&rt)
 }

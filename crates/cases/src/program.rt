@@ -1,12 +1,9 @@
-//! Carries out cases of the program's runs, and of words of its command line.
+//! Runs of the program, and words of its command line.
 
-mod bent;
 mod orders;
-mod outcome;
 mod runs;
 mod shown_orders;
-mod sweeps;
-mod verbs;
 mod writer;
 
-pub use verbs::carry_out;
+pub use orders::{answer, push_words};
+pub use runs::{run_files, run_task};

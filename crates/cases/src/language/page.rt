@@ -1,11 +1,38 @@
-//! A text that is written piece by piece.
-use crate::language::lines::Refused;
+//! A text that is written piece by piece, and what can't be done on the way.
+use binlog_select::TokenRef;
 use std::alloc::{AllocError, Global};
 use std::fmt::{Debug, Display};
+use std::str::FromStr;
 
-/// A text that is written piece by piece. What can't be written has no answer at once: the page keeps why, from the first time on.
+/// Why a line of the cases can't be carried out.
+#[derive(Clone, Copy, Debug)]
+pub enum Refused {
+    /// The line's first word is none that there is, or can't stand there.
+    UnknownWord,
+    /// There is no case to which the line belongs.
+    NoCase,
+    /// A number, hex digits or another part of the line can't be read.
+    BadPart,
+    /// No piece, and no file, has this name.
+    UnknownName,
+    /// There is a piece of that name.
+    NameTaken,
+    /// No `want` stands in front of the verb.
+    NothingWanted,
+    /// No verb stands behind the last `want`.
+    WantLeft,
+    /// No verb stands in the case.
+    NoVerb,
+    /// What was written is no text.
+    NoText,
+    OutOfMemory,
+}
+
+/// A text that is written piece by piece. What can't be written, made or read has no answer at once: the page keeps why, from the first
+/// time on, and something else stands in its place.
 #[derive(Drop)]
 pub struct Page {
+    alloc: Global,
     text: String,
     refused: Option<Refused>,
 }
@@ -14,15 +41,32 @@ impl Page {
     /// A page on which nothing stands.
     pub fn new(alloc: Global) -> Page {
         Page {
+            alloc,
             text: String::new(alloc),
             refused: None,
         }
     }
 
-    /// Keeps why something can't be written, if it is the first time.
+    pub fn alloc(&self) -> Global {
+        self.alloc
+    }
+
+    /// Why something can't be written, made or read.
+    pub fn refused(&self) -> Option<Refused> {
+        self.refused
+    }
+
+    /// Keeps why something can't be written, made or read, if it is the first time.
     pub fn refuse(&mut self, why: Refused) {
         if self.refused.is_none() {
             self.refused = Some(why);
+        }
+    }
+
+    /// Takes in what a request for memory came to.
+    pub fn take<E: Drop>(&mut self, made: Result<(), E>) {
+        if made.is_err() {
+            self.refuse(Refused::OutOfMemory);
         }
     }
 
@@ -31,22 +75,8 @@ impl Page {
         &mut self.text
     }
 
-    /// Takes in what writing came to.
-    pub fn take(&mut self, written: Result<(), AllocError>) {
-        if written.is_err() {
-            self.refuse(Refused::OutOfMemory);
-        }
-    }
-
-    /// A text.
     pub fn push_str(&mut self, text: &str) {
         let written = self.text.push_str(text);
-        self.take(written);
-    }
-
-    /// A letter.
-    pub fn push(&mut self, letter: char) {
-        let written = self.text.push(letter);
         self.take(written);
     }
 
@@ -56,51 +86,20 @@ impl Page {
         self.take(written);
     }
 
-    /// A number.
-    pub fn push_number(&mut self, number: u64) {
-        let written = self.text.write_fmt(number);
-        self.take(written);
-    }
-
-    /// A number in two digits at least.
-    pub fn push_two_digits(&mut self, number: u64) {
-        write!(self, "{number:02}");
-    }
-
-    /// A number behind what says which it is.
-    pub fn push_named(&mut self, name: &str, number: u64) {
-        self.push_str(name);
-        self.push_number(number);
-    }
-
-    /// The number of a file and an offset in it, behind what says which they are.
-    pub fn push_place(&mut self, name: &str, place: (usize, u64)) {
-        let (file, offset) = place;
-        self.push_named(name, file as u64);
-        self.push_named(":", offset);
-    }
-
-    /// A byte in two hex digits.
-    pub fn push_hex(&mut self, byte: u8) {
-        write!(self, "{byte:02x}");
-    }
-
     /// A value as it is derived to be shown.
     pub fn push_debug<D: Debug>(&mut self, value: &D) {
         write!(self, "{value:?}");
     }
 
-    /// A text between quotes.
-    pub fn push_quoted(&mut self, text: &str) {
-        self.push('"');
-        self.push_str(text);
-        self.push('"');
+    pub fn push_token(&mut self, token: TokenRef<'_>) {
+        let written = token.write(&mut self.text);
+        self.take(written);
     }
 
-    /// Keeps why another page isn't whole.
-    pub fn carry(&mut self, other: &Page) {
-        if let Some(why) = other.refused {
-            self.refuse(why);
+    /// Bytes in hex digits.
+    pub fn push_hex(&mut self, bytes: &[u8]) {
+        for byte in bytes {
+            write!(self, "{byte:02x}");
         }
     }
 
@@ -108,6 +107,13 @@ impl Page {
     pub fn push_page(&mut self, other: &Page) {
         self.carry(other);
         self.push_str(other.as_str());
+    }
+
+    /// Keeps why another page isn't whole.
+    pub fn carry(&mut self, other: &Page) {
+        if let Some(why) = other.refused {
+            self.refuse(why);
+        }
     }
 
     /// Forgets what was written.
@@ -120,19 +126,94 @@ impl Page {
         self.text.as_str()
     }
 
-    /// Whether all was written, or why not.
-    pub fn whole(&self) -> Result<(), Refused> {
-        match self.refused {
-            None => Ok(()),
-            Some(why) => Err(why),
+    /// The number that a word is, in decimal digits.
+    pub fn number<N: FromStr + Default>(&mut self, word: &str) -> N
+    where
+        N::Err: Drop,
+    {
+        match word.parse::<N>() {
+            Ok(number) => number,
+            Err(_) => {
+                self.refuse(Refused::BadPart);
+                N::default()
+            }
         }
     }
 
-    /// What was written, if it was all.
-    pub fn into_text(self) -> Result<String, Refused> {
-        match self.refused {
-            None => Ok(self.text),
-            Some(why) => Err(why),
+    /// A copy of bytes.
+    pub fn copy(&mut self, bytes: &[u8]) -> Vec<u8> {
+        let mut copy = Vec::new(self.alloc);
+        let made = copy.extend_from_slice(bytes);
+        self.take(made);
+        copy
+    }
+
+    /// A copy of a text.
+    pub fn copy_text(&mut self, text: &str) -> String {
+        let mut copy = String::new(self.alloc);
+        let made = copy.push_str(text);
+        self.take(made);
+        copy
+    }
+
+    /// What was made, or something else, where there was no memory for it.
+    pub fn made<T: Drop>(&mut self, made: Result<T, AllocError>, other: T) -> T {
+        match made {
+            Ok(it) => it,
+            Err(_) => {
+                self.refuse(Refused::OutOfMemory);
+                other
+            }
         }
+    }
+
+    /// A window of a length.
+    pub fn window(&mut self, length: usize) -> Vec<u8> {
+        let window = vec![in self.alloc; 0u8; length];
+        self.made(window, Vec::new(self.alloc))
+    }
+
+    /// The words of a line, parted by blanks. A blank between two quotes belongs to its word, and the quotes don't.
+    pub fn words(&mut self, line: &str) -> Vec<String> {
+        let mut words = Vec::new(self.alloc);
+        let (mut is_quoted, mut is_in_word) = (false, false);
+        for letter in line.chars() {
+            let begins = !is_in_word;
+            is_quoted = is_quoted != (letter == '"');
+            is_in_word = is_quoted || letter != ' ';
+            if is_in_word {
+                self.push_letter(&mut words, begins, letter);
+            }
+        }
+        if is_quoted {
+            self.refuse(Refused::BadPart);
+        }
+        words
+    }
+
+    /// Appends a letter to the last word, or to a new one. A quote belongs to a word, but isn't one of its letters.
+    fn push_letter(&mut self, words: &mut Vec<String>, begins: bool, letter: char) {
+        if begins {
+            let made = words.push(String::new(self.alloc));
+            self.take(made);
+        }
+        if letter != '"' {
+            if let Some(word) = words.last_mut() {
+                let made = word.push(letter);
+                self.take(made);
+            }
+        }
+    }
+
+    /// Texts, and words behind them, borrowed one by one.
+    pub fn borrowed<'a>(&mut self, front: &[&'a str], words: &'a [String]) -> Vec<&'a str> {
+        let mut borrowed = Vec::new(self.alloc);
+        let made = borrowed.extend_from_slice(front);
+        self.take(made);
+        for word in words {
+            let made = borrowed.push(word.as_str());
+            self.take(made);
+        }
+        borrowed
     }
 }

@@ -1,5 +1,5 @@
 //! A writer that takes little, runs full, fails once, or can't be flushed.
-use crate::language::{Full, Room};
+use crate::language::How;
 use std::alloc::Global;
 use std::io;
 use std::io::{ErrorKind, Write};
@@ -9,50 +9,40 @@ pub struct Narrow {
     pub received: Vec<u8>,
     pub flushes: u32,
     writes: u64,
-    room: Room,
+    how: How,
 }
 
 impl Narrow {
-    pub fn new(alloc: Global, room: Room) -> Narrow {
+    pub fn new(alloc: Global, how: How) -> Narrow {
         Narrow {
             received: Vec::new(alloc),
             flushes: 0,
             writes: 0,
-            room,
+            how,
         }
     }
 }
 
-fn failed() -> io::Error {
-    io::Error::from(ErrorKind::Other)
+fn failed<T>() -> io::Result<T> {
+    Err(io::Error::from(ErrorKind::Other))
 }
 
 impl Write for Narrow {
     fn write(&mut self, buf: &[u8]) -> io::Result<usize> {
         self.writes = self.writes.saturating_add(1);
-        if self.writes == self.room.failing {
-            return Err(failed());
-        }
-        let count = buf.len().min(self.room.most).min(self.room.room);
-        if count == 0 {
-            return match self.room.full {
-                Full::TakesNothing => Ok(0),
-                Full::Fails => Err(failed()),
-            };
+        let count = buf.len().min(self.how.takes).min(self.how.room);
+        if self.writes == self.how.failing_write || (count == 0 && self.how.full_fails) {
+            return failed();
         }
         if self.received.extend_from_slice(&buf[..count]).is_err() {
-            return Err(failed());
+            return failed();
         }
-        self.room.room -= count;
+        self.how.room -= count;
         Ok(count)
     }
 
     fn flush(&mut self) -> io::Result<()> {
         self.flushes = self.flushes.saturating_add(1);
-        if self.room.flushes {
-            Ok(())
-        } else {
-            Err(failed())
-        }
+        if self.how.flushes { Ok(()) } else { failed() }
     }
 }

@@ -1,126 +1,93 @@
 //! Filters: which changes pass.
-use crate::language::{Page, Refused};
+use crate::language::{Ask, Page, Refused};
 use crate::readers::sets::{gtid_of, push_answer, set_of};
 use binlog_select::{ChangeKind, Filter, Kinds, Names};
-use std::alloc::Global;
 
-fn kind_of(word: &str) -> Result<ChangeKind, Refused> {
-    match word {
-        "insert" => Ok(ChangeKind::Insert),
-        "update" => Ok(ChangeKind::Update),
-        "delete" => Ok(ChangeKind::Delete),
-        _ => Err(Refused::BadPart),
+pub fn kind_name(kind: ChangeKind) -> &'static str {
+    match kind {
+        ChangeKind::Insert => "insert",
+        ChangeKind::Update => "update",
+        ChangeKind::Delete => "delete",
     }
 }
 
-/// Appends a name.
-fn push_name(alloc: Global, names: &mut Vec<String>, name: &str) -> Result<(), Refused> {
-    let Ok(name) = String::from_str(alloc, name) else {
-        return Err(Refused::OutOfMemory);
-    };
-    match names.push(name) {
-        Ok(()) => Ok(()),
-        Err(_) => Err(Refused::OutOfMemory),
+fn kind_of(page: &mut Page, word: &str) -> ChangeKind {
+    match word {
+        "insert" => ChangeKind::Insert,
+        "update" => ChangeKind::Update,
+        "delete" => ChangeKind::Delete,
+        _ => {
+            page.refuse(Refused::BadPart);
+            ChangeKind::Insert
+        }
     }
 }
 
 /// The names between commas; where nothing follows a list's name, no names.
-fn names_of(alloc: Global, list: Option<&str>) -> Result<Names, Refused> {
-    let mut names = Vec::new(alloc);
+fn names_of(page: &mut Page, list: Option<&str>) -> Option<Names> {
+    let mut names = Vec::new(page.alloc());
     if let Some(list) = list {
         for name in list.split(',') {
-            push_name(alloc, &mut names, name)?;
+            let made = names.push(page.copy_text(name));
+            page.take(made);
         }
     }
-    Ok(Names::from(names))
+    Some(Names::from(names))
 }
 
 /// The kinds between commas; where nothing follows a list's name, no kinds.
-fn kinds_of(alloc: Global, list: Option<&str>) -> Result<Kinds, Refused> {
-    let mut kinds = Vec::new(alloc);
+fn kinds_of(page: &mut Page, list: Option<&str>) -> Option<Kinds> {
+    let mut kinds = Vec::new(page.alloc());
     if let Some(list) = list {
         for name in list.split(',') {
-            kinds.push(kind_of(name)?)?;
+            let made = kinds.push(kind_of(page, name));
+            page.take(made);
         }
     }
-    Ok(Kinds::from(kinds))
+    Some(Kinds::from(kinds))
 }
 
-/// Gives a filter a list of names.
-fn set_names(filter: &mut Filter, option: &str, names: Names) -> Result<(), Refused> {
-    let list = match option {
-        "only-tables" => &mut filter.only_tables,
-        "ignored-tables" => &mut filter.ignored_tables,
-        "only-schemas" => &mut filter.only_schemas,
-        "ignored-schemas" => &mut filter.ignored_schemas,
-        _ => return Err(Refused::UnknownWord),
-    };
-    *list = Some(names);
-    Ok(())
-}
-
-/// Gives a filter a list.
-pub fn set_list(
-    alloc: Global,
-    filter: &mut Filter,
-    option: &str,
-    list: Option<&str>,
-) -> Result<(), Refused> {
+/// Gives a filter the list of an option.
+pub fn set_list(page: &mut Page, filter: &mut Filter, option: &str, list: Option<&str>) {
     match option {
-        "only-events" => filter.only_events = Some(kinds_of(alloc, list)?),
-        "auto-position" => filter.auto_position = set_of(alloc, list.unwrap_or("")).ok(),
-        _ => return set_names(filter, option, names_of(alloc, list)?),
+        "only-events" => filter.only_events = kinds_of(page, list),
+        "only-tables" => filter.only_tables = names_of(page, list),
+        "ignored-tables" => filter.ignored_tables = names_of(page, list),
+        "only-schemas" => filter.only_schemas = names_of(page, list),
+        "ignored-schemas" => filter.ignored_schemas = names_of(page, list),
+        "auto-position" => filter.auto_position = set_of(page, list.unwrap_or("")),
+        _ => page.refuse(Refused::UnknownWord),
     }
-    Ok(())
-}
-
-/// Gives a filter the list of a word.
-fn set_word(alloc: Global, filter: &mut Filter, word: &str) -> Result<(), Refused> {
-    match word.split_once('=') {
-        Some((name, names)) => set_list(alloc, filter, name, Some(names)),
-        None => set_list(alloc, filter, word, None),
-    }
-}
-
-/// Gives a filter the lists of words.
-fn set_words(alloc: Global, filter: &mut Filter, words: &[String]) -> Result<(), Refused> {
-    for word in words {
-        set_word(alloc, filter, word.as_str())?;
-    }
-    Ok(())
 }
 
 /// `passes KIND SCHEMA TABLE GTID LIST..`: whether such a change passes a filter with such lists.
-pub fn push_passes(alloc: Global, text: &mut Page, words: &[String]) -> Result<(), Refused> {
-    let [kind, schema, table, gtid, lists @ ..] = words else {
-        return Err(Refused::BadPart);
+pub fn push_passes(text: &mut Page, ask: Ask<'_>) {
+    let [kind, schema, table, gtid, lists @ ..] = ask.words else {
+        return text.refuse(Refused::BadPart);
     };
-    let kind = kind_of(kind.as_str())?;
-    let gtid = gtid_of(alloc, gtid.as_str())?;
+    let kind = kind_of(text, kind.as_str());
+    let gtid = gtid_of(text, gtid.as_str());
     let mut filter = Filter::new();
-    set_words(alloc, &mut filter, lists)?;
+    for list in lists {
+        match list.as_str().split_once('=') {
+            Some((name, names)) => set_list(text, &mut filter, name, Some(names)),
+            None => set_list(text, &mut filter, list.as_str(), None),
+        }
+    }
     push_answer(
         text,
         filter.passes(kind, schema.as_str(), table.as_str(), gtid),
     );
-    Ok(())
-}
-
-/// The set of these names.
-fn set_of_names(alloc: Global, words: &[String]) -> Result<Names, Refused> {
-    let mut names = Vec::new(alloc);
-    for word in words {
-        push_name(alloc, &mut names, word.as_str())?;
-    }
-    Ok(Names::from(names))
 }
 
 /// `name-set NAME..`: the names as a set of names gives them back, a line each.
-pub fn push_name_set(alloc: Global, text: &mut Page, words: &[String]) -> Result<(), Refused> {
-    let names = set_of_names(alloc, words)?.into_vec();
-    for name in &names {
-        text.push_str(name.as_str());
-        text.push('\n');
+pub fn push_name_set(text: &mut Page, ask: Ask<'_>) {
+    let mut names = Vec::new(text.alloc());
+    for word in ask.words {
+        let made = names.push(text.copy_text(word.as_str()));
+        text.take(made);
     }
-    Ok(())
+    for name in &Names::from(names).into_vec() {
+        write!(text, "{name}\n");
+    }
 }

@@ -7,15 +7,6 @@ use crate::readers::bodies::{show_body, show_header};
 use crate::readers::steps::{Answer, Steps};
 use binlog_frame::{FrameFault, Frames, Header, Logs, Step};
 
-/// What a line tells of an event.
-#[derive(Clone, Copy)]
-pub enum Shown {
-    /// How it is cut out of its file.
-    Frame,
-    /// Its header, its class and its body.
-    Event,
-}
-
 /// A pass over the events of files.
 #[derive(Drop)]
 pub struct Pass<'a, L: Logs> {
@@ -25,7 +16,8 @@ pub struct Pass<'a, L: Logs> {
     window: Vec<u8>,
     /// What the files hold.
     held: &'a [Named],
-    shown: Shown,
+    /// Whether a line tells an event's header, class and body, and not how it is cut out of its file.
+    tells_events: bool,
     /// Whether each step is made twice, the second time from a place that was kept.
     goes_back: bool,
     ghost is_in_source: { file_of frames < length (L.names logs) },
@@ -37,7 +29,7 @@ impl<'a, L: Logs + Drop> Pass<'a, L> {
         logs: L,
         window: Vec<u8>,
         held: &'a [Named],
-        shown: Shown,
+        tells_events: bool,
         goes_back: bool,
     ) -> Option<Pass<'a, L>> {
         if logs.count() == 0 {
@@ -49,7 +41,7 @@ impl<'a, L: Logs + Drop> Pass<'a, L> {
             frames: Frames::begin(0),
             window,
             held,
-            shown,
+            tells_events,
             goes_back,
         })
     }
@@ -90,83 +82,20 @@ impl<L: Logs> Pass<'_, L> {
         }
     }
 
-    /// The body that stands in the window behind a header.
-    fn body(&self, count: u32) -> &[u8] {
-        let end = Header::LEN.saturating_add(count as usize);
-        self.window.get(Header::LEN..end).unwrap_or(&[])
-    }
-
-    fn show_content(&self, line: &mut Page, header: &Header, body_len: u32) {
-        let kind = header.kind;
-        match self.shown {
-            Shown::Frame => {
-                line.push_named("kind ", kind as u64);
-                line.push_named(", length ", header.length as u64);
-                line.push_named(", body ", body_len as u64);
-            }
-            Shown::Event => {
-                show_header(line, header);
-                show_body(line, kind, self.body(body_len));
-            }
-        }
-    }
-
     /// An event at a place, and whether the window has other bytes than the file.
     fn show_event(&self, line: &mut Page, place: u64, header: &Header, body_len: u32) {
-        line.push_place("", (self.file, place));
-        line.push(' ');
-        self.show_content(line, header, body_len);
+        write!(line, "{}:{place} ", self.file);
+        if self.tells_events {
+            let end = Header::LEN.saturating_add(body_len as usize);
+            show_header(line, header);
+            let body = self.window.get(Header::LEN..end).unwrap_or(&[]);
+            show_body(line, header.kind, body);
+        } else {
+            let (kind, length) = (header.kind, header.length);
+            write!(line, "kind {kind}, length {length}, body {body_len}");
+        }
         if !self.holds(place, header.length) {
             line.push_str(", not the bytes of the file");
-        }
-    }
-
-    /// A step that gave an event or came to the end.
-    fn show_step(&self, line: &mut Page, step: Step) -> Answer {
-        match step {
-            Step::Event {
-                place,
-                header,
-                body_len,
-            } => {
-                self.show_event(line, place, &header, body_len);
-                return Answer::Gave;
-            }
-            Step::CutTail { place } => {
-                line.push_place("", (self.file, place));
-                line.push_str(" cut tail");
-            }
-            Step::End => {
-                line.push_number(self.file as u64);
-                line.push_str(" end");
-            }
-        }
-        Answer::Ended(None)
-    }
-
-    /// A step that was refused.
-    fn show_fault(&self, line: &mut Page, fault: FrameFault) -> Answer {
-        match fault {
-            FrameFault::Read => Answer::ReadFailed(self.file),
-            FrameFault::WindowTooSmall { needed } => Answer::Needs(needed),
-            _ => {
-                line.push_number(self.file as u64);
-                line.push(' ');
-                line.push_debug(&fault);
-                Answer::Ended(Some((self.file, self.frames.place())))
-            }
-        }
-    }
-
-    /// Where the frames stand then. Where nothing was given and nothing has ended, they are as they were.
-    fn show_place(&self, line: &mut Page, answer: Answer, before: Frames) {
-        match answer {
-            Answer::Gave | Answer::Ended(_) => line.push_named("; place ", self.frames.place()),
-            _ => {
-                if self.frames != before {
-                    line.push_str("refused, and moved\n");
-                }
-            }
         }
     }
 }
@@ -174,11 +103,33 @@ impl<L: Logs> Pass<'_, L> {
 impl<L: Logs> Steps for Pass<'_, L> {
     fn ask(&mut self, line: &mut Page) -> Answer {
         let before = self.frames;
-        let answer = match self.next() {
-            Ok(step) => self.show_step(line, step),
-            Err(fault) => self.show_fault(line, fault),
-        };
-        self.show_place(line, answer, before);
+        let mut answer = Answer::Ended(None);
+        match self.next() {
+            Ok(
+                Step::Event {
+                    place,
+                    header,
+                    body_len,
+                },
+            ) => {
+                self.show_event(line, place, &header, body_len);
+                answer = Answer::Gave;
+            }
+            Ok(Step::CutTail { place }) => write!(line, "{}:{place} cut tail", self.file),
+            Ok(Step::End) => write!(line, "{} end", self.file),
+            Err(FrameFault::Read) => answer = Answer::ReadFailed(self.file),
+            Err(FrameFault::WindowTooSmall { needed }) => answer = Answer::Needs(needed),
+            Err(fault) => {
+                write!(line, "{} {fault:?}", self.file);
+                answer = Answer::Ended(Some((self.file, self.frames.place())));
+            }
+        }
+        // Where nothing was given and nothing has ended, the frames are as they were.
+        if matches!(answer, Answer::Gave | Answer::Ended(_)) {
+            write!(line, "; place {}", self.frames.place());
+        } else if self.frames != before {
+            line.push_str("refused, and moved\n");
+        }
         answer
     }
 

@@ -1,13 +1,12 @@
 //! A feed that is asked for the changes at places before each of its steps.
-use crate::language::{Page, Refused, number};
+use crate::jobs::{Place, Told};
+use crate::language::{Page, Refused};
 use crate::readers::feed::show_change;
-use crate::readers::steps::{Answer, Steps, Told};
-use crate::readers::units::show_fault;
-use crate::readers::watched::{Place, Seen};
+use crate::readers::steps::{Answer, Steps, show_fault};
+use crate::readers::watched::Seen;
 use binlog_feed::{AtFault, Feed};
 use binlog_frame::Logs;
 use binlog_select::{Token, TokenRef};
-use std::alloc::Global;
 use std::cell::Cell;
 
 /// A look at a place.
@@ -21,21 +20,15 @@ pub struct Look<'a> {
 }
 
 /// The place in a change's line, which is its fifth word.
-fn place_in(line: &str) -> Result<TokenRef<'_>, Refused> {
+fn place_in<'a>(page: &mut Page, line: &'a str) -> TokenRef<'a> {
     let word = line.split(' ').nth(4).unwrap_or("");
     let (place, file) = word.split_once('@').unwrap_or(("", ""));
     let (position, count) = place.split_once('.').unwrap_or(("", ""));
-    let Ok(position) = number(position) else {
-        return Err(Refused::BadPart);
-    };
-    let Ok(count) = number(count) else {
-        return Err(Refused::BadPart);
-    };
-    Ok(TokenRef {
-        position: position as u64,
-        count: count as u64,
+    TokenRef {
+        position: page.number(position),
+        count: page.number(count),
         file,
-    })
+    }
 }
 
 /// How many changes have the transaction that ends at a place.
@@ -57,109 +50,53 @@ fn end_of(plain: &Told, file: usize) -> &str {
     }
 }
 
-/// A look at a place in a file that is there, which has to be read up to an end at most.
-fn look_at<'a>(
-    place: TokenRef<'a>,
-    position: u64,
-    count: u64,
-    wanted: &'a str,
-    reach: Place,
-) -> Look<'a> {
-    let file = place.file;
+/// A look beside another, which may read as far.
+fn beside<'a>(look: Look<'a>, place: TokenRef<'a>, wanted: &'a str) -> Look<'a> {
     Look {
-        place: TokenRef {
-            position,
-            count,
-            file,
-        },
+        place,
         wanted,
-        reach,
+        ..look
     }
 }
 
-/// The looks at a change, whose transaction has so many, and at places beside it that fit nothing.
-fn looks_around<'a>(
-    place: TokenRef<'a>,
-    changes: u64,
-    change: &'a str,
-    end_of_file: &'a str,
-    reach: Place,
-) -> [Look<'a>; 6] {
-    let position = place.position;
-    let before = position.saturating_sub(1);
-    let no_file = TokenRef {
-        file: "no-file",
-        ..place
+/// The looks at a change in a line that a plain feed told, up to which reads had reached so far, and at places beside it that fit nothing.
+fn looks_by<'a>(page: &mut Page, plain: &'a Told, line: &'a str, reach: Place) -> [Look<'a>; 6] {
+    let place = place_in(page, line);
+    let (wanted, _) = line.split_once("; reach ").unwrap_or((line, ""));
+    let look = Look {
+        place,
+        wanted,
+        reach,
     };
+    let (mut before, mut none, mut further) = (place, place, place);
+    before.position = place.position.saturating_sub(1);
+    none.count = 0;
+    further.count = count_up_to(&plain.given, reach).saturating_add(1);
+    let (mut end, mut elsewhere) = (place, place);
+    end.position = u64::MAX;
+    elsewhere.file = "no-file";
+    let mut at_end = beside(look, end, end_of(plain, reach.0));
+    at_end.reach = (reach.0, u64::MAX);
+    let mut nowhere = beside(look, elsewhere, "TokenNoFile");
+    nowhere.reach = (0, 0);
     [
-        look_at(place, position, place.count, change, reach),
-        look_at(place, before, place.count, "TokenNoTransaction", reach),
-        look_at(place, position, 0, "TokenNoChange", reach),
-        look_at(
-            place,
-            position,
-            changes.saturating_add(1),
-            "TokenNoChange",
-            reach,
-        ),
-        look_at(
-            place,
-            u64::MAX,
-            place.count,
-            end_of_file,
-            (reach.0, u64::MAX),
-        ),
-        look_at(no_file, position, place.count, "TokenNoFile", (0, 0)),
+        look,
+        beside(look, before, "TokenNoTransaction"),
+        beside(look, none, "TokenNoChange"),
+        beside(look, further, "TokenNoChange"),
+        at_end,
+        nowhere,
     ]
 }
 
-/// The looks at a change in a line that a plain feed told, and beside it.
-fn looks_by<'a>(
-    plain: &'a Told,
-    line: &'a str,
-    place: TokenRef<'a>,
-    reach: Place,
-) -> [Look<'a>; 6] {
-    let (change, _) = line.split_once("; reach ").unwrap_or((line, ""));
-    let changes = count_up_to(&plain.given, reach);
-    let end_of_file = end_of(plain, reach.0);
-    looks_around(place, changes, change, end_of_file, reach)
-}
-
-/// Appends the looks at a change in a line, up to which reads had reached so far, and beside it.
-fn push_looks<'a>(
-    looks: &mut Vec<Look<'a>>,
-    plain: &'a Told,
-    line: &'a str,
-    reach: Place,
-) -> Result<(), Refused> {
-    let Ok(place) = place_in(line) else {
-        return Err(Refused::BadPart);
-    };
-    match looks.extend_from_slice(&looks_by(plain, line, place, reach)) {
-        Ok(()) => Ok(()),
-        Err(_) => Err(Refused::OutOfMemory),
-    }
-}
-
 /// The looks at the changes that a plain feed told, and beside them.
-pub fn looks_of(alloc: Global, plain: &Told) -> Result<Vec<Look<'_>>, Refused> {
-    let mut looks = Vec::new(alloc);
+pub fn looks_of<'a>(page: &mut Page, plain: &'a Told) -> Vec<Look<'a>> {
+    let mut looks = Vec::new(page.alloc());
     for (given, line) in plain.given.iter().zip(plain.text.as_str().lines()) {
-        push_looks(&mut looks, plain, line, given.1)?;
+        let made = looks.extend_from_slice(&looks_by(page, plain, line, given.1));
+        page.take(made);
     }
-    Ok(looks)
-}
-
-/// Writes why there is no change at a place.
-fn show_refusal(line: &mut Page, fault: AtFault) -> Answer {
-    match fault {
-        AtFault::Feed(fault) => show_fault(line, fault),
-        fault => {
-            line.push_debug(&fault);
-            Answer::Ended(None)
-        }
-    }
+    looks
 }
 
 /// Asks for the change at a place, and writes it, or why there is none.
@@ -169,7 +106,11 @@ fn ask_at<L: Logs>(feed: &mut Feed<L>, token: &Token, line: &mut Page) -> Answer
             show_change(line, &change);
             Answer::Gave
         }
-        Err(fault) => show_refusal(line, fault),
+        Err(AtFault::Feed(fault)) => show_fault(line, fault),
+        Err(fault) => {
+            line.push_debug(&fault);
+            Answer::Ended(None)
+        }
     }
 }
 
@@ -184,16 +125,17 @@ fn judge_look(look: Look<'_>, answer: Answer, reach: Place, line: &mut Page) -> 
         line.clear();
         return None;
     }
-    line.push_place("; reach ", reach);
-    line.push_str(", in place of ");
-    line.push_str(wanted);
+    write!(
+        line,
+        "; reach {}:{}, in place of {wanted}",
+        reach.0, reach.1
+    );
     Some(Answer::Ended(None))
 }
 
 /// A feed, and the looks before each of its steps, if there are some.
 #[derive(Drop)]
 pub struct Looking<'a, L: Logs> {
-    alloc: Global,
     feed: Feed<L>,
     looks: &'a [Look<'a>],
     seen: &'a Cell<Seen>,
@@ -204,15 +146,9 @@ pub struct Looking<'a, L: Logs> {
 }
 
 impl<'a, L: Logs> Looking<'a, L> {
-    pub fn new(
-        alloc: Global,
-        feed: Feed<L>,
-        looks: &'a [Look<'a>],
-        seen: &'a Cell<Seen>,
-    ) -> Looking<'a, L> {
+    pub fn new(feed: Feed<L>, looks: &'a [Look<'a>], seen: &'a Cell<Seen>) -> Looking<'a, L> {
         let reach = seen.get().reach;
         Looking {
-            alloc,
             feed,
             looks,
             seen,
@@ -238,7 +174,7 @@ impl<'a, L: Logs> Looking<'a, L> {
     /// Looks at a place.
     fn look(&mut self, look: Look<'_>, line: &mut Page) -> Option<Answer> {
         self.see_from((0, 0));
-        match look.place.to_token(self.alloc) {
+        match look.place.to_token(line.alloc()) {
             Ok(token) => {
                 let answer = ask_at(&mut self.feed, &token, line);
                 judge_look(look, answer, self.seen.get().reach, line)
@@ -269,14 +205,12 @@ impl<'a, L: Logs> Looking<'a, L> {
         answer
     }
 
-    /// Looks at each place behind the feed's end, and asks for the end once more.
-    fn look_behind_end(&mut self, line: &mut Page) -> Answer {
-        line.clear();
-        if let Some(answer) = self.look_around(line) {
-            return answer;
+    /// Looks at each place, and then makes a step.
+    fn look_and_go_on(&mut self, line: &mut Page) -> Answer {
+        match self.look_around(line) {
+            Some(answer) => answer,
+            None => self.go_on(line),
         }
-        self.is_only_asked = true;
-        self.go_on(line)
     }
 }
 
@@ -288,10 +222,15 @@ impl<L: Logs> Steps for Looking<'_, L> {
         if let Some(answer) = self.look_around(line) {
             return answer;
         }
-        match self.go_on(line) {
-            Answer::Ended(_) => self.look_behind_end(line),
-            answer => answer,
+        let answer = self.go_on(line);
+        if !matches!(answer, Answer::Ended(_)) {
+            return answer;
         }
+        // Behind the end it is looked into once more.
+        line.clear();
+        let ended = self.look_and_go_on(line);
+        self.is_only_asked = ended == answer;
+        ended
     }
 
     fn exchange(&mut self, window: Vec<u8>) -> Vec<u8> {

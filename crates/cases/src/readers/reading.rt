@@ -1,198 +1,80 @@
-//! Frames, units and the feed over a case's files, step by step.
-use crate::language::{Case, Named, Reads, Refused, SMALL_WINDOW, Verdict, copies_of, source};
-use crate::readers::frames::{Pass, Shown};
-use crate::readers::looks::looks_of;
-use crate::readers::starts::{Parts, tell_feed};
-use crate::readers::steps::{Told, differing, tell_all, window_of};
-use crate::readers::sweeps::sweep;
-use crate::readers::watched::{Seen, Watched};
-use crate::readers::ways::{Layer, Reading, Way};
-use binlog_feed::Units;
-use binlog_frame::Logs;
-use std::alloc::Global;
-use std::cell::Cell;
+//! What is read of files, and in which way.
+use crate::jobs::{Job, Place, Told, each_window, sweep};
+use crate::language::{Ask, Named, PLAIN, Page, Refused};
+use crate::readers::layers::{opened, read};
+use crate::readers::looks::{Look, looks_of};
+use crate::readers::reads::show_names;
+use std::fs;
 
-/// What a layer tells of files in memory.
-pub fn tell(alloc: Global, files: &[Named], reading: Reading<'_>) -> Result<Told, Refused> {
-    let seen = Cell::new(Seen::NOTHING);
-    let logs = Watched {
-        files: source(copies_of(alloc, files)?, reading.reads)?,
-        seen: &seen,
-        turning: reading.turning,
-    };
-    tell_source(alloc, logs, &seen, files, reading)
+/// What is read of files.
+#[derive(Clone, Copy, PartialEq, Eq)]
+pub enum Layer {
+    Frames,
+    Events,
+    Units,
+    Feed,
+    /// A feed that is looked into.
+    Looks,
 }
 
-/// What a layer tells of a source that holds these files, and whose reads are seen.
-pub fn tell_source<L: Logs + Drop>(
-    alloc: Global,
-    logs: L,
-    seen: &Cell<Seen>,
-    held: &[Named],
-    reading: Reading<'_>,
-) -> Result<Told, Refused> {
-    let mut told = Told::new(alloc, reading.way.shows_refusals());
-    tell_layer(alloc, logs, seen, held, reading, &mut told)?;
-    told.note_reads(seen);
-    told.text.whole()?;
-    Ok(told)
-}
-
-fn tell_layer<L: Logs + Drop>(
-    alloc: Global,
-    logs: L,
-    seen: &Cell<Seen>,
-    held: &[Named],
-    reading: Reading<'_>,
-    told: &mut Told,
-) -> Result<(), Refused> {
-    match reading.layer {
-        Layer::Frames(shown) => tell_frames(alloc, logs, seen, held, shown, reading, told),
-        Layer::Units => tell_units(alloc, logs, seen, reading.window, told),
-        Layer::Feed | Layer::Looks => tell_feed_of(alloc, logs, seen, reading, told),
-    }
-}
-
-fn tell_frames<L: Logs + Drop>(
-    alloc: Global,
-    logs: L,
-    seen: &Cell<Seen>,
-    held: &[Named],
-    shown: Shown,
-    reading: Reading<'_>,
-    told: &mut Told,
-) -> Result<(), Refused> {
-    let count = logs.count();
-    let window = window_of(alloc, reading.window)?;
-    match Pass::begin(logs, window, held, shown, reading.way.goes_back()) {
-        None => Ok(()),
-        Some(mut pass) => tell_files(alloc, &mut pass, count, seen, told),
-    }
-}
-
-/// What a pass over so many files tells.
-fn tell_files<L: Logs + Drop>(
-    alloc: Global,
-    pass: &mut Pass<'_, L>,
-    count: usize,
-    seen: &Cell<Seen>,
-    told: &mut Told,
-) -> Result<(), Refused> {
-    for _ in 0..count {
-        tell_all(alloc, pass, seen, told)?;
-        if !pass.turn() {
-            break;
+impl Layer {
+    /// The layer that a word names.
+    fn of(page: &mut Page, word: &str) -> Layer {
+        match word {
+            "frames" => Layer::Frames,
+            "events" => Layer::Events,
+            "units" => Layer::Units,
+            "feed" => Layer::Feed,
+            "looks" => Layer::Looks,
+            _ => {
+                page.refuse(Refused::UnknownWord);
+                Layer::Frames
+            }
         }
     }
-    Ok(())
+
+    fn is_of_frames(self) -> bool {
+        matches!(self, Layer::Frames | Layer::Events)
+    }
+
+    fn is_of_feeds(self) -> bool {
+        matches!(self, Layer::Feed | Layer::Looks)
+    }
 }
 
-fn tell_units<L: Logs + Drop>(
-    alloc: Global,
-    logs: L,
-    seen: &Cell<Seen>,
-    window: usize,
-    told: &mut Told,
-) -> Result<(), Refused> {
-    let bytes = window_of(alloc, window)?;
-    match Units::open(alloc, logs, bytes) {
-        Ok(mut units) => {
-            let ended = tell_all(alloc, &mut units, seen, told);
-            let (_logs, _window) = units.into_parts();
-            ended
+/// How a layer is read.
+#[derive(Clone, Copy)]
+pub struct Reading<'a> {
+    pub layer: Layer,
+    /// The word for the way of reading, if there is one.
+    pub way: &'a str,
+    /// Options of the command line that give a feed its filter and its start.
+    pub options: &'a [String],
+    /// The places where a feed is looked into between its steps.
+    pub looks: &'a [Look<'a>],
+    /// What the files hold.
+    pub held: &'a [Named],
+    /// The paths under which they are opened, if they aren't read in memory.
+    pub paths: Option<&'a [&'a str]>,
+}
+
+impl<'a> Reading<'a> {
+    /// A reading of files in memory, without looks.
+    fn in_memory(
+        layer: Layer,
+        way: &'a str,
+        options: &'a [String],
+        held: &'a [Named],
+    ) -> Reading<'a> {
+        Reading {
+            layer,
+            way,
+            options,
+            looks: &[],
+            held,
+            paths: None,
         }
-        Err((fault, _logs, back)) => {
-            told.compare_windows(window, back.len());
-            told.note_opening(fault, false, seen);
-            Ok(())
-        }
     }
-}
-
-/// What a feed tells.
-fn tell_feed_of<L: Logs + Drop>(
-    alloc: Global,
-    logs: L,
-    seen: &Cell<Seen>,
-    reading: Reading<'_>,
-    told: &mut Told,
-) -> Result<(), Refused> {
-    match Parts::first(alloc, logs, reading.options, reading.window) {
-        Ok(parts) => tell_feed(alloc, parts, seen, reading, told),
-        Err(why) => Err(why),
-    }
-}
-
-/// What a plain feed tells of files that are looked into; nothing of others.
-pub fn plain_of(alloc: Global, files: &[Named], layer: Layer) -> Result<Told, Refused> {
-    let reads = Reads {
-        failing: 0,
-        most: 0,
-    };
-    match layer {
-        Layer::Looks => tell(
-            alloc,
-            files,
-            Reading::plain(Layer::Feed, reads, SMALL_WINDOW),
-        ),
-        _ => Ok(Told::new(alloc, false)),
-    }
-}
-
-/// `frames`, `events`, `units`, `feed` and `looks`, with a word for the way of reading and options of a filter behind it.
-pub fn judge_reading(
-    alloc: Global,
-    case: &Case,
-    layer: Layer,
-    words: &[String],
-) -> Result<Verdict, Refused> {
-    let (word, options) = way_of(words);
-    if !is_offered(layer, word, options) {
-        return Err(Refused::UnknownWord);
-    }
-    let reading = Reading {
-        way: Way::of(word),
-        options,
-        ..Reading::plain(layer, case.reads, SMALL_WINDOW)
-    };
-    judge_with(
-        alloc,
-        case,
-        word,
-        reading,
-        &plain_of(alloc, &case.files, layer)?,
-    )
-}
-
-/// Reads in a way, with the looks at what a plain feed told.
-fn judge_with(
-    alloc: Global,
-    case: &Case,
-    word: &str,
-    reading: Reading<'_>,
-    plain: &Told,
-) -> Result<Verdict, Refused> {
-    let looks = looks_of(alloc, plain)?;
-    let reading = Reading {
-        looks: &looks,
-        ..reading
-    };
-    match reading.way {
-        Way::Swept => sweep(alloc, case, word, reading),
-        _ => each_window(alloc, case, reading),
-    }
-}
-
-/// Whether a layer can be read in a way, with options.
-fn is_offered(layer: Layer, way: &str, options: &[String]) -> bool {
-    let takes_options = matches!(layer, Layer::Feed | Layer::Looks);
-    let has_way = match way {
-        "back" => matches!(layer, Layer::Frames(_)),
-        "each-turn" | "each-turn-once" | "opened" => matches!(layer, Layer::Feed),
-        "each-cut" => !matches!(layer, Layer::Looks),
-        _ => true,
-    };
-    has_way && (takes_options || options.is_empty())
 }
 
 /// The word for the way of reading, if there is one, and the options behind it.
@@ -203,22 +85,115 @@ fn way_of(words: &[String]) -> (&str, &[String]) {
     }
 }
 
-/// Reads with each of the case's windows.
-fn each_window(alloc: Global, case: &Case, reading: Reading<'_>) -> Result<Verdict, Refused> {
-    let mut runs = 0u64;
-    for window in &case.windows {
-        let told = tell(
-            alloc,
-            &case.files,
-            Reading {
-                window: *window,
-                ..reading
-            },
-        )?;
-        if !case.wants(told.text.as_str()) {
-            return differing(told);
-        }
-        runs = runs.saturating_add(1);
+/// `frames`, `events`, `units`, `feed` and `looks`, with a word for the way of reading and options of a filter behind it.
+pub fn judge_reading(came: &mut Page, ask: Ask<'_>, verb: &str) -> Option<u64> {
+    let layer = Layer::of(came, verb);
+    let (way, options) = way_of(ask.words);
+    let is_offered = match way {
+        "back" => layer.is_of_frames(),
+        "each-turn" | "each-turn-once" | "opened" => layer == Layer::Feed,
+        "each-cut" => layer != Layer::Looks && (ask.case.files.len() < 2 || !layer.is_of_frames()),
+        _ => true,
+    };
+    if !is_offered || !(layer.is_of_feeds() || options.is_empty()) {
+        came.refuse(Refused::UnknownWord);
     }
-    Ok(Verdict::Well { runs })
+    let reading = Reading::in_memory(layer, way, options, &ask.case.files);
+    judge_with_looks(came, ask, reading)
+}
+
+/// Reads in a way, with the looks at what a plain feed tells, where there are some.
+fn judge_with_looks(came: &mut Page, ask: Ask<'_>, reading: Reading<'_>) -> Option<u64> {
+    let mut plain = Told::new(ask.alloc());
+    if reading.layer == Layer::Looks {
+        let fed = Reading {
+            layer: Layer::Feed,
+            way: "",
+            options: &[],
+            paths: None,
+            ..reading
+        };
+        read(&mut plain, ask, fed, PLAIN);
+        came.carry(&plain.text);
+    }
+    let looks = looks_of(came, &plain);
+    let job = Job::Read(Reading {
+        looks: &looks,
+        ..reading
+    });
+    match reading.way {
+        "" | "refusals" | "back" | "opened" => each_window(came, ask, job),
+        way => sweep(came, ask, job, way, &[]),
+    }
+}
+
+/// `open WHAT PATH..`: opens files, and tells their names, or what a layer reads of them.
+pub fn judge_open(came: &mut Page, ask: Ask<'_>) -> Option<u64> {
+    let [what, paths @ ..] = ask.words else {
+        came.refuse(Refused::BadPart);
+        return None;
+    };
+    let paths = came.borrowed(&[], paths);
+    if what.as_str() == "names" {
+        push_names_at(came, ask, &paths);
+        return ask.wants(came.as_str()).then_some(1);
+    }
+    let layer = Layer::of(came, what.as_str());
+    let held = held_at(came, ask, &paths);
+    let reading = Reading {
+        layer,
+        way: "",
+        options: &[],
+        looks: &[],
+        held: &held,
+        paths: Some(&paths),
+    };
+    judge_with_looks(came, ask, reading)
+}
+
+/// The names and lengths of files, or why they weren't opened.
+fn push_names_at(text: &mut Page, ask: Ask<'_>, paths: &[&str]) {
+    match opened(ask.rt, ask.alloc(), paths) {
+        Ok(logs) => show_names(text, &logs),
+        Err(fault) => write!(text, "{fault:?}\n"),
+    }
+}
+
+/// Paths, and the bytes of their files.
+fn held_at(page: &mut Page, ask: Ask<'_>, paths: &[&str]) -> Vec<Named> {
+    let mut held = Vec::new(page.alloc());
+    for path in paths {
+        match fs::read(ask.rt, *path) {
+            Ok(bytes) => {
+                let made = held.push((page.copy_text(path), bytes));
+                page.take(made);
+            }
+            Err(_) => page.refuse(Refused::UnknownName),
+        }
+    }
+    held
+}
+
+/// What has to come of a reading where the last file is cut: all that has its end there, and then the end, which is no fault. The first
+/// event stands behind four bytes.
+pub fn push_end_of_cut(text: &mut Page, layer: Layer, whole: &Told, cut: Place) {
+    let mut length = 0;
+    let mut reached = (0, 0);
+    for (given, reach) in &whole.given {
+        if *reach <= cut {
+            length = *given;
+            reached = *reach;
+        }
+    }
+    text.push_str(whole.text.as_str().get(..length).unwrap_or(""));
+    if !layer.is_of_frames() {
+        return text.push_str("end\n");
+    }
+    let place = if cut.1 < 4 { 0 } else { reached.1.max(4) };
+    if place == cut.1 && place != 0 {
+        write!(text, "{} end", cut.0);
+    } else {
+        write!(text, "{}:{place} cut tail", cut.0);
+    }
+    write!(text, "; place {place}\n");
 }

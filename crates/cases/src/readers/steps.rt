@@ -1,16 +1,15 @@
 //! What a reader of logs gives, step by step, as lines.
-use crate::language::{Page, Refused, Verdict};
-use crate::readers::watched::{Place, Seen};
-use crate::readers::ways::Way;
-use binlog_feed::OpenFeedFault;
-use std::alloc::Global;
+use crate::jobs::{Place, Told};
+use crate::language::{Page, Refused};
+use crate::readers::watched::Seen;
+use binlog_feed::FeedFault;
 use std::cell::Cell;
 
 /// No reader of a case takes so many steps.
 const MOST_STEPS: u32 = 1_000_000;
 
 /// What a call of a reader came to. What it gave, or why nothing more is to come, was written.
-#[derive(Clone, Copy, PartialEq, Eq)]
+#[derive(Clone, Copy, Debug, PartialEq, Eq)]
 pub enum Answer {
     /// An event, a unit or a change.
     Gave,
@@ -31,234 +30,98 @@ pub trait Steps {
     fn exchange(&mut self, window: Vec<u8>) -> Vec<u8>;
 }
 
-/// What a reader told until it ended.
-#[derive(Drop)]
-pub struct Told {
-    pub text: Page,
-    /// Behind each thing given: the length of the text, and how far reads had reached.
-    pub given: Vec<(usize, Place)>,
-    /// Where the log fault stands that ended it, if one did.
-    pub fault: Option<Place>,
-    pub failed_reads: u32,
-    /// How many reads there were.
-    pub reads: u64,
-    /// Whether reads that failed and windows that were too small have lines too.
-    shows_refusals: bool,
-}
-
-impl Told {
-    pub fn new(alloc: Global, shows_refusals: bool) -> Told {
-        Told {
-            text: Page::new(alloc),
-            given: Vec::new(alloc),
-            fault: None,
-            failed_reads: 0,
-            reads: 0,
-            shows_refusals,
+/// What a fault comes to. A log fault is an end, with its file, its place and its name.
+pub fn show_fault(line: &mut Page, fault: FeedFault) -> Answer {
+    match fault {
+        FeedFault::Log(fault) => {
+            let (file, position) = (fault.file, fault.position);
+            write!(line, "log fault {file}:{position} {:?}", fault.what);
+            Answer::Ended(Some((file, position)))
         }
-    }
-
-    /// A line for what was given, with the reach of the source behind it.
-    pub fn note(&mut self, line: &str, reach: Place) -> Result<(), Refused> {
-        self.text.push_str(line);
-        self.text.push_place("; reach ", reach);
-        self.text.push('\n');
-        match self.given.push((self.text.as_str().len(), reach)) {
-            Ok(()) => Ok(()),
-            Err(_) => Err(Refused::OutOfMemory),
-        }
-    }
-
-    /// Why files were not opened, and, where it `has_reach`, the reach of the source behind it.
-    pub fn note_opening(&mut self, fault: OpenFeedFault, has_reach: bool, seen: &Cell<Seen>) {
-        self.text.push_debug(&fault);
-        if has_reach {
-            self.text.push_place("; reach ", seen.get().reach);
-        }
-        self.text.push('\n');
-    }
-
-    /// A line for a window that came back with another length.
-    pub fn compare_windows(&mut self, had: usize, back: usize) {
-        if back != had {
-            self.text.push_str("another window came back\n");
-        }
-    }
-
-    /// The length of the text behind the last thing given.
-    pub fn given_length(&self) -> usize {
-        match self.given.last() {
-            Some(given) => given.0,
-            None => 0,
-        }
-    }
-
-    /// How many reads its source has seen.
-    pub fn note_reads(&mut self, seen: &Cell<Seen>) {
-        self.reads = seen.get().reads;
-    }
-
-    /// A line for a read that failed. The file that is named is the furthest one that was read.
-    pub fn note_failure(&mut self, file: usize, reach: Place) {
-        self.failed_reads = self.failed_reads.saturating_add(1);
-        if file != reach.0 {
-            self.text.push_str("a read of another file failed\n");
-        }
-        if self.shows_refusals {
-            self.text.push_named("read failed in file ", file as u64);
-            self.text.push('\n');
-        }
-    }
-
-    /// A line for a request for memory that was refused.
-    pub fn note_little_memory(&mut self) {
-        if self.shows_refusals {
-            self.text.push_str("out of memory\n");
-        }
-    }
-
-    /// A line for a window that was too small.
-    pub fn note_window(&mut self, needed: u32, had: usize) {
-        if needed as usize <= had {
-            self.text.push_str("a window that was large enough\n");
-        }
-        if self.shows_refusals {
-            self.text.push_named("needs ", needed as u64);
-            self.text.push_named(" bytes, had ", had as u64);
-            self.text.push('\n');
+        FeedFault::Read { file } => Answer::ReadFailed(file),
+        FeedFault::WindowTooSmall { needed } => Answer::Needs(needed),
+        FeedFault::OutOfMemory => {
+            line.refuse(Refused::OutOfMemory);
+            Answer::Ended(None)
         }
     }
 }
 
-/// What was told differs from what has to come.
-pub fn differing(told: Told) -> Result<Verdict, Refused> {
-    match told.text.into_text() {
-        Ok(came) => Ok(Verdict::Differs { came }),
-        Err(why) => Err(why),
+/// The end of a line for what was given, with the reach of the source behind it.
+pub fn note_given(told: &mut Told, seen: &Cell<Seen>) {
+    let reach = seen.get().reach;
+    write!(told.text, "; reach {}:{}\n", reach.0, reach.1);
+    told.note_given(reach);
+}
+
+/// A line for a read that failed. The file that is named is the furthest one that was read.
+pub fn note_failure(told: &mut Told, shows_refusals: bool, file: usize, seen: &Cell<Seen>) {
+    told.failed_reads = told.failed_reads.saturating_add(1);
+    if file != seen.get().reach.0 {
+        told.text.push_str("a read of another file failed\n");
+    }
+    if shows_refusals {
+        write!(told.text, "read failed in file {file}\n");
     }
 }
 
-/// A window of a length.
-pub fn window_of(alloc: Global, length: usize) -> Result<Vec<u8>, Refused> {
-    match vec![in alloc; 0u8; length] {
-        Ok(window) => Ok(window),
-        Err(_) => Err(Refused::OutOfMemory),
+/// A line for a window that was too small.
+pub fn note_window(text: &mut Page, shows_refusals: bool, needed: u32, had: usize) {
+    if needed as usize <= had {
+        text.push_str("a window that was large enough\n");
+    }
+    if shows_refusals {
+        write!(text, "needs {needed} bytes, had {had}\n");
     }
 }
 
-/// All that a reader tells until it ends. A window that is too small is exchanged, and a read that fails is tried again.
-pub fn tell_all<S: Steps>(
-    alloc: Global,
-    steps: &mut S,
-    seen: &Cell<Seen>,
-    told: &mut Told,
-) -> Result<(), Refused> {
+/// All that a reader tells until it ends. A window that is too small is exchanged, and a read that fails is tried again; each has a line
+/// where refusals are shown.
+pub fn tell_all<S: Steps>(told: &mut Told, steps: &mut S, seen: &Cell<Seen>, shows_refusals: bool) {
     for _ in 0..MOST_STEPS {
-        if tell_next(alloc, steps, seen, told)? {
-            return Ok(());
+        if tell_next(told, steps, seen, shows_refusals) {
+            return;
         }
     }
     told.text.push_str("no end\n");
-    Ok(())
-}
-
-/// What a reader tells that was opened: all, or only that it was.
-pub fn tell_opened<S: Steps>(
-    alloc: Global,
-    steps: &mut S,
-    way: Way,
-    seen: &Cell<Seen>,
-    told: &mut Told,
-) -> Result<(), Refused> {
-    if way.only_opens() {
-        told.note("opened", seen.get().reach)
-    } else {
-        tell_all(alloc, steps, seen, told)
-    }
 }
 
 /// One step, and whether it is the last one.
 fn tell_next<S: Steps>(
-    alloc: Global,
+    told: &mut Told,
     steps: &mut S,
     seen: &Cell<Seen>,
-    told: &mut Told,
-) -> Result<bool, Refused> {
-    let mut line = Page::new(alloc);
+    shows_refusals: bool,
+) -> bool {
+    let mut line = Page::new(told.text.alloc());
     let answer = steps.ask(&mut line);
-    line.whole()?;
-    take_answer(alloc, steps, answer, line.as_str(), seen, told)?;
-    Ok(matches!(answer, Answer::Ended(_)))
-}
-
-/// Takes in what a step came to.
-fn take_answer<S: Steps>(
-    alloc: Global,
-    steps: &mut S,
-    answer: Answer,
-    line: &str,
-    seen: &Cell<Seen>,
-    told: &mut Told,
-) -> Result<(), Refused> {
-    let reach = seen.get().reach;
+    told.text.push_page(&line);
     match answer {
-        Answer::Gave => return told.note(line, reach),
+        Answer::Gave => note_given(told, seen),
         Answer::Ended(fault) => {
             told.fault = fault;
-            settle(alloc, steps, line, told);
+            told.text.push_str("\n");
+            ask_twice(&mut told.text, steps, line.as_str(), answer);
         }
-        Answer::ReadFailed(file) => {
-            told.text.push_str(line);
-            told.note_failure(file, reach);
-        }
+        Answer::ReadFailed(file) => note_failure(told, shows_refusals, file, seen),
         Answer::Needs(needed) => {
-            told.text.push_str(line);
-            return enlarge(alloc, steps, needed, told);
+            ask_twice(&mut told.text, steps, "", answer);
+            let window = told.text.window(needed as usize);
+            let had = steps.exchange(window).len();
+            note_window(&mut told.text, shows_refusals, needed, had);
         }
     }
-    Ok(())
+    matches!(answer, Answer::Ended(_)) || told.text.refused().is_some()
 }
 
-/// Asks again: what differs from an answer that has to stay has a line.
-fn ask_again<S: Steps>(alloc: Global, steps: &mut S, line: &str, answer: Answer, told: &mut Told) {
-    let mut again = Page::new(alloc);
-    let next = steps.ask(&mut again);
-    told.text.carry(&again);
-    if next != answer || again.as_str() != line {
-        told.text.push_str("then another answer: ");
-        told.text.push_str(again.as_str());
-        told.text.push('\n');
-    }
-}
-
-/// Asks again, twice.
-fn ask_twice<S: Steps>(alloc: Global, steps: &mut S, line: &str, answer: Answer, told: &mut Told) {
+/// Asks again, twice: what differs from an answer that has to stay has a line.
+fn ask_twice<S: Steps>(text: &mut Page, steps: &mut S, line: &str, answer: Answer) {
     for _ in 0..2 {
-        ask_again(alloc, steps, line, answer, told);
-    }
-}
-
-/// The line of an end. Asked again, the reader ends the same.
-fn settle<S: Steps>(alloc: Global, steps: &mut S, line: &str, told: &mut Told) {
-    told.text.push_str(line);
-    told.text.push('\n');
-    let fault = told.fault;
-    ask_twice(alloc, steps, line, Answer::Ended(fault), told);
-}
-
-/// Asks again with the window that is too small, and then exchanges it for one of the length that is needed.
-fn enlarge<S: Steps>(
-    alloc: Global,
-    steps: &mut S,
-    needed: u32,
-    told: &mut Told,
-) -> Result<(), Refused> {
-    ask_twice(alloc, steps, "", Answer::Needs(needed), told);
-    match window_of(alloc, needed as usize) {
-        Ok(window) => {
-            told.note_window(needed, steps.exchange(window).len());
-            Ok(())
+        let mut again = Page::new(text.alloc());
+        let next = steps.ask(&mut again);
+        text.carry(&again);
+        if next != answer || again.as_str() != line {
+            write!(text, "then another answer: {}\n", again.as_str());
         }
-        Err(why) => Err(why),
     }
 }

@@ -1,11 +1,9 @@
 //! A source that is watched, and that may turn to other bytes.
 ghost use Rattle.std.specs.Prelude.{false};
 
+use crate::jobs::Place;
 use binlog_frame::{Logs, ReadFault};
 use std::cell::Cell;
-
-/// A file by its number, and an offset in it.
-pub type Place = (usize, u64);
 
 /// What reads have asked for.
 #[derive(Clone, Copy)]
@@ -16,34 +14,13 @@ pub struct Seen {
     pub reads: u64,
 }
 
-impl Seen {
-    pub const NOTHING: Seen = Seen {
-        reach: (0, 0),
-        reads: 0,
-    };
-}
-
-/// Which of a source's reads give what its files hold, and what the later ones give in its place.
-#[derive(Clone, Copy)]
-pub struct Turning {
-    pub true_reads: u64,
-    pub byte: u8,
-}
-
-impl Turning {
-    /// Each read gives what the files hold.
-    pub const NEVER: Turning = Turning {
-        true_reads: u64::MAX,
-        byte: 0,
-    };
-}
-
 /// A source whose reads are noted where others see it, and whose reads give other bytes once so many were true.
 #[derive(Drop)]
 pub struct Watched<'a, L> {
     pub files: L,
     pub seen: &'a Cell<Seen>,
-    pub turning: Turning,
+    pub true_reads: u64,
+    pub turned: u8,
 }
 
 impl<L: Logs> Logs for Watched<'_, L> {
@@ -83,10 +60,10 @@ impl<L: Logs> Logs for Watched<'_, L> {
             reads: seen.reads.saturating_add(1),
         });
         let count = self.files.read_at(i, offset, buf)?;
-        if self.turning.true_reads == 0 {
-            buf[..count].fill(self.turning.byte);
+        if self.true_reads == 0 {
+            buf[..count].fill(self.turned);
         } else {
-            self.turning.true_reads -= 1;
+            self.true_reads -= 1;
         }
         Ok(count)
     }

@@ -5,144 +5,98 @@ ghost use Rattle.binlog_table.specs.Rows.{IsSpan};
 
 use crate::language::{Page, Refused};
 use crate::tables::cells::{push_bytes, push_cell};
-use crate::tables::maps::{push_fault_line, push_numbers};
+use crate::tables::maps::push_numbers;
 use binlog_table::{
     BadRows, Cell, RowSpan, RowView, RowsHead, Side, TableMap, next_row, rows_table_id,
 };
-use std::alloc::Global;
-
-/// The names that a cell's number stands for.
-fn push_names(text: &mut Page, row: &RowView<'_>, column: usize, cell: &Cell<'_>)
-    requires { column < length row.now.table.columns }
-{
-    match cell {
-        Cell::Enum(number) => push_name(text, row, column, usize::from(*number)),
-        Cell::Set(members) => push_members(text, row, column, *members),
-        _ => {}
-    }
-}
 
 fn push_name(text: &mut Page, row: &RowView<'_>, column: usize, number: usize)
     requires { column < length row.now.table.columns }
 {
     if let Some(name) = row.value_name(column, number) {
-        text.push(' ');
+        text.push_str(" ");
         push_bytes(text, name);
     }
 }
 
-fn push_members(text: &mut Page, row: &RowView<'_>, column: usize, members: u64)
-    requires { column < length row.now.table.columns }
-{
-    for place in 0..row.value_name_count(column).unwrap_or(0).min(64) {
-        if members >> place & 1 == 1 {
-            push_name(text, row, column, place + 1);
-        }
-    }
-}
-
 /// A cell as text, and behind it the names that its number stands for.
-fn cell_text(alloc: Global, row: &RowView<'_>, column: usize, cell: &Cell<'_>) -> Page
+fn push_named_cell(text: &mut Page, row: &RowView<'_>, column: usize, cell: &Cell<'_>)
     requires { column < length row.now.table.columns }
 {
-    let mut text = Page::new(alloc);
-    push_cell(&mut text, cell);
-    push_names(&mut text, row, column, cell);
-    text
-}
-
-/// A cell that a walk reached. Behind it stands what its number reaches, where that is another.
-fn push_both(alloc: Global, text: &mut Page, row: &RowView<'_>, column: usize, walked: &Cell<'_>)
-    requires { column < length row.now.table.columns }
-{
-    let walked = cell_text(alloc, row, column, walked);
-    let numbered = cell_text(alloc, row, column, &row.value(column));
-    push_reached(text, &walked, &numbered);
-}
-
-/// What a walk reached, and behind it what its number reaches, where that is another.
-fn push_reached(text: &mut Page, walked: &Page, numbered: &Page) {
-    text.push_page(walked);
-    if walked.as_str() != numbered.as_str() {
-        text.push_str(" but by its number ");
-        text.push_page(numbered);
+    push_cell(text, cell);
+    match cell {
+        Cell::Enum(number) => push_name(text, row, column, usize::from(*number)),
+        Cell::Set(members) => {
+            for place in 0..row.value_name_count(column).unwrap_or(0).min(64) {
+                if *members >> place & 1 == 1 {
+                    push_name(text, row, column, place + 1);
+                }
+            }
+        }
+        _ => {}
     }
 }
 
-/// A cell that a walk reached, behind its column's name.
-fn push_column(alloc: Global, text: &mut Page, row: &RowView<'_>, column: usize, walked: &Cell<'_>)
+/// A cell that a walk reached, behind its column's name. Behind it stands what its number reaches, where that is another.
+fn push_column(text: &mut Page, row: &RowView<'_>, column: usize, walked: &Cell<'_>)
     requires { column < length row.now.table.columns }
 {
+    let mut reached = Page::new(text.alloc());
+    let mut numbered = Page::new(text.alloc());
+    push_named_cell(&mut reached, row, column, walked);
+    push_named_cell(&mut numbered, row, column, &row.value(column));
     text.push_str(if column == 0 { " " } else { ", " });
-    text.push_str(row.column_name(column));
-    text.push('=');
-    push_both(alloc, text, row, column, walked);
+    write!(text, "{}=", row.column_name(column));
+    text.push_page(&reached);
+    if reached.as_str() != numbered.as_str() {
+        text.push_str(" but by its number ");
+        text.push_page(&numbered);
+    }
 }
 
-/// The cells of an image with their columns' names, from the left.
-fn push_cells(alloc: Global, text: &mut Page, row: &RowView<'_>) {
+/// A line with an image's side and its cells from the left, and with its key where it has one.
+fn push_image(text: &mut Page, side: &str, row: &RowView<'_>) {
+    text.push_str(side);
     let mut cells = row.cells();
     for column in 0..row.column_count() {
-        let Some(cell) = cells.next() else {
-            return text.push_str(" and no more");
-        };
-        push_column(alloc, text, row, column, &cell);
+        match cells.next() {
+            Some(cell) => push_column(text, row, column, &cell),
+            None => text.push_str(" and no more"),
+        }
     }
     if cells.next().is_some() {
         text.push_str(" and more");
     }
-}
-
-/// The end of an image's line, with its key where it has one.
-fn push_key(text: &mut Page, key: &[usize]) {
-    if !key.is_empty() {
-        push_numbers(text, ", key", key);
+    if !row.key().is_empty() {
+        push_numbers(text, ", key", row.key());
     }
-    text.push('\n');
-}
-
-/// A line with an image's side and cells, and with its key where it has one.
-fn push_image(alloc: Global, text: &mut Page, side: &str, row: &RowView<'_>) {
-    text.push_str(side);
-    push_cells(alloc, text, row);
-    push_key(text, row.key());
+    text.push_str("\n");
 }
 
 /// The images of a row, a line for each that there is.
-fn push_row(
-    alloc: Global,
-    text: &mut Page,
-    map: &TableMap,
-    head: &RowsHead,
-    body: &[u8],
-    span: RowSpan,
-)
+fn push_row(text: &mut Page, map: &TableMap, head: &RowsHead, body: &[u8], span: RowSpan)
     requires head { LiesIn head.now body.now }
     requires span { IsSpan head.now map.now.columns body.now span }
 {
     if let Some(row) = RowView::of(map, head, body, span, Side::Before) {
-        push_image(alloc, text, "before", &row);
+        push_image(text, "before", &row);
     }
     if let Some(row) = RowView::of(map, head, body, span, Side::After) {
-        push_image(alloc, text, "after", &row);
+        push_image(text, "after", &row);
     }
 }
 
 /// The table that a rows event names, where that is not the map's.
 fn push_table(text: &mut Page, map: &TableMap, body: &[u8]) {
     match rows_table_id(body) {
+        Ok(id) if id == map.table_id() => {}
+        Ok(id) => write!(text, "table {id}\n"),
         Err(BadRows) => text.push_str("no table\n"),
-        Ok(id) => {
-            if id != map.table_id() {
-                text.push_named("table ", id);
-                text.push('\n');
-            }
-        }
     }
 }
 
 /// What a body gives as a rows event of a kind under a map: its rows, to the end or to the first place where none stands.
-fn push_event(alloc: Global, text: &mut Page, map: &TableMap, kind: u8, body: &[u8])
+fn push_event(text: &mut Page, map: &TableMap, kind: u8, body: &[u8])
     requires low { 30 ≤ kind }
     requires high { kind ≤ 32 }
 {
@@ -156,7 +110,7 @@ fn push_event(alloc: Global, text: &mut Page, map: &TableMap, kind: u8, body: &[
             Ok(None) => return text.push_str("end\n"),
             Err(BadRows) => return text.push_str("BadRows\n"),
             Ok(Some((span, after))) => {
-                push_row(alloc, text, map, &head, body, span);
+                push_row(text, map, &head, body, span);
                 at = after;
             }
         }
@@ -164,41 +118,25 @@ fn push_event(alloc: Global, text: &mut Page, map: &TableMap, kind: u8, body: &[
     text.push_str("rows without end\n");
 }
 
-/// What a body gives as a rows event of a kind under the table map of another body, or that map's fault.
-fn push_under(alloc: Global, text: &mut Page, map: &[u8], kind: u8, body: &[u8])
-    requires low { 30 ≤ kind }
-    requires high { kind ≤ 32 }
-{
-    match TableMap::read(alloc, map) {
-        Ok(map) => push_event(alloc, text, &map, kind, body),
-        Err(fault) => push_fault_line(text, fault),
-    }
-}
-
-/// What a body gives as a rows event of a kind, 30 to 32, under the table map of another body.
-pub fn push_rows(alloc: Global, text: &mut Page, map: &[u8], kind: u8, body: &[u8]) {
+/// What a body gives as a rows event of a kind, 30 to 32, under the table map of another body, or that map's fault.
+pub fn push_rows(text: &mut Page, map: &[u8], kind: u8, body: &[u8]) {
     if kind < 30 || kind > 32 {
-        text.refuse(Refused::BadPart);
-    } else {
-        push_under(alloc, text, map, kind, body);
+        return text.refuse(Refused::BadPart);
+    }
+    match TableMap::read(text.alloc(), map) {
+        Ok(map) => push_event(text, &map, kind, body),
+        Err(fault) => write!(text, "{fault:?}\n"),
     }
 }
 
-/// What a beginning of a rows event's body gives that isn't refused: its length, and its lines.
-fn push_cut(text: &mut Page, len: usize, whole: &Page) {
-    text.carry(whole);
-    if whole.as_str().ends_with("end\n") {
-        text.push_number(len as u64);
-        text.push_str(":\n");
-        text.push_str(whole.as_str());
-    }
-}
-
-/// What each beginning of a rows event's body gives that isn't refused.
-pub fn push_rows_cuts(alloc: Global, text: &mut Page, map: &[u8], kind: u8, body: &[u8]) {
+/// What each beginning of a rows event's body gives that isn't refused, behind its length.
+pub fn push_rows_cuts(text: &mut Page, map: &[u8], kind: u8, body: &[u8]) {
     for len in 0..body.len() {
-        let mut whole = Page::new(alloc);
-        push_rows(alloc, &mut whole, map, kind, &body[..len]);
-        push_cut(text, len, &whole);
+        let mut whole = Page::new(text.alloc());
+        push_rows(&mut whole, map, kind, &body[..len]);
+        text.carry(&whole);
+        if whole.as_str().ends_with("end\n") {
+            write!(text, "{len}:\n{}", whole.as_str());
+        }
     }
 }
