@@ -1,7 +1,6 @@
 -- A key of the command line has no float.
 use Rattle.std.proofs.Common.{◌≡◌, List, [], ◌∷◌, ℕ, suc, length, ◌==◌, Bool, true, false, true≢false, ◌&&◌, ◌||◌, Option, Some, None, String, BTreeMap, Global, codes, refl, sym, ap, ◌∙◌, subst, ◌⊎◌, inl, inr, arith}
-use Rattle.std.proofs.lemmas.Bool.{ne_eqb, or_from}
-use Rattle.binlog_frame.proofs.Places.{both_true}
+use Rattle.std.proofs.lemmas.Bool.{ne_eqb, or_from, and_parts}
 use Rattle.std.proofs.lemmas.Map.Lookups.{exact_bytes}
 use Rattle.std.specs.Prelude.{option_and_then, is_some}
 use Rattle.std.specs.Ordering.{match_ordering, nat_cmp}
@@ -45,7 +44,7 @@ coded_float (member name d no_members) h =
     (either_true (has_text (codes "base64") alone) (has_text (codes "raw") alone) (has_float d) h
     (λ k. (text_behind (slice_cmp nat_cmp (codes "base64") name) d k).1) (λ k. (text_behind (slice_cmp nat_cmp (codes "raw") name) d k).1))
     refl
-coded_float (member name d (member other e ms)) h = absurd (two_are_more (members_len ms) (both_true (members_len (member name d (member other e ms)) == 1) _ h).0)
+coded_float (member name d (member other e ms)) h = absurd (two_are_more (members_len ms) (and_parts (members_len (member name d (member other e ms)) == 1) _ h).0)
 
 -- ---- two members
 
@@ -78,7 +77,7 @@ in_charset_float no_members h = absurd cc
 in_charset_float (member name d no_members) h = absurd cc
 in_charset_float (member name d (member other e no_members)) h =
     let both = object (member name d (member other e no_members)) in
-    let texts = both_true (has_text (codes "base64") both) (has_text (codes "charset") both) h in
+    let texts = and_parts (has_text (codes "base64") both) (has_text (codes "charset") both) h in
     let o = slice_cmp nat_cmp (codes "base64") name in
     let p = slice_cmp nat_cmp (codes "base64") other in
     let q = slice_cmp nat_cmp (codes "charset") name in
@@ -87,7 +86,7 @@ in_charset_float (member name d (member other e no_members)) h =
 in_charset_float (member name d (member other e (member third f ms))) h =
     let all = object (member name d (member other e (member third f ms))) in
     let count = members_len (member name d (member other e (member third f ms))) == 2 in
-    absurd (three_are_more (members_len ms) (both_true count (has_text (codes "base64") all) (both_true (count && has_text (codes "base64") all) (has_text (codes "charset") all) h).0).0)
+    absurd (three_are_more (members_len ms) (and_parts count (has_text (codes "base64") all) (and_parts (count && has_text (codes "base64") all) (has_text (codes "charset") all) h).0).0)
 
 object_float : (style : Style) (ms : Members) → is_key_object style (members_len ms) (object ms) ≡ true → members_have_float ms ≡ false
 object_float Plain ms h = coded_float ms h
@@ -103,7 +102,7 @@ part_float style other h = refl
 parts_float : (style : Style) (ds : Items) → are_key_parts style ds ≡ true → items_have_float ds ≡ false
 parts_float style no_items h = refl
 parts_float style (item d ds) h =
-    let each = both_true (is_key_part style d) (are_key_parts style ds) h in
+    let each = and_parts (is_key_part style d) (are_key_parts style ds) h in
     or_from (has_float d) (items_have_float ds) (part_float style d each.0) (parts_float style ds each.1)
 
 pub key_float : (style : Style) (d : Data) → is_key style d ≡ true → has_float d ≡ false
