@@ -23,8 +23,8 @@ impl Narrow {
     }
 }
 
-fn failed<T>() -> io::Result<T> {
-    Err(io::Error::from(ErrorKind::Other))
+fn failed() -> io::Error {
+    io::Error::from(ErrorKind::Other)
 }
 
 impl Write for Narrow {
@@ -32,10 +32,10 @@ impl Write for Narrow {
         self.writes = self.writes.saturating_add(1);
         let count = buf.len().min(self.how.takes).min(self.how.room);
         if self.writes == self.how.failing_write || (count == 0 && self.how.full_fails) {
-            return failed();
+            return Err(failed());
         }
         if self.received.extend_from_slice(&buf[..count]).is_err() {
-            return failed();
+            return Err(failed());
         }
         self.how.room -= count;
         Ok(count)
@@ -43,6 +43,10 @@ impl Write for Narrow {
 
     fn flush(&mut self) -> io::Result<()> {
         self.flushes = self.flushes.saturating_add(1);
-        if self.how.flushes { Ok(()) } else { failed() }
+        if self.how.flushes {
+            Ok(())
+        } else {
+            Err(failed())
+        }
     }
 }
