@@ -24,6 +24,19 @@ pub(crate) fn length_at(bytes: &[u8], most: usize) -> Option<(usize, usize)>
     Some((first - 128 + 128 * above, len + 1))
 }
 
+/// The length of a string: at most five bytes, and mostly one.
+#[inline(always)]
+#[tactic(auto, unfolding(crate::specs::Scalars::length_at))]
+pub(crate) fn text_length_at(bytes: &[u8]) -> Option<(usize, usize)>
+    ensures value { result ≡ length_at 5 bytes.now }
+    ensures within { IfSome result (λ l. l.1 ≤ length bytes.now) }
+{
+    match bytes {
+        [first, ..] if *first < 128 => Some((usize::from(*first), 1)),
+        _ => length_at(bytes, 5),
+    }
+}
+
 /// The bytes behind their length, and how many both take.
 #[tactic(auto, unfolding(crate::specs::Scalars::counted_at))]
 pub(crate) fn counted_at(bytes: &[u8]) -> Option<(&[u8], usize)>

@@ -21,6 +21,7 @@ pub(crate) struct Container<'a> {
 }
 
 impl Width {
+    #[inline(always)]
     pub(crate) fn bytes(self) -> usize
         ensures value { result ≡ bytes_of self }
         ensures some { 2 ≤ result }
@@ -34,6 +35,7 @@ impl Width {
 }
 
 /// The number at the front of the bytes.
+#[inline(always)]
 pub(crate) fn number(bytes: &[u8], width: Width) -> usize
     requires { bytes_of width ≤ length bytes.now }
     ensures value { result ≡ little_number (bytes_of width) bytes.now }
@@ -46,6 +48,7 @@ pub(crate) fn number(bytes: &[u8], width: Width) -> usize
 }
 
 /// The container at the front of the bytes, whose elements or members have so many bytes of entries each.
+#[inline(always)]
 #[tactic(auto, unfolding(crate::specs::Containers::container_at))]
 pub(crate) fn container_at(bytes: &[u8], width: Width, entry_len: usize) -> Option<Container<'_>>
     requires { entry_len ≤ 16 }
@@ -70,6 +73,7 @@ pub(crate) fn container_at(bytes: &[u8], width: Width, entry_len: usize) -> Opti
 }
 
 /// Whether values of a type stand in their entries.
+#[inline(always)]
 pub(crate) fn is_inlined(width: Width, kind: u8) -> bool
     ensures { result ≡ is_inlined (bytes_of width) kind }
 {
@@ -80,6 +84,7 @@ pub(crate) fn is_inlined(width: Width, kind: u8) -> bool
 }
 
 /// Where the value of the entry at a place stands: in the bytes, and not in front of `from`.
+#[inline(always)]
 #[tactic(auto, unfolding(crate::specs::Containers::value_place))]
 pub(crate) fn value_place(bytes: &[u8], width: Width, entry: usize, from: usize) -> Option<usize>
     requires { entry + element_entry (bytes_of width) ≤ length bytes.now }
@@ -94,6 +99,7 @@ pub(crate) fn value_place(bytes: &[u8], width: Width, entry: usize, from: usize)
 }
 
 /// Where a key stands, by its entry, and its length.
+#[inline(always)]
 pub(crate) fn key_entry(bytes: &[u8], width: Width, entry: usize) -> (usize, usize)
     requires { entry + (bytes_of width + 2) ≤ length bytes.now }
     ensures value { result ≡ key_entry (bytes_of width) bytes.now entry }
@@ -106,6 +112,7 @@ pub(crate) fn key_entry(bytes: &[u8], width: Width, entry: usize) -> (usize, usi
 }
 
 /// Where the last key of an object ends.
+#[inline(always)]
 pub(crate) fn keys_end(object: Container<'_>, width: Width) -> usize
     requires room { 2 * bytes_of width + object.count * member_entries (bytes_of width) ≤ length object.bytes.now }
     requires few { object.count < 2 ^ 32 }

@@ -9,7 +9,7 @@ ghost use Rattle.binlog_documents.specs.Appended.{IsAppended, IsKeyAppended, IsR
 ghost use Rattle.binlog_documents.specs.Drafts.{said};
 
 use crate::append::{append_comma, append_key, append_scalar, append_text};
-use crate::bytes::length_at;
+use crate::bytes::text_length_at;
 use crate::container::{
     Container, Width, container_at, is_inlined, key_entry, keys_end, value_place,
 };
@@ -26,7 +26,7 @@ fn append_text_at(out: &mut Draft, bytes: &[u8]) -> Result<Option<usize>, AllocE
     ensures text { IfOk result (IsAppended (said out.old) (said out.new) (text_at bytes.now)) }
     ensures within { IfOk result (λ end. IfSome end (λ len. len ≤ length bytes.now)) }
 {
-    let Some((len, begin)) = length_at(bytes, 5) else {
+    let Some((len, begin)) = text_length_at(bytes) else {
         return Ok(None);
     };
     let text = &bytes[begin..];
@@ -59,6 +59,7 @@ pub(crate) fn append_scalar_at(
 }
 
 /// The key of the entry at a place with its colon, and where it ends.
+#[inline(always)]
 #[tactic(auto, unfolding(crate::specs::Containers::key_in))]
 fn append_key_in(
     out: &mut Draft,
@@ -97,15 +98,44 @@ pub(crate) fn append_value(
         return append_scalar_at(out, kind, bytes);
     }
     match kind {
-        0 => append_object(out, bytes, Width::Two, depth - 1),
-        1 => append_object(out, bytes, Width::Four, depth - 1),
-        2 => append_array(out, bytes, Width::Two, depth - 1),
-        3 => append_array(out, bytes, Width::Four, depth - 1),
+        0 => append_small_object(out, bytes, depth - 1),
+        1 => append_large_object(out, bytes, depth - 1),
+        2 => append_small_array(out, bytes, depth - 1),
+        3 => append_large_array(out, bytes, depth - 1),
         _ => append_scalar_at(out, kind, bytes),
     }
 }
 
-/// The array at the front of the bytes, and where it ends.
+/// A small array at the front of the bytes, and where it ends.
+#[inline(never)]
+#[cycle(values)]
+fn append_small_array(
+    out: &mut Draft,
+    bytes: &[u8],
+    depth: usize,
+) -> Result<Option<usize>, AllocError>
+    ensures text { IfOk result (IsAppended (said out.old) (said out.new) (array_at (value_at depth) 2 bytes.now)) }
+    ensures within { IfOk result (λ end. IfSome end (λ len. len ≤ length bytes.now)) }
+{
+    append_array(out, bytes, Width::Two, depth)
+}
+
+/// A large array at the front of the bytes, and where it ends.
+#[inline(never)]
+#[cycle(values)]
+fn append_large_array(
+    out: &mut Draft,
+    bytes: &[u8],
+    depth: usize,
+) -> Result<Option<usize>, AllocError>
+    ensures text { IfOk result (IsAppended (said out.old) (said out.new) (array_at (value_at depth) 4 bytes.now)) }
+    ensures within { IfOk result (λ end. IfSome end (λ len. len ≤ length bytes.now)) }
+{
+    append_array(out, bytes, Width::Four, depth)
+}
+
+/// The array at the front of the bytes, and where it ends. Its code stands once for each width.
+#[inline(always)]
 #[cycle(values)]
 #[tactic(auto, unfolding(crate::specs::Containers::array_at))]
 fn append_array(
@@ -129,6 +159,7 @@ fn append_array(
 }
 
 /// The elements of an array, each but the first behind a comma.
+#[inline(always)]
 #[cycle(values)]
 fn append_elements(
     out: &mut Draft,
@@ -154,7 +185,36 @@ fn append_elements(
     Ok(true)
 }
 
-/// The object at the front of the bytes, and where it ends.
+/// A small object at the front of the bytes, and where it ends.
+#[inline(never)]
+#[cycle(values)]
+fn append_small_object(
+    out: &mut Draft,
+    bytes: &[u8],
+    depth: usize,
+) -> Result<Option<usize>, AllocError>
+    ensures text { IfOk result (IsAppended (said out.old) (said out.new) (object_at (value_at depth) 2 bytes.now)) }
+    ensures within { IfOk result (λ end. IfSome end (λ len. len ≤ length bytes.now)) }
+{
+    append_object(out, bytes, Width::Two, depth)
+}
+
+/// A large object at the front of the bytes, and where it ends.
+#[inline(never)]
+#[cycle(values)]
+fn append_large_object(
+    out: &mut Draft,
+    bytes: &[u8],
+    depth: usize,
+) -> Result<Option<usize>, AllocError>
+    ensures text { IfOk result (IsAppended (said out.old) (said out.new) (object_at (value_at depth) 4 bytes.now)) }
+    ensures within { IfOk result (λ end. IfSome end (λ len. len ≤ length bytes.now)) }
+{
+    append_object(out, bytes, Width::Four, depth)
+}
+
+/// The object at the front of the bytes, and where it ends. Its code stands once for each width.
+#[inline(always)]
 #[cycle(values)]
 #[tactic(auto, unfolding(crate::specs::Containers::object_at))]
 fn append_object(
@@ -179,6 +239,7 @@ fn append_object(
 }
 
 /// The members of an object, each but the first behind a comma.
+#[inline(always)]
 #[cycle(values)]
 fn append_members(
     out: &mut Draft,

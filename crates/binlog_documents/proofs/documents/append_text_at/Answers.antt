@@ -6,7 +6,7 @@ use Rattle.binlog_documents.proofs.PlainStrings.{text-none, text-short, text-who
 use Rattle.binlog_documents.proofs.documents.append_text_at.Goals as goal
 
 pub returns-in_default-clause-text : goal.returns-in_default-clause-text
-returns-in_default-clause-text c = text-none c.args.bytes.now (said c.args.out.now) (said c.args.out.now) (sym c.length_at.ensures.value ∙ c.in_default.is)
+returns-in_default-clause-text c = text-none c.args.bytes.now (said c.args.out.now) (said c.args.out.now) (sym c.text_length_at.ensures.value ∙ c.in_default.is)
 
 pub returns-then-len-text-clause-text : goal.returns-then-len-text-clause-text
 returns-then-len-text-clause-text c =
