@@ -208,7 +208,7 @@ FIGURES = {
     "unreachables": unreachables,
     "flat_wrong_bodies": flat_wrong_bodies,
     "lines_of_proofs": proof_lines,
-    "lines_of_rows": lambda: lines_in([TOP / "tests/rows.jsonl"]),
+    "lines_of_rows": lambda: lines_in([TOP / "tests/rows.jsonl", TOP / "tests/logs.jsonl"]),
     "lines_of_documents": lambda: lines_in(documents()),
     "guarantees_of_no_clause": lambda: map(Item, unknown_clauses(TOP)),
     "glossary_words_unused": unused_words,

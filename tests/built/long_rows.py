@@ -23,7 +23,7 @@ def line(after: str, number: int = 1) -> str:
 
 def row(name: str, log: bytes, words: list[str], stdout: str) -> Row:
     """A row over one log that nothing is wrong of."""
-    return Row(name, {NAME: log.hex()}, [*words, NAME], stdout, None, 0)
+    return Row(name, {NAME: log}, [*words, NAME], stdout, None, 0)
 
 
 def long_value() -> Row:

@@ -8,10 +8,10 @@ NOT_BUILT: tuple[str, ...] = ()
 
 
 class Row(NamedTuple):
-    """A line of rows.jsonl: `files` from name to bytes in hex. A text of None isn't fixed."""
+    """A line of rows.jsonl: `files` from name to bytes. A text of None isn't fixed."""
 
     name: str
-    files: dict[str, str]
+    files: dict[str, bytes]
     words: list[str]
     stdout: str | None
     stderr: str | None
@@ -36,7 +36,7 @@ class Row(NamedTuple):
         """
         [(name, content)] = self.files.items()
         lines = (self.stdout or "").splitlines(keepends=True)
-        if 2 * length > len(content) or len(lines) != len(ends):
-            raise ValueError(f"row '{self.name}' has {len(content) // 2} bytes, {len(lines)} lines and {len(ends)} ends of lines")
+        if length > len(content) or len(lines) != len(ends):
+            raise ValueError(f"row '{self.name}' has {len(content)} bytes, {len(lines)} lines and {len(ends)} ends of lines")
         whole = "".join(line for line, end in zip(lines, ends) if end <= length)
-        return self._replace(name=self.name.replace("*", str(length)), files={name: content[: 2 * length]}, stdout=whole)
+        return self._replace(name=self.name.replace("*", str(length)), files={name: content[:length]}, stdout=whole)

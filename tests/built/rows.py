@@ -8,6 +8,7 @@ from built.check import Check, Wanted, differs, run, said
 from built.long_rows import long_rows
 from built.row import Row
 from least_counts import lacking
+from logs import SMALL
 
 ROWS = Path(__file__).resolve().parent.parent / "rows.jsonl"
 
@@ -20,6 +21,7 @@ def lengths_of(first: int, last: int, step: int = 1) -> range:
 def rows_of(line: str) -> list[Row]:
     """The row of a line; where it says lengths, a row for each length that its file is cut to."""
     fields = json.loads(line)
+    fields["files"] = {name: SMALL.bytes_of(parts) for name, parts in fields["files"].items()}
     if "lengths" not in fields:
         return [Row(**fields)]
     lengths, ends = fields.pop("lengths"), fields.pop("ends")
@@ -47,7 +49,7 @@ def summary() -> str:
 
 def judge_row(row: Row, program: Path, folder: Path) -> list[str]:
     """Runs a program over the files of a row. It leaves them, and their folder, as they were."""
-    files = {folder / name: bytes.fromhex(content) for name, content in row.files.items()}
+    files = {folder / name: content for name, content in row.files.items()}
     for path, content in files.items():
         path.parent.mkdir(parents=True, exist_ok=True)
         path.write_bytes(content)
