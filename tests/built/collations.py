@@ -1,13 +1,13 @@
 """The character set of each collation that a server has (tests/collations.tsv), by a table of one VARCHAR column for each: its type in
 full lines, and what its bytes are there."""
 import json
-import struct
 from functools import cache, partial
 from pathlib import Path
 from typing import NamedTuple
 
+import logs
 from built.check import Check, Wanted, differs, run
-from built.logs import TABLE_MAP, WRITE_ROWS, field, front, packed, put, transaction
+from logs import CHARSETS, USUAL_CHARSET, VARCHAR, field, log_of, packed, put, rows, table_map, transaction
 
 COLLATIONS = Path(__file__).resolve().parents[1] / "collations.tsv"
 
@@ -22,8 +22,7 @@ TEXTS = {
 }  # fmt: skip
 CODED = "AAAAYQ=="
 
-VARCHAR, VARCHAR_LENGTH, LATIN1_ID = 15, 80, 8
-FIELD_USUAL, FIELD_EACH, FIELD_NAMES = 2, 3, 4
+VARCHAR_LENGTH, LATIN1_ID = 80, 8
 
 
 class Column(NamedTuple):
@@ -57,28 +56,21 @@ def columns() -> list[Column]:
 
 def each() -> bytes:
     """The field that has a collation for each column."""
-    return field(FIELD_EACH, b"".join(packed(column.collation) for column in columns()))
+    return field(CHARSETS, b"".join(packed(column.collation) for column in columns()))
 
 
 def usual() -> bytes:
     """The field that has a usual collation, latin1's, and those of the columns that have another one."""
     others = [(at, column.collation) for at, column in enumerate(columns()) if column.collation != LATIN1_ID]
-    return field(FIELD_USUAL, packed(LATIN1_ID) + b"".join(packed(at) + packed(collation) for at, collation in others))
+    return field(USUAL_CHARSET, packed(LATIN1_ID) + b"".join(packed(at) + packed(collation) for at, collation in others))
 
 
 def log(collations: bytes) -> bytes:
     """A log that inserts one row into the table `s.c` of these columns, whose collations a field says."""
-    count = len(columns())
-    bits = bytes((count + 7) // 8)
-    names = b"".join(packed(len(column.name)) + column.name.encode() for column in columns())
-    metadata = struct.pack("<H", VARCHAR_LENGTH) * count
-    table_map = (
-        b"\x64\0\0\0\0\0\x01\0\x01s\0\x01c\0" + packed(count) + bytes([VARCHAR]) * count + packed(len(metadata)) + metadata + bits
-        + collations + field(FIELD_NAMES, names)
-    )  # fmt: skip
-    rows = b"\x64\0\0\0\0\0\x01\0\x02\0" + packed(count) + b"\xff" * len(bits) + bits + (bytes([len(BYTES)]) + BYTES) * count
-    begin = front()
-    return begin + transaction(len(begin), 1, (TABLE_MAP, table_map), (WRITE_ROWS, rows))
+    mapped = [logs.Column(column.name, VARCHAR, VARCHAR_LENGTH.to_bytes(2, "little")) for column in columns()]
+    nulls = bytes((len(mapped) + 7) // 8)
+    inserted = rows(len(mapped), logs.counted(BYTES) * len(mapped), nulls=nulls)
+    return log_of([transaction(1, table_map(mapped, collations, logs.names_of(mapped), table="s.c"), inserted)])
 
 
 def unlike(what: str, came: dict[str, object], wanted: dict[str, object]) -> list[str]:

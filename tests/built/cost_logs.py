@@ -1,13 +1,14 @@
 """Logs whose reading is counted: many small changes, one table or many, and transactions of many rows."""
-import struct
 from collections.abc import Iterator
 from itertools import cycle, islice
 from typing import NamedTuple
 
-from built.logs import TABLE_MAP, WRITE_ROWS, field, front, packed, transaction
+from logs import (
+    FRONT, KEY, LONG, USUAL_CHARSET, VARCHAR, Column, counted, field, log_of, names_of, packed, rows, signs_of, table_map, transaction,
+)  # fmt: skip
 
-INT, VARCHAR, VARCHAR_LENGTH = 3, 15, 80
-FIELD_SIGNS, FIELD_CHARSET, FIELD_NAMES, FIELD_KEY = 1, 2, 4, 8
+# Texts have up to 80 bytes.
+VARCHAR_LENGTH = b"\x50\0"
 UTF8MB4 = packed(255)
 
 # Values of everyday: words and sentences in ASCII, as short and as long as names and remarks are.
@@ -23,33 +24,22 @@ class Table(NamedTuple):
     """A table of the schema `shop` with the columns `id`, an INT and the key, and texts."""
 
     number: int
-    name: bytes
-    texts: tuple[bytes, ...]
-
-    def id(self) -> bytes:
-        """Its table id."""
-        return struct.pack("<Q", self.number)[:6]
+    name: str
+    texts: tuple[str, ...]
 
     def map(self) -> bytes:
-        """The body of its table map."""
-        columns = (b"id", *self.texts)
-        metadata = struct.pack("<H", VARCHAR_LENGTH) * len(self.texts)
-        names = b"".join(packed(len(name)) + name for name in columns)
-        return (
-            self.id() + b"\x01\0\x04shop\0" + packed(len(self.name)) + self.name + b"\0" + packed(len(columns))
-            + bytes([INT]) + bytes([VARCHAR]) * len(self.texts) + packed(len(metadata)) + metadata + bytes((len(columns) + 7) // 8)
-            + field(FIELD_SIGNS, b"\0") + field(FIELD_CHARSET, UTF8MB4) + field(FIELD_NAMES, names) + field(FIELD_KEY, b"\0")
-        )  # fmt: skip
+        """Its table map."""
+        columns = [Column("id", LONG), *(Column(name, VARCHAR, VARCHAR_LENGTH) for name in self.texts)]
+        fields = (signs_of(columns), field(USUAL_CHARSET, UTF8MB4), names_of(columns), field(KEY, b"\0"))
+        return table_map(columns, *fields, table=f"shop.{self.name}", table_id=self.number)
 
     def rows(self, first: int, count: int, values: Iterator[bytes]) -> bytes:
-        """The body of an event that inserts so many rows, with ids from the first one on, and the values that come next."""
+        """An event that inserts so many rows, with ids from the first one on, and the values that come next."""
         columns = 1 + len(self.texts)
-        bits = (columns + 7) // 8
-        body = self.id() + b"\x01\0\x02\0" + packed(columns) + b"\xff" * bits
-        for number in range(first, first + count):
-            texts = (packed(len(value)) + value for value in islice(values, len(self.texts)))
-            body += bytes(bits) + struct.pack("<I", number) + b"".join(texts)
-        return body
+        images = (
+            number.to_bytes(4, "little") + b"".join(map(counted, islice(values, len(self.texts)))) for number in range(first, first + count)
+        )
+        return rows(columns, *images, table_id=self.number, nulls=bytes((columns + 7) // 8))
 
 
 class Log:
@@ -57,54 +47,54 @@ class Log:
 
     def __init__(self) -> None:
         """A log without transactions."""
-        self.parts = [front()]
-        self.places = [len(self.parts[0])]
+        self.units: list[bytes] = []
+        self.places = [len(FRONT)]
 
-    def add(self, *inside: tuple[int, bytes]) -> None:
+    def add(self, *inside: bytes) -> None:
         """Writes a transaction with these events."""
-        self.parts.append(transaction(self.places[-1], len(self.parts), *inside))
-        self.places.append(self.places[-1] + len(self.parts[-1]))
+        self.units.append(transaction(len(self.places), *inside))
+        self.places.append(self.places[-1] + len(self.units[-1]))
 
     def content(self) -> bytes:
         """Its bytes."""
-        return b"".join(self.parts)
+        return log_of(self.units)
 
 
 def everyday(count: int) -> Log:
     """Small transactions over five tables, two of them in each."""
-    names = (b"customer", b"product", b"orders", b"order_line", b"remark")
-    tables = [Table(100 + at, name, (b"name", b"state", b"note")) for at, name in enumerate(names)]
+    names = ("customer", "product", "orders", "order_line", "remark")
+    tables = [Table(100 + at, name, ("name", "state", "note")) for at, name in enumerate(names)]
     log, values = Log(), cycle(VALUES)
     for number in range(count):
         inside = []
         for at in range(EVENTS):
             table = tables[(number + at) % len(tables)]
-            inside += [(TABLE_MAP, table.map()), (WRITE_ROWS, table.rows(number * ROWS, ROWS, values))]
+            inside += [table.map(), table.rows(number * ROWS, ROWS, values)]
         log.add(*inside)
     return log
 
 
 def one_table(count: int) -> Log:
     """Transactions over one table, a hundred rows in each, behind one over another table. Ids need five bytes."""
-    other, table = (Table((1 << 32) + number, name, ()) for number, name in ((100, b"product"), (101, b"counter")))
+    other, table = (Table((1 << 32) + number, name, ()) for number, name in ((100, "product"), (101, "counter")))
     log, values = Log(), cycle(VALUES)
-    for at, (mapped, rows) in enumerate([(other, ROWS), *[(table, 100)] * count]):
-        log.add((TABLE_MAP, mapped.map()), (WRITE_ROWS, mapped.rows(100 * at, rows, values)))
+    for at, (mapped, many) in enumerate([(other, ROWS), *[(table, 100)] * count]):
+        log.add(mapped.map(), mapped.rows(100 * at, many, values))
     return log
 
 
 def many_tables(count: int) -> Log:
     """So many tables with long names, each of which is mapped anew in two transactions far apart."""
-    texts = tuple(b"a_column_with_a_name_that_is_as_long_as_a_server_allows_%08d" % at for at in range(8))
-    tables = [Table(1_000 + 37 * at, b"a_table_with_a_name_that_is_as_long_as_a_server_allows__%08d" % at, texts) for at in range(count)]
+    texts = tuple(f"a_column_with_a_name_that_is_as_long_as_a_server_allows_{at:08}" for at in range(8))
+    tables = [Table(1_000 + 37 * at, f"a_table_with_a_name_that_is_as_long_as_a_server_allows__{at:08}", texts) for at in range(count)]
     log, values = Log(), cycle(VALUES)
     for table in tables * 2:
-        log.add((TABLE_MAP, table.map()), (WRITE_ROWS, table.rows(1, 1, values)))
+        log.add(table.map(), table.rows(1, 1, values))
     return log
 
 
-def one_transaction(rows: int) -> Log:
+def one_transaction(count: int) -> Log:
     """A transaction of so many rows, a hundred in each event."""
-    table, log, values = Table(100, b"orders", (b"name", b"state", b"note")), Log(), cycle(VALUES)
-    log.add((TABLE_MAP, table.map()), *((WRITE_ROWS, table.rows(first, 100, values)) for first in range(0, rows, 100)))
+    table, log, values = Table(100, "orders", ("name", "state", "note")), Log(), cycle(VALUES)
+    log.add(table.map(), *(table.rows(first, 100, values) for first in range(0, count, 100)))
     return log

@@ -18,8 +18,8 @@ from typing import NamedTuple
 
 from built.check import SECONDS, Check
 from built.cost_logs import everyday, many_tables, one_table, one_transaction
-from built.logs import put, wide_tables
 from built.preloaded import Memory, run_preloaded
+from logs import put, wide_tables
 
 FIGURES = Path(__file__).resolve().parents[1] / "costs.tsv"
 # What LLVM builds is counted. Rattle's own compiler makes other instructions.

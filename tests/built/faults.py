@@ -4,7 +4,7 @@ from functools import partial
 from pathlib import Path
 
 from built.check import Check, Wanted, differs, run, said
-from built.logs import XID, XID_BODY, appended, change_lines, put, unit_lines, worked_log
+from logs import A, appended, change_lines, parts, put, unit_lines, worked_log
 
 SUBCOMMANDS = ("transactions", "read")
 
@@ -16,8 +16,8 @@ def lines_of(subcommand: str, count: int, name: str) -> bytes:
 
 def judge_log_fault(subcommand: str, program: Path, folder: Path) -> list[str]:
     """An event out of place in the second of three files: the lines before it stand, and the fault names it."""
-    put(folder, ["logs/first", "third"], worked_log())
-    put(folder, ["logs/second"], appended(worked_log(2), XID, XID_BODY))
+    put(folder, ["logs/first", "third"], A)
+    put(folder, ["logs/second"], appended(worked_log(2), parts("xid")))
     wanted = lines_of(subcommand, 1, "first") + lines_of(subcommand, 2, "second")
     came = run(program, [subcommand, "logs/first", "logs/second", "third"], folder)
     return differs(came, Wanted(1, wanted, said("log fault at second:589: OutOfPlace(16)")))
@@ -25,21 +25,21 @@ def judge_log_fault(subcommand: str, program: Path, folder: Path) -> list[str]:
 
 def judge_words(words: list[str], line: str, program: Path, folder: Path) -> list[str]:
     """Words that are refused, though the file is there."""
-    put(folder, ["log"], worked_log())
+    put(folder, ["log"], A)
     return differs(run(program, words, folder), Wanted(2, b"", said(line)))
 
 
 def judge_equal_names(subcommand: str, program: Path, folder: Path) -> list[str]:
     """Two files with one name, in two folders."""
-    put(folder, ["one/log", "two/log"], worked_log())
-    put(folder, ["other"], worked_log())
+    put(folder, ["one/log", "two/log"], A)
+    put(folder, ["other"], A)
     came = run(program, [subcommand, "other", "one/log", "two/log"], folder)
     return differs(came, Wanted(2, b"", said("duplicate file log")))
 
 
 def judge_not_opened(path: str, place: int, program: Path, folder: Path) -> list[str]:
     """A path that isn't a file of the system, at a place among others that are: it alone is named, as it was given."""
-    paths = put(folder, ["first", "second"], worked_log())
+    paths = put(folder, ["first", "second"], A)
     (folder / "folder").mkdir()
     paths.insert(place, path)
     came = run(program, ["read", *paths], folder)
@@ -48,7 +48,7 @@ def judge_not_opened(path: str, place: int, program: Path, folder: Path) -> list
 
 def judge_first_not_opened(program: Path, folder: Path) -> list[str]:
     """Of two paths that can't be opened the first is named."""
-    put(folder, ["log"], worked_log())
+    put(folder, ["log"], A)
     came = run(program, ["read", "log", "gone/first", "gone/second"], folder)
     return differs(came, Wanted(4, b"", said("cannot open gone/first")))
 

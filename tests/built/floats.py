@@ -8,9 +8,9 @@ from functools import partial
 from pathlib import Path
 from random import Random
 
+import logs
 from built.check import Check, Wanted, differs, run
-from built.logs import TABLE_MAP, WRITE_ROWS, front, put, transaction
-from built.rare_paths import DOUBLE, FLOAT, Column, rows, table_map
+from logs import DOUBLE, FLOAT, Column, put, rows, table_of, transaction
 
 # The values of a full line's row.
 VALUES = re.compile(rb'\{"after":\{"d":(.*?),"f":(.*?)\},"before":null,')
@@ -95,9 +95,9 @@ def random_bits() -> Iterator[bytes]:
 
 def log_of(images: list[bytes]) -> bytes:
     """A log of one transaction with these rows of a table s.t, whose columns are d DOUBLE and f FLOAT."""
-    mapped = (TABLE_MAP, table_map([Column("d", DOUBLE, b"\x08"), Column("f", FLOAT, b"\x04")]))
-    events = [(WRITE_ROWS, rows(2, *images[first : first + IN_AN_EVENT])) for first in range(0, len(images), IN_AN_EVENT)]
-    return front() + transaction(len(front()), 1, mapped, *events)
+    mapped = table_of([Column("d", DOUBLE, b"\x08"), Column("f", FLOAT, b"\x04")])
+    events = [rows(2, *images[first : first + IN_AN_EVENT]) for first in range(0, len(images), IN_AN_EVENT)]
+    return logs.log_of([transaction(1, mapped, *events)])
 
 
 def judge(images: list[bytes], program: Path, folder: Path) -> list[str]:

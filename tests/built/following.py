@@ -9,8 +9,8 @@ from random import Random
 
 from built.check import SECONDS, Check, Outcome, Wanted, differs, run, text_differs
 from built.growing import Driver, Server
-from built.logs import change_lines, put, worked_log
 from built.server_logs import BANK, SHOP, logs_of
+from logs import change_lines, put, worked_log
 
 # The transactions of a log of 4 MB, and of one of 40 MB.
 SIZES = (18_350, 183_500)

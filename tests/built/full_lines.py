@@ -2,7 +2,6 @@
 What is kept of a table's map is never another one's."""
 import base64
 import json
-import struct
 from functools import partial
 from itertools import cycle, islice
 from pathlib import Path
@@ -10,9 +9,11 @@ from typing import NamedTuple
 
 from built.check import Check, Wanted, differs, run
 from built.floats import double_text, float_text
-from built.logs import MAP_BODY, SOURCE_ID, TABLE_MAP, TIME, WRITE_ROWS, front, full_lines, put, transaction, worked_log
 from built.server_logs import BANK, KEYS, SHOP, SHOP_KEYS, logs_of
 from built.truth import TRUTH
+from logs import (
+    FRONT, SOURCE_ID, TIME, USUAL_CHARSET, WRITE_ROWS, event, field, full_lines, log_of, map_as_t, parts, put, transaction, worked_log,
+)  # fmt: skip
 
 # The names of each table's key, in key order.
 KEY_NAMES = {**{table: list(names) for table, names in SHOP_KEYS.items()}, **{table: [name] for table, name in KEYS.items()}}
@@ -133,27 +134,25 @@ def judge_stories(table: str, program: Path, folder: Path) -> list[str]:
 
 def unit(place: int, number: int, table: str, charset: Charset) -> tuple[bytes, str]:
     """A transaction that inserts (1, e9) into a table whose texts are in a character set, and its line."""
-    name = table.encode()
-    table_map = MAP_BODY[:11] + bytes([len(name)]) + name + MAP_BODY[13:] + bytes([2, 1, charset.collation])
-    rows = bytes.fromhex("6400000000000100020002fffc0100000001e9")
+    table_map = map_as_t(table, more=field(USUAL_CHARSET, bytes([charset.collation])))
+    rows = event(WRITE_ROWS, parts("rows-head fc u32:1 01 e9"))
     line = (
         f'{{"after":{{"id":1,"v":{charset.text}}},"before":null,"gtid":"{SOURCE_ID}:{number}","key":["id"],'
         f'"types":{{"id":"int","v":"{charset.type}"}},"kind":"insert","schema":"s","table":"{table}",'
         f'"timestamp":{TIME},"token":"{place}.1@log"}}\n'
     )
-    return transaction(place, number, (TABLE_MAP, table_map), (WRITE_ROWS, rows)), line
+    return transaction(number, table_map, rows), line
 
 
 def judge_maps(tables: int, count: int, program: Path, folder: Path) -> list[str]:
     """So many transactions, which go round so many tables and all character sets: the maps of two may differ in one byte alone."""
-    parts, lines = [front()], []
-    place = len(parts[0])
+    units, lines, place = [], [], len(FRONT)
     for number, charset in enumerate(islice(cycle(CHARSETS), count), 1):
-        part, line = unit(place, number, f"t{number % tables}", charset)
-        parts.append(part)
+        content, line = unit(place, number, f"t{number % tables}", charset)
+        units.append(content)
         lines.append(line)
-        place += len(part)
-    put(folder, ["log"], b"".join(parts))
+        place += len(content)
+    put(folder, ["log"], log_of(units))
     return differs(run(program, ["read", "--full", "log"], folder), Wanted(0, "".join(lines).encode()))
 
 

@@ -7,12 +7,12 @@ from collections.abc import Callable
 from functools import partial
 from pathlib import Path
 
+import logs
 from built.check import Check, Wanted, differs, run
 from built.json_binary import (
     DATE, DATETIME, NEWDECIMAL, TIME, TIMESTAMP, Number, Value, decimal, document, double, integer, moment, opaque, parsed, shown, span,
 )  # fmt: skip
-from built.logs import TABLE_MAP, WRITE_ROWS, field, front, put, transaction
-from built.rare_paths import KEY, LONG, Column, rows, table_map
+from logs import KEY, LONG, Column, field, put, rows, table_of, transaction
 
 JSON = 245
 # MySQL nests no deeper.
@@ -29,8 +29,7 @@ def log_of(values: list[bytes]) -> bytes:
     """A log that inserts these values of a JSON column, each with its number, in one transaction."""
     columns = [Column("id", LONG), Column("doc", JSON, b"\x04")]
     images = [struct.pack("<II", number, len(value)) + value for number, value in enumerate(values)]
-    inside = [(TABLE_MAP, table_map(columns, field(KEY, b"\x00"))), (WRITE_ROWS, rows(2, *images))]
-    return front() + transaction(len(front()), 1, *inside)
+    return logs.log_of([transaction(1, table_of(columns, field(KEY, b"\x00")), rows(2, *images))])
 
 
 def raw_of(value: bytes) -> object:

@@ -7,8 +7,8 @@ from textwrap import dedent
 from typing import NamedTuple
 
 from built.check import Check, Wanted, differs, run
-from built.logs import put, worked_log
 from built.server_logs import SHOP, SHOP_KEYS, logs_of, stories_of
+from logs import A, put
 
 TOP = Path(__file__).resolve().parents[2]
 PAGE = TOP / "docs/LIBRARY.md"
@@ -59,7 +59,7 @@ def judge_stories(table: str, program: Path, folder: Path) -> list[str]:
 
 def judge_fault(words: list[str], line: str, program: Path, folder: Path) -> list[str]:
     """A fault has one line on standard error, and status 1."""
-    put(folder, ["log", "below/log"], worked_log())
+    put(folder, ["log", "below/log"], A)
     put(folder, ["text"], b"no log")
     return differs(run(program, words, folder), Wanted(1, b"", f"Error: {line}\n".encode()))
 

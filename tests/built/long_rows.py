@@ -1,12 +1,8 @@
 """Rows over logs that are too long to write out, with what is wanted by hand: Q, S and the maps of many columns."""
-import struct
 from typing import NamedTuple
 
-from built.logs import (
-    BEGIN_BODY, GTID, MAP_BODY, QUERY, ROWS_BODY, SOURCE_ID, TABLE_MAP, TIME, WRITE_ROWS, XID, XID_BODY, appended, event, front, gtid_body,
-    transaction,
-)  # fmt: skip
 from built.row import Row
+from logs import SMALL, SOURCE_ID, TABLE_MAP, TIME, WRITE_ROWS, appended, event, log_of, parts, placed, transaction
 
 NAME = "binlog.000001"
 # Where the one transaction of each of these logs begins, and where the map in it does.
@@ -28,17 +24,15 @@ def row(name: str, log: bytes, words: list[str], stdout: str) -> Row:
 
 def long_value() -> Row:
     """Q: `v` has up to 65,535 bytes by its metadata, and so many in the row."""
-    text, table_map = b"a" * 65_535, MAP_BODY.replace(b"\x50\x00", b"\xff\xff")
-    log = front() + transaction(BEGIN, 1, (TABLE_MAP, table_map), (WRITE_ROWS, ROWS_BODY[:-2] + b"\xff\xff" + text))
-    return row("Q", log, ["read"], line(f'"id":1,"v":"{text.decode()}"'))
+    rows = event(WRITE_ROWS, parts("rows-head fc u32:1 ffff repeat:65535:61"))
+    log = log_of([transaction(1, parts("set:37:ffff:map-t"), rows)])
+    return row("Q", log, ["read"], line(f'"id":1,"v":"{"a" * 65_535}"'))
 
 
 def many_events() -> list[Row]:
     """S: 1,000 rows events in one transaction. Each says that it ends where the first does, which nothing reads."""
-    log = front()
-    for kind, body in ((GTID, gtid_body(1)), (QUERY, BEGIN_BODY), (TABLE_MAP, MAP_BODY)):
-        log = appended(log, kind, body)
-    log = appended(log + event(WRITE_ROWS, len(log), ROWS_BODY) * 1_000, XID, XID_BODY)
+    log = SMALL.bytes_of("Mapped")
+    log = appended(log + placed(parts("insert-1-a"), len(log)) * 1_000, parts("xid"))
     lines = [line('"id":1,"v":"a"', number) for number in range(1, 1_001)]
     return [
         row("S", log, ["read"], "".join(lines)),
@@ -88,25 +82,25 @@ WIDE = (
 )
 
 
-def spelled(text: str) -> bytes:
-    """Bytes in hex, where `z6` are six zeros."""
-    return bytes.fromhex(text.replace("z6", "00" * 6))
+def spelled(text: str) -> str:
+    """Hex digits with `z6` for six zeros, as parts."""
+    return text.replace("z6", "repeat:6:00")
 
 
 def wide_row(wide: Wide) -> Row:
     """The row of a wide table: TINYs c0, c1 and so on, signed ones; a rows event with the first of them alone, which is 5."""
-    columns, bits = wide.columns, bytes((wide.columns + 7) // 8)
+    columns, size = wide.columns, (wide.columns + 7) // 8
     names = b"".join(bytes([len(name)]) + name for name in (b"c%d" % column for column in range(columns)))
-    signs = b"\x01\xfd" + struct.pack("<I", len(bits))[:3] + bits
-    key = b"" if wide.key is None else b"\x08" + bytes([len(spelled(wide.key))]) + spelled(wide.key)
-    types = spelled(wide.in_map) + b"\x01" * columns + b"\x00" + bits
-    table_map = MAP_BODY[:14] + types + signs + b"\x04\xfe" + struct.pack("<Q", len(names)) + names + key
-    rows = ROWS_BODY[:10] + spelled(wide.in_rows) + b"\x01" + bits[1:] + b"\xfe\x05"
-    log = front() + transaction(BEGIN, 1, (TABLE_MAP, table_map), (WRITE_ROWS, rows))
+    key = "" if wide.key is None else f"08 u8:{len(parts(spelled(wide.key)))} {spelled(wide.key)}"
+    types = f"{spelled(wide.in_map)} repeat:{columns}:01 00 repeat:{size}:00"
+    fields = f"01 fd u24:{size} repeat:{size}:00 04 fe u64:{len(names)} {names.hex()} {key}"
+    table_map = event(TABLE_MAP, parts(f"u48:100 u16:1 01 text:s 00 01 text:t 00 {types} {fields}"))
+    rows = event(WRITE_ROWS, parts(f"u48:100 u16:1 u16:2 {spelled(wide.in_rows)} 01 repeat:{size - 1}:00 fe 05"))
+    log = log_of([transaction(1, table_map, rows)])
     read = row(wide.name(), log, ["read"], line('"c0":5'))
     if wide.fault is None:
         return read
-    place = MAP_PLACE if wide.fault == "BadMap" else MAP_PLACE + len(event(TABLE_MAP, MAP_PLACE, table_map))
+    place = MAP_PLACE if wide.fault == "BadMap" else MAP_PLACE + len(table_map)
     return read._replace(stdout="", stderr=f"binlogfeed: log fault at {NAME}:{place}: {wide.fault}", status=1)
 
 

@@ -3,56 +3,17 @@ import base64
 import struct
 from functools import partial
 from pathlib import Path
-from typing import NamedTuple
 
 from built.check import Check, Wanted, differs, run
-from built.logs import SOURCE_ID, TABLE_MAP, TIME, WRITE_ROWS, field, front, packed, put, transaction
+from logs import (
+    BLOB, ENUM, ENUM_VALUES, FRONT, KEY, KEY_WITH_PREFIX, LONG, SOURCE_ID, STRING, TIME, TINY, Column, counted, field, log_of, packed, put,
+    rows, table_of, transaction,
+)  # fmt: skip
 
-PLACE = len(front())
-# Types of columns, by the number that a table map has.
-TINY, LONG, FLOAT, DOUBLE, BLOB, STRING = 0x01, 0x03, 0x04, 0x05, 0xFC, 0xFE
-ENUM = 0xF7
-NUMERIC = {TINY, LONG, FLOAT, DOUBLE}
-# Fields of a table map.
-SIGNEDNESS, COLUMN_NAMES, ENUM_VALUES, KEY, KEY_WITH_PREFIX = 1, 4, 6, 8, 9
+PLACE = len(FRONT)
 # A server's greatest number of columns in a table, and of columns in a key.
 MOST_COLUMNS, MOST_KEY_COLUMNS = 4_096, 16
 MEBIBYTE = 1 << 20
-
-
-class Column(NamedTuple):
-    """A column of a table map. The bytes of a BLOB's length are its metadata."""
-
-    name: str
-    kind: int
-    metadata: bytes = b""
-
-
-def bits(numbers: set[int], count: int) -> bytes:
-    """A bitmap of so many bits, those of these numbers set, and those behind the last one."""
-    size = (count + 7) // 8
-    return sum(1 << number for number in {*numbers, *range(count, 8 * size)}).to_bytes(size, "little")
-
-
-def table_map(columns: list[Column], *fields: bytes, table_id: int = 100, table: str = "t") -> bytes:
-    """The body of the map of a table s.TABLE. No column is unsigned, and all are nullable."""
-    names = b"".join(packed(len(column.name)) + column.name.encode() for column in columns)
-    metadata = b"".join(column.metadata for column in columns)
-    return (
-        struct.pack("<Q", table_id)[:6] + b"\x01\x00\x01s\x00" + bytes([len(table)]) + table.encode() + b"\x00" + packed(len(columns))
-        + bytes(column.kind for column in columns) + packed(len(metadata)) + metadata + bits(set(range(len(columns))), len(columns))
-        + field(SIGNEDNESS, bytes((sum(column.kind in NUMERIC for column in columns) + 7) // 8)) + field(COLUMN_NAMES, names)
-        + b"".join(fields)
-    )  # fmt: skip
-
-
-def rows(count: int, *images: bytes, present: set[int] | None = None, table_id: int = 100) -> bytes:
-    """The body of an event that inserts rows without a NULL, of the present columns of a table of so many."""
-    there = set(range(count)) if present is None else present
-    nulls = bits(set(), len(there))
-    return (
-        struct.pack("<Q", table_id)[:6] + b"\x01\x00\x02\x00" + packed(count) + bits(there, count) + b"".join(nulls + image for image in images)
-    )
 
 
 def line(image: str, number: int = 1, count: int = 1, table: str = "t", place: int = PLACE) -> str:
@@ -63,9 +24,9 @@ def line(image: str, number: int = 1, count: int = 1, table: str = "t", place: i
     )
 
 
-def judge(inside: list[tuple[int, bytes]], lines: str, words: tuple[str, ...], program: Path, folder: Path) -> list[str]:
+def judge(inside: list[bytes], lines: str, words: tuple[str, ...], program: Path, folder: Path) -> list[str]:
     """A log of one transaction with these events inside gives these lines."""
-    put(folder, ["log"], front() + transaction(PLACE, 1, *inside))
+    put(folder, ["log"], log_of([transaction(1, *inside)]))
     return differs(run(program, [*words, "log"], folder), Wanted(0, lines.encode()))
 
 
@@ -73,7 +34,7 @@ def judge_value(value: bytes, wanted: str, program: Path, folder: Path) -> list[
     """A row (1, VALUE) of a table with a LONGBLOB."""
     columns = [Column("id", LONG), Column("v", BLOB, b"\x04")]
     image = struct.pack("<II", 1, len(value)) + value
-    inside = [(TABLE_MAP, table_map(columns, field(KEY, b"\x00"))), (WRITE_ROWS, rows(2, image))]
+    inside = [table_of(columns, field(KEY, b"\x00")), rows(2, image)]
     return judge(inside, line(f'"id":1,"v":{wanted}'), ("read",), program, folder)
 
 
@@ -89,7 +50,7 @@ VALUES = (
 
 def wide(*fields: bytes) -> bytes:
     """The map of a table with as many columns as a server allows."""
-    return table_map([Column(f"{number:04}", TINY) for number in range(MOST_COLUMNS)], *fields)
+    return table_of([Column(f"{number:04}", TINY) for number in range(MOST_COLUMNS)], *fields)
 
 
 def wide_image(numbers: list[int]) -> str:
@@ -101,16 +62,16 @@ def judge_wide(numbers: list[int], program: Path, folder: Path) -> list[str]:
     """A row of the wide table that has these columns. Its key has two columns, the second by its first three bytes."""
     key = field(KEY_WITH_PREFIX, packed(MOST_COLUMNS - 1) + b"\x00" + packed(0) + b"\x03")
     image = bytes(number % 100 for number in numbers)
-    inside = [(TABLE_MAP, wide(key)), (WRITE_ROWS, rows(MOST_COLUMNS, image, present=set(numbers)))]
+    inside = [wide(key), rows(MOST_COLUMNS, image, present=numbers)]
     return judge(inside, line(wide_image(numbers)), ("read",), program, folder)
 
 
 def judge_names(program: Path, folder: Path) -> list[str]:
     """The last value of an ENUM of 300 names."""
     names = [f"n{number}" for number in range(1, 301)]
-    values = packed(len(names)) + b"".join(packed(len(name)) + name.encode() for name in names)
+    values = packed(len(names)) + b"".join(counted(name.encode()) for name in names)
     columns = [Column("e", STRING, bytes([ENUM, 2]))]
-    inside = [(TABLE_MAP, table_map(columns, field(ENUM_VALUES, values))), (WRITE_ROWS, rows(1, struct.pack("<H", 300)))]
+    inside = [table_of(columns, field(ENUM_VALUES, values)), rows(1, struct.pack("<H", 300))]
     return judge(inside, line('"e":"n300"'), ("read",), program, folder)
 
 
@@ -119,7 +80,7 @@ def judge_key(program: Path, folder: Path) -> list[str]:
     columns = [Column(f"c{number:02}", TINY) for number in range(MOST_KEY_COLUMNS)]
     order = [*range(1, MOST_KEY_COLUMNS), 0]
     images = [bytes([first, *range(1, MOST_KEY_COLUMNS)]) for first in (20, 21, 22)]
-    inside = [(TABLE_MAP, table_map(columns, field(KEY, bytes(order)))), (WRITE_ROWS, rows(MOST_KEY_COLUMNS, *images))]
+    inside = [table_of(columns, field(KEY, bytes(order))), rows(MOST_KEY_COLUMNS, *images)]
     image = ",".join(f'"c{number:02}":{number or 21}' for number in range(MOST_KEY_COLUMNS))
     key = f"[{','.join(str(number or 21) for number in order)}]"
     return judge(inside, line(image, count=2), ("history", "--schema", "s", "--table", "t", "--key", key), program, folder)
@@ -128,17 +89,17 @@ def judge_key(program: Path, folder: Path) -> list[str]:
 def judge_maps(program: Path, folder: Path) -> list[str]:
     """A transaction that inserts a row into each of 300 tables, once all their maps were given. Their ids need five bytes."""
     first, columns = 1 << 33, [Column("id", LONG)]
-    maps = [(TABLE_MAP, table_map(columns, table_id=first + number, table=f"t{number}")) for number in range(300)]
-    events = [(WRITE_ROWS, rows(1, struct.pack("<I", number), table_id=first + number)) for number in range(300)]
+    maps = [table_of(columns, table_id=first + number, table=f"s.t{number}") for number in range(300)]
+    events = [rows(1, struct.pack("<I", number), table_id=first + number) for number in range(300)]
     lines = "".join(line(f'"id":{number}', count=number + 1, table=f"t{number}") for number in range(300))
     return judge([*maps, *events], lines, ("read",), program, folder)
 
 
-def inserts(ids: list[int]) -> list[tuple[int, bytes]]:
+def inserts(ids: list[int]) -> list[bytes]:
     """The events that insert rows of these ids, a thousand in each, into a table with nothing else."""
     starts = range(0, len(ids), 1_000)
     events = [rows(1, *[struct.pack("<I", number) for number in ids[start : start + 1_000]]) for start in starts]
-    return [(TABLE_MAP, table_map([Column("id", LONG)], field(KEY, b"\x00"))), *[(WRITE_ROWS, event) for event in events]]
+    return [table_of([Column("id", LONG)], field(KEY, b"\x00")), *events]
 
 
 def judge_rows(program: Path, folder: Path) -> list[str]:

@@ -4,8 +4,8 @@ from functools import partial
 from pathlib import Path
 
 from built.check import Check, Wanted, differs, said
-from built.logs import put, worked_log
 from built.preloaded import run_preloaded
+from logs import put, worked_log
 
 TOP = Path(__file__).resolve().parents[2]
 CASES = TOP / "crates/cases/data"

@@ -7,24 +7,11 @@ from functools import partial
 from pathlib import Path
 
 from built.check import SECONDS, Check, Outcome, Wanted, command, differs, run, said
-from built.logs import (
-    IGNORABLE,
-    XID,
-    XID_BODY,
-    appended,
-    change_lines,
-    front,
-    full_line,
-    full_lines,
-    header,
-    insert,
-    many_tables,
-    put,
-    unit_line,
-    unit_lines,
-    wide_tables,
-    worked_log,
-)
+from logs import (
+    FRONT, IGNORABLE, A, appended, change_lines, full_line, full_lines, insert, many_tables, parts, placed, put, unit_line, unit_lines,
+    wide_tables, worked_log,
+)  # fmt: skip
+from pieces import event, header
 
 # The lines of so many transactions fill any pipe, and their log is longer than what is read at once.
 MANY = 12_000
@@ -52,11 +39,11 @@ def judge_full_device(subcommand: str, count: int, program: Path, folder: Path) 
 
 def judge_shell(script: str, wanted: Wanted, program: Path, folder: Path) -> list[str]:
     """A run that a shell's line starts, with the program as its word $0. The log stays as it was."""
-    put(folder, ["log"], worked_log())
+    put(folder, ["log"], A)
     shell = subprocess.run(
         ["sh", "-c", script, program], cwd=folder, stdin=subprocess.DEVNULL, capture_output=True, timeout=SECONDS, check=False
     )
-    changed = [] if (folder / "log").read_bytes() == worked_log() else ["the log was changed"]
+    changed = [] if (folder / "log").read_bytes() == A else ["the log was changed"]
     return differs(Outcome(shell.returncode, shell.stdout, shell.stderr), wanted) + changed
 
 
@@ -72,7 +59,7 @@ SHELL = (
 def run_changed(program: Path, folder: Path, change: Callable[[Path], None]) -> Outcome:
     """Runs `transactions` over a short log and a long one, which is changed while the run waits: it has read its beginning, and
     nobody takes the lines."""
-    put(folder, ["first"], worked_log())
+    put(folder, ["first"], A)
     put(folder, ["log"], worked_log(MANY))
     words = command(["transactions", "first", "log"])
     with subprocess.Popen(
@@ -92,7 +79,7 @@ def grow(log: Path) -> None:
     """Writes more transactions behind the log."""
     length = log.stat().st_size
     with log.open("ab") as more:
-        more.write(insert(length, MANY + 1))
+        more.write(placed(insert(MANY + 1), length))
 
 
 def judge_changed(change: Callable[[Path], None], program: Path, folder: Path) -> list[str]:
@@ -111,12 +98,12 @@ def judge_cut(program: Path, folder: Path) -> list[str]:
 def put_sparse(path: Path, events: int, length: int) -> int:
     """Writes the front of a log and so many events of this length that are passed over, whose bodies take no place on the disk.
     Answers where they end."""
-    place = len(front())
+    place = len(FRONT)
     with path.open("wb") as log:
-        log.write(front())
+        log.write(FRONT)
         for _ in range(events):
             log.seek(place)
-            log.write(header(200, place, length, IGNORABLE))
+            log.write(placed(header(200, IGNORABLE, length), place))
             place += length
         log.truncate(place)
     return place
@@ -159,7 +146,7 @@ def judge_long_file(program: Path, folder: Path) -> list[str]:
     """A transaction and a fault that stand behind the first 4 GiB of a file."""
     place = put_sparse(folder / "log", 65, 1 << 26)
     with (folder / "log").open("ab") as log:
-        log.write(insert(place, 1) + header(40, place + 218, 19))
+        log.write(placed(insert(1) + event(40), place))
     wanted = Wanted(1, unit_line(place, 1, "log").encode(), said(f"log fault at log:{place + 218}: KindOutOfProfile(40)"))
     return differs(run(program, ["transactions", "log"], folder), wanted)
 
@@ -168,7 +155,7 @@ def judge_window(program: Path, folder: Path) -> list[str]:
     """An event that is longer than the first window is taken in."""
     place = put_sparse(folder / "log", 1, 3 << 20)
     with (folder / "log").open("ab") as log:
-        log.write(insert(place, 1))
+        log.write(placed(insert(1), place))
     return differs(run(program, ["transactions", "log"], folder), Wanted(0, unit_line(place, 1, "log").encode()))
 
 
@@ -181,7 +168,7 @@ def judge_whole(program: Path, folder: Path) -> list[str]:
 def judge_long_fault(words: list[str], lines: Callable[[int, str], bytes], program: Path, folder: Path) -> list[str]:
     """An event out of place behind the lines of a long log: all of them stand before its fault, and the status is the fault's."""
     log = worked_log(MANY)
-    put(folder, ["log"], appended(log, XID, XID_BODY))
+    put(folder, ["log"], appended(log, parts("xid")))
     wanted = Wanted(1, lines(MANY, "log"), said(f"log fault at log:{len(log)}: OutOfPlace(16)"))
     return differs(run(program, [*words, "log"], folder), wanted)
 

@@ -2,7 +2,6 @@
 import os
 import pty
 import select
-import struct
 import subprocess
 import tty
 from functools import partial
@@ -10,25 +9,10 @@ from pathlib import Path
 from typing import NamedTuple
 
 from built.check import SECONDS, Check, Outcome, Wanted, command, differs, run, said
-from built.logs import (
-    BEGIN_BODY,
-    GTID,
-    MAP_BODY,
-    QUERY,
-    TABLE_MAP,
-    XID,
-    XID_BODY,
-    appended,
-    change_lines,
-    front,
-    gtid_body,
-    put,
-    worked_log,
-)
+from logs import MAGIC, SMALL, TABLE_MAP, A, appended, change_lines, event, parts, put, query, rotate
 
 # Taken from root, so that it may open only what the file's mode lets it, as any other user.
 ALL_FILES = "-dac_override,-dac_read_search"
-ROTATE, STOP = 4, 3
 
 
 class Case(NamedTuple):
@@ -73,36 +57,27 @@ def read_to_end(terminal: int) -> bytes | None:
     return None
 
 
-def query(text: str) -> bytes:
-    """The body of a QUERY event with a statement."""
-    return BEGIN_BODY.removesuffix(b"BEGIN") + text.encode()
-
-
-def begun() -> bytes:
-    """A log with a transaction that has just begun."""
-    return appended(appended(front(), GTID, gtid_body(1)), QUERY, BEGIN_BODY)
-
-
 def lay_out(folder: Path) -> None:
     """Lays out the files that the words of the cases name."""
-    put(folder, ["log", "logs/log", "logs/next"], worked_log())
+    begun, xid = SMALL.bytes_of("Begun"), parts("xid")
+    put(folder, ["log", "logs/log", "logs/next"], A)
     put(folder, ["logs/index"], b"./binlog.000001\n")
     for kind in (15, 23, 25, 26, 38, 39, 40, 42, 99, 160, 255):
-        put(folder, [f"logs/kind{kind}"], appended(worked_log(), kind, b""))
-    put(folder, ["logs/xa"], appended(worked_log(), QUERY, query("XA START 'a'")))
-    put(folder, ["logs/back"], appended(begun(), QUERY, query("ROLLBACK TO a")))
-    put(folder, ["logs/rotated"], appended(worked_log(), ROTATE, struct.pack("<Q", 4) + b"other"))
-    put(folder, ["logs/stopped"], appended(appended(worked_log(), STOP, b""), XID, XID_BODY))
-    put(folder, ["logs/unnamed"], appended(begun(), TABLE_MAP, MAP_BODY[: MAP_BODY.index(b"\x04\x05\x02id")]))
+        put(folder, [f"logs/kind{kind}"], appended(A, event(kind)))
+    put(folder, ["logs/xa"], appended(A, query("XA START 'a'")))
+    put(folder, ["logs/back"], appended(begun, query("ROLLBACK TO a")))
+    put(folder, ["logs/rotated"], appended(A, rotate("other")))
+    put(folder, ["logs/stopped"], appended(A, parts("stop"), xid))
+    put(folder, ["logs/unnamed"], appended(begun, event(TABLE_MAP, parts("past:19:map-t")[:-10])))
     for column_type in (7, 242, 200):
-        body = MAP_BODY[:14] + b"\x01" + bytes([column_type]) + b"\x00\x00"
-        put(folder, [f"logs/type{column_type}"], appended(begun(), TABLE_MAP, body))
-    put(folder, ["logs/zeros"], worked_log() + bytes(100))
-    put(folder, ["logs/headless"], appended(b"\xfebin", XID, XID_BODY))
-    put(folder, ["logs/placeless"], appended(worked_log(), XID, XID_BODY))
+        body = parts(f"u48:100 u16:1 01 text:s 00 01 text:t 00 01 u8:{column_type} 00 00")
+        put(folder, [f"logs/type{column_type}"], appended(begun, event(TABLE_MAP, body)))
+    put(folder, ["logs/zeros"], A + bytes(100))
+    put(folder, ["logs/headless"], appended(MAGIC, xid))
+    put(folder, ["logs/placeless"], appended(A, xid))
     os.mkfifo(folder / "pipe")
     os.symlink("circle", folder / "circle")
-    put(folder, ["secret"], worked_log())
+    put(folder, ["secret"], A)
     (folder / "secret").chmod(0)
 
 

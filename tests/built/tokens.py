@@ -9,8 +9,9 @@ from pathlib import Path
 from typing import NamedTuple
 
 from built.check import SECONDS, Check, Outcome, Wanted, differs, run, said
-from built.logs import GTID, HEADER_LENGTH, MAGIC, XID, XID_BODY, appended, change_line, change_lines, front, insert, put, worked_log
 from built.server_logs import BANK, SHOP, place_of
+from logs import FRONT, GTID, MAGIC, A, appended, change_line, change_lines, insert, parts, put, worked_log
+from pieces import HEADER_LENGTH
 
 # Files by their names, in the order of the list.
 Logs = dict[str, bytes]
@@ -254,7 +255,7 @@ def no_token_checks() -> list[Check]:
 
 def fault_checks() -> list[Check]:
     """Tokens beside a fault, which stands at 589 of `bad`, behind transactions at 153 and 371."""
-    bad, good = appended(worked_log(2), XID, XID_BODY), worked_log(2)
+    bad, good = appended(worked_log(2), parts("xid")), worked_log(2)
     fault = said("log fault at bad:589: OutOfPlace(16)")
     lines = change_lines(2, "bad").splitlines(keepends=True)
     good_lines = change_lines(2, "good")
@@ -288,7 +289,7 @@ def fault_checks() -> list[Check]:
 def worked_checks() -> list[Check]:
     """A log whose cut transaction gives way to another one, and logs that are gone, grown and added."""
     half = {"one": worked_log(2), "two": worked_log(3)[:-50]}
-    other = {"two": worked_log(2) + insert(589, 9), "three": worked_log(2), "four": front(), "five": worked_log()}
+    other = {"two": appended(worked_log(2), insert(9)), "three": worked_log(2), "four": FRONT, "five": A}
     rest = change_line(589, 9, "two").encode() + change_lines(2, "three") + change_lines(1, "five")
     long = {name: worked_log(8) for name in ("one", "two", "three")}
     return [

@@ -4,7 +4,7 @@ from functools import partial
 from pathlib import Path
 
 from built.check import SECONDS, Check, Outcome, Wanted, differs, run, said
-from built.logs import change_lines, front, full_lines, put, unit_lines, worked_log
+from logs import FRONT, A, change_lines, full_lines, put, unit_lines
 
 # The option words of `read` that let every change of the worked logs pass: thirteen words with the subcommand. `--full` isn't among
 # them: it has no value, and makes other lines.
@@ -26,7 +26,7 @@ def log_names(count: int) -> list[str]:
 
 def judge_files(count: int, subcommand: str, program: Path, folder: Path) -> list[str]:
     """Each of many files has its line, in their order."""
-    names = put(folder, log_names(count), worked_log())
+    names = put(folder, log_names(count), A)
     lines = unit_lines if subcommand == "transactions" else change_lines
     wanted = b"".join(lines(1, name) for name in names)
     return differs(run(program, [subcommand, *names], folder), Wanted(0, wanted))
@@ -41,7 +41,7 @@ def run_with_few_open(program: Path, folder: Path, words: list[str]) -> Outcome:
 
 def judge_many_files(count: int, subcommand: str, program: Path, folder: Path) -> list[str]:
     """A list may have more files than a program may have open."""
-    names = put(folder, log_names(count), worked_log())
+    names = put(folder, log_names(count), A)
     lines = unit_lines if subcommand == "transactions" else change_lines
     wanted = b"".join(lines(1, name) for name in names)
     return differs(run_with_few_open(program, folder, [subcommand, *names]), Wanted(0, wanted))
@@ -49,49 +49,49 @@ def judge_many_files(count: int, subcommand: str, program: Path, folder: Path) -
 
 def judge_missing_behind_many(program: Path, folder: Path) -> list[str]:
     """A file that isn't there is named before anything is written, behind however many others it stands."""
-    names = put(folder, log_names(1_100), worked_log())
+    names = put(folder, log_names(1_100), A)
     came = run_with_few_open(program, folder, ["read", *names, "missing"])
     return differs(came, Wanted(4, b"", said("cannot open missing")))
 
 
 def judge_options(program: Path, folder: Path) -> list[str]:
     """With all options the files stand from the fourteenth word on: none is forgotten."""
-    names = put(folder, log_names(12), worked_log())
+    names = put(folder, log_names(12), A)
     wanted = b"".join(change_lines(1, name) for name in names)
     return differs(run(program, [*ALL_PASS, *names], folder), Wanted(0, wanted))
 
 
 def judge_all_and_full(program: Path, folder: Path) -> list[str]:
     """The flag for full lines has no value: with it, too, the files stand behind all options."""
-    names = put(folder, log_names(12), worked_log())
+    names = put(folder, log_names(12), A)
     wanted = b"".join(full_lines(1, name) for name in names)
     return differs(run(program, [*ALL_PASS, "--full", *names], folder), Wanted(0, wanted))
 
 
 def judge_flag_behind(program: Path, folder: Path) -> list[str]:
     """The flag counts behind many files as it does before them."""
-    names = put(folder, log_names(20), worked_log())
+    names = put(folder, log_names(20), A)
     wanted = b"".join(full_lines(1, name) for name in names)
     return differs(run(program, ["read", *names, "--full"], folder), Wanted(0, wanted))
 
 
 def judge_option_behind(program: Path, folder: Path) -> list[str]:
     """An option counts behind many files as it does before them."""
-    names = put(folder, log_names(20), worked_log())
+    names = put(folder, log_names(20), A)
     words = ["read", *names, "--only-events", "delete"]
     return differs(run(program, words, folder), Wanted(0, b""))
 
 
 def judge_missing_behind(program: Path, folder: Path) -> list[str]:
     """The file in the twentieth place isn't there: nothing is written of the others."""
-    names = put(folder, log_names(18), worked_log())
+    names = put(folder, log_names(18), A)
     words = ["transactions", *names, "missing", *names]
     return differs(run(program, words, folder), Wanted(4, b"", said("cannot open missing")))
 
 
 def judge_fault_behind(program: Path, folder: Path) -> list[str]:
     """The file in the twentieth place is no log: the lines of the others stand before its fault."""
-    names = put(folder, log_names(19), worked_log())
+    names = put(folder, log_names(19), A)
     put(folder, ["bad"], b"no log")
     wanted = b"".join(unit_lines(1, name) for name in names)
     came = run(program, ["transactions", *names, "bad"], folder)
@@ -100,7 +100,7 @@ def judge_fault_behind(program: Path, folder: Path) -> list[str]:
 
 def judge_long_word(program: Path, folder: Path) -> list[str]:
     """A list of thousands of names is read to its end."""
-    put(folder, ["log"], worked_log())
+    put(folder, ["log"], A)
     names = ",".join([f"table{number}" for number in range(10_000)] + ["t"])
     wanted = change_lines(1, "log")
     return differs(run(program, ["read", "--only-tables", names, "log"], folder), Wanted(0, wanted))
@@ -108,7 +108,7 @@ def judge_long_word(program: Path, folder: Path) -> list[str]:
 
 def judge_behind_dashes(words: list[str], program: Path, folder: Path) -> list[str]:
     """Behind the word `--` each word is a file, whatever it begins with."""
-    names = put(folder, ["-log", "--full", "--only-tables=x", "log", "--"], worked_log())
+    names = put(folder, ["-log", "--full", "--only-tables=x", "log", "--"], A)
     lines = {"transactions": unit_lines, "read": change_lines, "read --full": full_lines}[" ".join(words)]
     wanted = b"".join(lines(1, name) for name in names)
     return differs(run(program, [*words, "--", *names], folder), Wanted(0, wanted))
@@ -122,7 +122,7 @@ def judge_no_text(program: Path, folder: Path) -> list[str]:
 
 def judge_empty_files(program: Path, folder: Path) -> list[str]:
     """Hundreds of logs without a transaction have no line."""
-    names = put(folder, log_names(400), front())
+    names = put(folder, log_names(400), FRONT)
     return differs(run(program, ["read", *names], folder), Wanted(0, b""))
 
 

@@ -13,30 +13,21 @@ import time
 from pathlib import Path
 from unittest import mock
 
+import logs
 from binlogfeed import BinlogfeedError, FileFault, LogFault, LogLost, LogsGone, Place, TokenRefused
 from binlogfeed import follow as following
 from binlogfeed import watch as watching
 from binlogfeed.follow import Follower, read_state, write_state
 from binlogfeed.logs import check_without_gap
-from built import logs
 from built.growing import Server
 from support import BANK, PROGRAM, SECONDS, SHOP, TOP, FolderTest, running
 
-ROTATE = 4
 ENVIRONMENT = {**os.environ, "PYTHONPATH": str(TOP / "python")}
-
-
-def rotate_body(name):
-    """The body of a ROTATE to a file."""
-    return b"\x04" + bytes(7) + name.encode()
 
 
 def log(*numbers, following=None):
     """A log of transactions with these GTIDs' numbers, and a ROTATE where another log follows."""
-    content = logs.front()
-    for number in numbers:
-        content += logs.insert(len(content), number)
-    return logs.appended(content, ROTATE, rotate_body(following)) if following else content
+    return logs.log_of([*map(logs.insert, numbers), *([logs.rotate(following)] if following else [])])
 
 
 def line(number, place, name):
@@ -324,7 +315,7 @@ class Growing(ServerTest):
 
     def test_a_fault_comes_behind_the_lines_before_it(self):
         self.index("binlog.000001")
-        self.log("binlog.000001", logs.appended(log(1), 40, b""))
+        self.log("binlog.000001", logs.appended(log(1), logs.event(40)))
         out = io.BytesIO()
         with self.assertRaises(LogFault):
             self.followed(out)
@@ -607,7 +598,7 @@ class CommandLine(ServerTest):
         self.assertTrue(said.startswith(b"binlogfeed: binlog.000001 is gone"), said)
 
     def test_log_fault(self):
-        self.log("binlog.000001", logs.appended(log(1), 40, b""))
+        self.log("binlog.000001", logs.appended(log(1), logs.event(40)))
         self.index("binlog.000001")
         with self.run_follow(str(self.data), stdout=subprocess.PIPE) as process:
             out, said = process.communicate()

@@ -2,11 +2,11 @@
 import random
 import subprocess
 
+import logs
 from binlogfeed import FileFault, LogFault, LogLost, LogsGone, OutOfMemory, Place, ProgramFailed, TokenRefused, WordsRefused
 from binlogfeed import watch as watching
 from binlogfeed.program import LookingRun
 from binlogfeed.watch import Watch
-from built import logs
 from built.growing import Driver, Server
 from support import BANK, PROGRAM, SHOP, FolderTest
 
@@ -42,7 +42,7 @@ class Protocol(FolderTest):
                 self.assertEqual(lines, read(files, *words))
 
     def test_files_on_the_command_line(self):
-        path = self.put("binlog.000001", logs.worked_log())
+        path = self.put("binlog.000001", logs.A)
         driver = Driver(PROGRAM, str(path))
         self.assertEqual(driver.answer(), logs.change_lines(1, "binlog.000001"))
         self.put("binlog.000001", logs.worked_log(3))
@@ -52,19 +52,19 @@ class Protocol(FolderTest):
     def test_no_file_yet(self):
         driver = Driver(PROGRAM)
         self.assertEqual([driver.look() for _ in range(2)], [b"", b""])
-        path = self.put("binlog.000001", logs.worked_log())
+        path = self.put("binlog.000001", logs.A)
         self.assertEqual(driver.look(path), logs.change_lines(1, "binlog.000001"))
         self.assertEqual(driver.ended(), (0, b"", b""))
 
     def test_a_list_that_is_cut(self):
-        path = self.put("binlog.000001", logs.worked_log())
+        path = self.put("binlog.000001", logs.A)
         for text in (b"", str(path).encode(), f"{path}\n".encode()):
             ended = subprocess.run(FOLLOW, input=text, capture_output=True, check=False)
             self.assertEqual((ended.returncode, ended.stdout, ended.stderr), (0, b"", b""))
 
     def test_refused(self):
-        path = self.put("binlog.000001", logs.worked_log())
-        other = self.put("binlog.000002", logs.worked_log())
+        path = self.put("binlog.000001", logs.A)
+        other = self.put("binlog.000002", logs.A)
         folder = self.folder / "more"
         folder.mkdir()
         twice = folder / "binlog.000001"
@@ -95,7 +95,7 @@ class Protocol(FolderTest):
 
     def test_a_place_at_the_end(self):
         """Following begins at the end of a transaction, which no change's token names."""
-        path = self.put("binlog.000001", logs.worked_log())
+        path = self.put("binlog.000001", logs.A)
         driver = Driver(PROGRAM, "--from=371.0@binlog.000001")
         self.assertEqual(driver.look(path), b"")
         self.put("binlog.000001", logs.worked_log(2))
@@ -103,7 +103,7 @@ class Protocol(FolderTest):
         self.assertEqual(driver.ended(), (0, b"", b""))
 
     def test_a_token_that_fits_no_place(self):
-        path = self.put("binlog.000001", logs.worked_log())
+        path = self.put("binlog.000001", logs.A)
         driver = Driver(PROGRAM, "--from=370.0@binlog.000001")
         with self.assertRaises(EOFError):
             driver.look(path)
@@ -207,14 +207,14 @@ class Watching(FolderTest):
         """A list where the logs are others, an empty line where they have grown, and else nothing."""
         watch = self.watch(program=self.asking())
         first, second = self.folder / "binlog.000001", self.folder / "binlog.000002"
-        self.put("binlog.000001", logs.worked_log())
+        self.put("binlog.000001", logs.A)
         self.index("binlog.000001")
         for _ in range(3):
             self.lines(watch)
         self.put("binlog.000001", logs.worked_log(2))
         self.assertEqual(watch.place.token, "153.1@binlog.000001")
         self.lines(watch)
-        self.put("binlog.000002", logs.worked_log())
+        self.put("binlog.000002", logs.A)
         self.index("binlog.000001", "binlog.000002")
         self.lines(watch)
         self.lines(watch)
@@ -235,8 +235,8 @@ class Watching(FolderTest):
         watching.beginning = counted
         self.addCleanup(setattr, watching, "beginning", before)
         watch = self.watch()
-        self.put("binlog.000001", logs.worked_log())
-        self.put("binlog.000002", logs.worked_log())
+        self.put("binlog.000001", logs.A)
+        self.put("binlog.000002", logs.A)
         self.index("binlog.000001", "binlog.000002")
         for _ in range(3):
             self.lines(watch)
@@ -251,9 +251,9 @@ class Watching(FolderTest):
         self.index("binlog.000001")
         watch = self.watch()
         self.assertEqual(self.lines(watch), logs.change_lines(1, "binlog.000001"))
-        self.put("binlog.000001", logs.worked_log())
+        self.put("binlog.000001", logs.A)
         self.assertEqual(self.lines(watch), b"")
-        self.put("binlog.000001", logs.worked_log()[:-1])
+        self.put("binlog.000001", logs.A[:-1])
         with self.assertRaises(LogLost) as caught:
             self.lines(watch)
         self.assertEqual((caught.exception.status, caught.exception.file), (3, "binlog.000001"))
@@ -300,7 +300,7 @@ class Watching(FolderTest):
 
     def test_named_files(self):
         """They need no names of a server's, and no index."""
-        first, second = self.put("a", logs.worked_log()), self.put("b", logs.worked_log())
+        first, second = self.put("a", logs.A), self.put("b", logs.A)
         watch = self.watch(where=[first, second])
         self.assertEqual(self.lines(watch), logs.change_lines(1, "a") + logs.change_lines(1, "b"))
         self.put("b", logs.worked_log(2))

@@ -8,12 +8,12 @@ import unittest
 from unittest import mock
 
 import fitting
+import logs
 from binlogfeed import BinLogStreamReader, ConversionFailed, LogFault, LogLost, LogsGone, OutOfMemory, Place, XidEvent
 from binlogfeed import watch as watching
 from binlogfeed.follow import read_state
 from binlogfeed.logs import beginning, listed
 from binlogfeed.watch import Watch
-from built import logs
 from support import PROGRAM, SECONDS, SHOP, FolderTest
 
 # A line of `read --full`, but for its token.
@@ -143,10 +143,10 @@ class Looks(ReaderTest):
 
     def test_a_log_that_is_put_in_the_place_of_another(self):
         """It is as long as the one before it, and as old, as a copy may be."""
-        path = self.put("binlog.000001", logs.worked_log())
+        path = self.put("binlog.000001", logs.A)
         watch, found = self.watch(PROGRAM), path.stat()
         self.assertEqual(b"".join(watch.look()), logs.change_lines(1, path.name))
-        new = bytearray(logs.worked_log())
+        new = bytearray(logs.A)
         new[4:8] = (logs.TIME + 1).to_bytes(4, "little")
         other = self.put("new", bytes(new))
         os.utime(other, ns=(found.st_atime_ns, found.st_mtime_ns))
@@ -157,7 +157,7 @@ class Looks(ReaderTest):
 
     def test_ended_while_the_program_starts(self):
         """Another thread ends the watch, and sees no run yet."""
-        self.put("binlog.000001", logs.worked_log())
+        self.put("binlog.000001", logs.A)
         watch = self.watch(self.stub(f"echo $$ > {self.folder}/process\nexec sleep {SECONDS}"))
         begin = watching.LookingRun
 
@@ -191,7 +191,7 @@ class Looks(ReaderTest):
 
     def test_a_first_event_that_says_it_is_long(self):
         """As much isn't read of a log that is damaged there: no server's first event has so many bytes."""
-        front = bytearray(logs.front()[:23])
+        front = bytearray(logs.FRONT[:23])
         front[13:17] = (64 << 20).to_bytes(4, "little")
         path = self.put("binlog.000001", bytes(front))
         os.truncate(path, 128 << 20)

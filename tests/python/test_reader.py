@@ -10,6 +10,7 @@ import time
 import tracemalloc
 from decimal import Decimal
 
+import logs
 from binlogfeed import (
     BinLogStreamReader,
     BinlogfeedError,
@@ -29,7 +30,6 @@ from binlogfeed import (
     floats,
 )
 from binlogfeed.watch import Watch
-from built import logs
 from built.growing import Server
 from support import BANK, PROGRAM, SECONDS, SHOP, TOP, FolderTest, bank_rows
 
@@ -84,12 +84,8 @@ class Events(FolderTest):
         self.assertEqual(weights, [0.1, 0.35, 1.2])
 
     def test_bytes_that_are_not_text(self):
-        log = logs.front()
-        rows = bytes.fromhex("6400000000000100020002fffc0100000002fffe")
-        bodies = {logs.QUERY: logs.BEGIN_BODY, logs.TABLE_MAP: logs.MAP_BODY, logs.WRITE_ROWS: rows, logs.XID: logs.XID_BODY}
-        for kind, body in bodies.items():
-            log = logs.appended(log, kind, body)
-        (event,) = reader(self.put("binlog.000001", log))
+        rows = logs.event(logs.WRITE_ROWS, logs.parts("rows-head fc u32:1 02 fffe"))
+        (event,) = reader(self.put("binlog.000001", logs.log_of([logs.parts("begin map-t"), rows, logs.parts("xid")])))
         self.assertEqual(event.rows, [{"values": {"id": 1, "v": b"\xff\xfe"}}])
         self.assertIsNone(event.gtid)
 
@@ -406,7 +402,7 @@ class Blocking(FolderTest):
 
     def test_a_transaction_is_given_at_once(self):
         """It doesn't wait for the next one."""
-        path = self.put("binlog.000001", logs.worked_log())
+        path = self.put("binlog.000001", logs.A)
         transactions = self.reader(path).transactions()
         for count in (1, 2, 3):
             self.assertEqual(next(transactions).token, f"{153 + 218 * (count - 1)}.1@binlog.000001")
@@ -497,12 +493,12 @@ class Blocking(FolderTest):
         for others in ((), ("binlog.000000",)):
             with self.subTest(others=others):
                 for other in others:
-                    self.put(other, logs.worked_log())
+                    self.put(other, logs.A)
                 self.put("binlog.000001", first)
                 (self.folder / "binlog.000002").unlink(missing_ok=True)
                 found = self.taken_behind(f"{self.folder}/binlog.0*", lambda: self.put("binlog.000002", following), len(wanted))
                 self.assertEqual(found, wanted)
-        self.put("binlog.000009", logs.worked_log())
+        self.put("binlog.000009", logs.A)
         _, taken, thread = self.begun_at_the_end(f"{self.folder}/binlog.0*")
         self.append("binlog.000009", logs.worked_log(2)[371:])
         while thread.is_alive() and not taken:
@@ -512,14 +508,14 @@ class Blocking(FolderTest):
     def test_from_the_end_where_no_log_is_yet(self):
         """All that comes comes later."""
         events = self.reader(f"{self.folder}/binlog.0*", resume_stream=True)
-        late = threading.Timer(0.1, self.put, ("binlog.000001", logs.worked_log()))
+        late = threading.Timer(0.1, self.put, ("binlog.000001", logs.A))
         late.start()
         with self.assertWarns(UserWarning):
             self.assertEqual(next(events).token, "153.1@binlog.000001")
 
     def test_from_the_end_behind_a_fault(self):
         """What can't be read can't be passed over."""
-        path = self.put("binlog.000001", logs.appended(logs.worked_log(), 40, b""))
+        path = self.put("binlog.000001", logs.appended(logs.A, logs.event(40)))
         with self.assertRaises(LogFault):
             next(self.reader(path, resume_stream=True))
 
@@ -540,7 +536,7 @@ class Blocking(FolderTest):
                 list(watch.look())
 
     def test_the_end_for_a_closed_watch(self):
-        path = self.put("binlog.000001", logs.worked_log())
+        path = self.put("binlog.000001", logs.A)
         watch = Watch([path], [self.stub("exec sleep 60"), "read", "--follow"], Place())
         watch.end()
         started = time.monotonic()
@@ -548,7 +544,7 @@ class Blocking(FolderTest):
         self.assertLess(time.monotonic() - started, 30)
 
     def test_close_while_it_looks_for_the_end(self):
-        path = self.put("binlog.000001", logs.worked_log())
+        path = self.put("binlog.000001", logs.A)
         for seconds in (0, 0.01, 0.1):
             events = BinLogStreamReader(path, program=self.stub("exec sleep 60"), blocking=True, resume_stream=True)
             closer = threading.Timer(seconds, events.close)
@@ -559,7 +555,7 @@ class Blocking(FolderTest):
             self.assertLess(time.monotonic() - started, 30)
 
     def test_refused_tokens(self):
-        path = self.put("binlog.000001", logs.worked_log())
+        path = self.put("binlog.000001", logs.A)
         for token, name in (("153", "BadToken"), ("0153.1@binlog.000001", "BadToken"), ("4.1@binlog.000001", "TokenNoTransaction")):
             with self.assertRaises(TokenRefused) as caught:
                 next(self.reader(path, resume=token))
@@ -570,7 +566,7 @@ class Blocking(FolderTest):
 
     def test_errors(self):
         """They come behind the events before them, and no event follows."""
-        path = self.put("binlog.000001", logs.appended(logs.worked_log(), 40, b""))
+        path = self.put("binlog.000001", logs.appended(logs.A, logs.event(40)))
         events = self.reader(path)
         self.assertEqual(next(events).token, "153.1@binlog.000001")
         with self.assertRaises(LogFault):
@@ -584,7 +580,7 @@ class Blocking(FolderTest):
     def test_a_pattern_that_matches_nothing_yet(self):
         """It is warned of once."""
         events = self.reader(f"{self.folder}/binlog.0*")
-        late = threading.Timer(0.1, self.put, ("binlog.000001", logs.worked_log()))
+        late = threading.Timer(0.1, self.put, ("binlog.000001", logs.A))
         late.start()
         with self.assertWarns(UserWarning) as caught:
             self.assertEqual(next(events).token, "153.1@binlog.000001")
@@ -592,7 +588,7 @@ class Blocking(FolderTest):
 
     def test_close(self):
         """By another thread: while the reader waits for the program, while it waits for more, and while it begins."""
-        path = self.put("binlog.000001", logs.worked_log())
+        path = self.put("binlog.000001", logs.A)
         for program in (PROGRAM, self.stub("exec sleep 60"), self.stub("read line\necho\nexec sleep 60")):
             for seconds in (0, 0.001, 0.01, 0.1):
                 events = BinLogStreamReader(path, program=program, blocking=True, interval=60)
@@ -618,7 +614,7 @@ class Errors(FolderTest):
 
     def test_log_fault(self):
         # Kind 40 is TRANSACTION_PAYLOAD. The log before it has 371 bytes.
-        fault, found = self.fault("binlog.000001", logs.appended(logs.worked_log(), 40, b""))
+        fault, found = self.fault("binlog.000001", logs.appended(logs.A, logs.event(40)))
         self.assertEqual((fault.file, fault.position, fault.what), ("binlog.000001", 371, "KindOutOfProfile(40)"))
         self.assertEqual(fault.line, "binlogfeed: log fault at binlog.000001:371: KindOutOfProfile(40)")
         self.assertEqual((fault.status, found), (1, ["153.1@binlog.000001"]))
@@ -629,7 +625,7 @@ class Errors(FolderTest):
         self.assertEqual((fault.file, fault.position, fault.what), (name, 0, "BadMagic"))
 
     def test_transactions_before_a_fault(self):
-        path = self.put("binlog.000001", logs.appended(logs.worked_log(2), 40, b""))
+        path = self.put("binlog.000001", logs.appended(logs.worked_log(2), logs.event(40)))
         found = []
         with self.assertRaises(LogFault):
             for transaction in reader(path).transactions():
@@ -645,7 +641,7 @@ class Errors(FolderTest):
         self.assertEqual(caught.exception.line, "binlogfeed: duplicate file binlog.000001")
 
     def test_token_refused(self):
-        path = self.put("binlog.000001", logs.worked_log())
+        path = self.put("binlog.000001", logs.A)
         cases = [
             ("0153.1@binlog.000001", "BadToken"),
             ("153.1@binlog.000002", "TokenNoFile"),
@@ -663,7 +659,7 @@ class Errors(FolderTest):
         self.assertEqual(caught.exception.line, f"binlogfeed: cannot open {self.folder}/missing")
 
     def test_out_of_memory(self):
-        path = self.put("binlog.000001", logs.appended(logs.worked_log(), logs.XID, bytes(64 << 20), logs.IGNORABLE))
+        path = self.put("binlog.000001", logs.appended(logs.A, logs.event(logs.XID, bytes(64 << 20), logs.IGNORABLE)))
         program = self.stub(f"ulimit -v 30000\nexec {PROGRAM} \"$@\"")
         with self.assertRaises(OutOfMemory):
             list(BinLogStreamReader(path, program=program))

@@ -17,6 +17,7 @@ from collections import Counter
 from html.parser import HTMLParser
 from unittest import TestCase, mock
 
+import logs
 from binlogfeed import LogFault, ProgramFailed
 from binlogfeed import program as running_program
 from binlogfeed.summary import reading
@@ -30,7 +31,6 @@ from binlogfeed.summary.text import as_text, bar, shown_width
 from binlogfeed.summary.times import Times, spoken
 from binlogfeed.summary.told import byte_sizes, change_sizes
 from binlogfeed.summary.units import Limit, Unit, lines_within
-from built import logs
 from support import BANK, PROGRAM, SECONDS, SHOP, TOP, FolderTest, running
 from test_documents import blocks
 
@@ -38,10 +38,6 @@ SETTINGS = {"PYTHONPATH": str(TOP / "python"), "PYTHONDONTWRITEBYTECODE": "1", "
 ENVIRONMENT = {name: value for name, value in {**os.environ, **SETTINGS}.items() if name != "COLUMNS"}
 SHOP_SOURCE = "3e11fa47-71ca-11e1-9e33-c80aa9429562"
 SHOP_TIME = 1795332186
-ROLLBACK_BODY = logs.BEGIN_BODY.replace(b"BEGIN", b"ROLLBACK")
-# The events that insert one row.
-ONE_ROW = ((logs.TABLE_MAP, logs.MAP_BODY), (logs.WRITE_ROWS, logs.ROWS_BODY))
-COMMIT_BODY = logs.BEGIN_BODY.replace(b"BEGIN", b"COMMIT")
 # What the shop's statements do, counted by hand. The purchase that is rolled back stands in no log.
 SHOP_TABLES = {
     Table("shop", "customer"): {"insert": 3, "update": 2, "delete": 1},
@@ -311,7 +307,7 @@ class Counting(FolderTest):
         self.assertEqual(changes.sizes.largest[0], (3, Change(7, "4.3@f", None)))
 
     def test_empty(self):
-        for content in (b"", logs.MAGIC, logs.front()):
+        for content in (b"", logs.MAGIC, logs.FRONT):
             found = summed_up([self.put("binlog.000001", content)], (), PROGRAM)
             self.assertEqual((found.changes.total, found.changes.first, found.units.endings), (0, None, {}))
             parsed(as_page(found))
@@ -319,13 +315,8 @@ class Counting(FolderTest):
 
     def test_endings_and_gaps(self):
         """Each ending, a statement, a transaction without a GTID, and numbers that are missing and come late."""
-        content = logs.front()
-        for number in (1, 2, 9, 5, 6, 12):
-            content += logs.insert(len(content), number)
-        for end in (COMMIT_BODY, ROLLBACK_BODY):
-            for kind, body in ((logs.QUERY, logs.BEGIN_BODY), *ONE_ROW, (logs.QUERY, end)):
-                content = logs.appended(content, kind, body)
-        content = logs.appended(content, logs.QUERY, COMMIT_BODY)
+        without_gtid = logs.parts("begin map-t insert-1-a commit begin map-t insert-1-a rollback commit")
+        content = logs.log_of([*map(logs.insert, (1, 2, 9, 5, 6, 12)), without_gtid])
         found = summed_up([self.put("binlog.000001", content)], (), PROGRAM)
         self.assertEqual(found.units.endings, {"xid": 6, "commit": 1, "rollback": 1, "statement": 1})
         self.assertEqual((found.units.without_gtid, found.changes.total), (3, 7))
@@ -347,8 +338,7 @@ class Faults(FolderTest):
 
     def test_fault(self):
         """What stands before a fault is told, and the fault itself."""
-        content = logs.appended(logs.worked_log(2), 40, b"compressed")
-        path = self.put("binlog.000001", content + logs.insert(len(content), 3))
+        path = self.put("binlog.000001", logs.appended(logs.worked_log(2), logs.event(40, b"compressed"), logs.insert(3)))
         line = "binlogfeed: log fault at binlog.000001:589: KindOutOfProfile(40)"
         page = self.folder / "page"
         ended = ran("--html", page, path)
@@ -359,9 +349,7 @@ class Faults(FolderTest):
 
     def test_fault_in_rows(self):
         """`transactions` looks at no row. What it tells of transactions behind the fault isn't taken."""
-        content = logs.worked_log(2)
-        content += logs.transaction(len(content), 3, (logs.WRITE_ROWS, logs.ROWS_BODY))
-        content += logs.insert(len(content), 4)
+        content = logs.appended(logs.worked_log(2), logs.transaction(3, logs.parts("insert-1-a")), logs.insert(4))
         contents = (logs.worked_log(3), content, logs.worked_log(5))
         files = [self.put(f"binlog.00000{number}", one) for number, one in enumerate(contents, 1)]
         for size, workers in ((reading.BLOCK, 0), (70, 0), (70, 2)):
@@ -561,12 +549,9 @@ class Telling(FolderTest):
 
     def test_small_and_empty_transactions(self):
         """Transactions of 66 bytes that change nothing, of one row, and of 1,001 bytes with a long statement."""
-        content = logs.front()
         # The statement has a header of 19 bytes, and 15 before its text; what is around it has 66.
-        statement = (logs.QUERY, logs.BEGIN_BODY.replace(b"BEGIN", b"x" * (1_001 - 66 - 19 - 15)))
-        for inside in ((), ONE_ROW, (statement,)):
-            for kind, body in ((logs.QUERY, logs.BEGIN_BODY), *inside, (logs.XID, logs.XID_BODY)):
-                content = logs.appended(content, kind, body)
+        inside = (b"", logs.parts("map-t insert-1-a"), logs.query("x" * (1_001 - 66 - 19 - 15)))
+        content = logs.log_of(logs.parts("begin") + events + logs.parts("xid") for events in inside)
         found = summed_up([self.put("binlog.000001", content)], (), PROGRAM)
         self.assertEqual(change_sizes(found), [("none", 2), ("1", 1)])
         self.assertEqual(byte_sizes(found), [("up to 1 kB", 2), ("1 kB-10 kB", 1)])
@@ -575,13 +560,8 @@ class Telling(FolderTest):
     def test_names_in_both(self):
         """A table whose name is a piece of a page, one that would move the cursor, and one with wide letters."""
         names = ["<script>alert(1)</script>", '"&\'><b>', "\x1b[2J\n", "李清照", "x" * 60]
-        content = logs.front()
-        for number, name in enumerate(names, 1):
-            content += logs.transaction(
-                len(content), number,
-                (logs.TABLE_MAP, logs.MAP_BODY[:11] + bytes([len(name.encode())]) + name.encode() + logs.MAP_BODY[13:]),
-                (logs.WRITE_ROWS, logs.ROWS_BODY),
-            )  # fmt: skip
+        inserts = (logs.transaction(number, logs.map_as_t(name), logs.parts("insert-1-a")) for number, name in enumerate(names, 1))
+        content = logs.log_of(inserts)
         found = summed_up([self.put("<b>&.000001", content)], ["--ignored-tables=<i>"], PROGRAM)
         self.assertEqual([table.name for table in found.changes.tables()], sorted(names))
         parser = parsed(as_page(found))

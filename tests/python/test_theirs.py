@@ -9,6 +9,7 @@ import sys
 import unittest
 from pathlib import Path
 
+import logs
 from binlogfeed import (
     BinlogfeedError,
     BinLogStreamReader,
@@ -22,7 +23,6 @@ from binlogfeed import (
     WriteRowsEvent,
     XidEvent,
 )
-from built import logs
 from support import BANK, PROGRAM, SECONDS, SHOP, TOP, FolderTest
 
 THEIRS = Path(__file__).resolve().parent / "theirs"
@@ -175,7 +175,7 @@ class Events(FolderTest):
 
     def test_commit_before_a_fault(self):
         """The transaction before a fault is whole, and its rows and commit come before the fault."""
-        path = self.put("binlog.000001", logs.appended(logs.worked_log(), 40, b""))
+        path = self.put("binlog.000001", logs.appended(logs.A, logs.event(40)))
         for only, wanted in (([XidEvent], [XidEvent]), ([WriteRowsEvent, XidEvent], [WriteRowsEvent, XidEvent])):
             found = []
             with self.assertRaises(LogFault):
