@@ -12,3 +12,4 @@ pub mod PrintedDocuments
 pub mod FloatNumbers
 pub mod ReadDocuments
 pub mod JsonTexts
+pub mod Fronts

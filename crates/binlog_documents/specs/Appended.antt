@@ -1,16 +1,27 @@
 -- What is appended to a text while a document is read.
-use Rattle.std.specs.Prelude.{◌≡◌, ℕ, List, [], ◌∷◌, ◌++◌, Bool, true, false, Option, Some, None, option_map}
+use Rattle.std.specs.Prelude.{◌≡◌, ◌≤◌, length, take, ℕ, List, [], ◌∷◌, ◌++◌, Bool, true, false, Option, Some, None, option_map}
 use Rattle.json.specs.Print.{quoted}
-use Rattle.binlog_documents.specs.Containers.{elements_of, members_of, value_at}
+use Rattle.binlog_documents.specs.Containers.{array_at, object_at, elements_of, members_of, value_at}
 use Rattle.binlog_documents.specs.Scalars.{Reading}
 use Rattle.binlog_documents.specs.Texts.{document_text, elements_text, members_text}
 use Rattle.binlog_documents.specs.Widths.{bytes_of, container_view}
 use Rattle.binlog_documents.specs.declared.container.Container as stored
 use Rattle.binlog_documents.specs.declared.container.Width.{Width}
 
+-- bytes that are the first ones of others
+abbrev pub IsFrontOf : List ℕ → List ℕ → Type 0
+IsFrontOf ahead bytes = (length bytes ≤ length ahead) × (take (length bytes) ahead ≡ bytes)
+
 -- a text that is read, behind what stands there, and where it ends
 abbrev pub behind : List ℕ → Reading → Option (List ℕ × ℕ)
 behind front reading = option_map (λ x. (front ++ document_text x.0, x.1)) reading
+
+-- an array, and an object, whose values lie no deeper
+abbrev pub array_of : ℕ → Width → List ℕ → Reading
+array_of depth width bytes = array_at (value_at depth) (bytes_of width) bytes
+
+abbrev pub object_of : ℕ → Width → List ℕ → Reading
+object_of depth width bytes = object_at (value_at depth) (bytes_of width) bytes
 
 -- Where there is a value, its text was appended, and the place is where it ends.
 abbrev pub IsAppended : List ℕ → List ℕ → Reading → Option ℕ → Type 0

@@ -2,6 +2,7 @@
 ghost use Rattle.std.specs.Prelude.{◌≡◌, ◌<◌, ◌≤◌, ◌+◌, ◌*◌, ◌^◌, length, option_map, IfSome};
 ghost use Rattle.byteorder.specs.Endian.{little_number};
 ghost use Rattle.binlog_documents.specs.Containers.{container_at, element_entry, is_inlined, key_entry, keys_end, member_entries, value_place};
+ghost use Rattle.binlog_documents.specs.Appended.{IsFrontOf};
 ghost use Rattle.binlog_documents.specs.Widths.{bytes_of, container_view};
 
 use byteorder::{ByteOrder, LittleEndian};
@@ -55,6 +56,7 @@ pub(crate) fn container_at(bytes: &[u8], width: Width, entry_len: usize) -> Opti
     ensures value { option_map container_view result ≡ container_at entry_len (bytes_of width) bytes.now }
     ensures room { IfSome result (λ c. 2 * bytes_of width + c.count * entry_len ≤ length c.bytes.now) }
     ensures within { IfSome result (λ c. length c.bytes.now ≤ length bytes.now) }
+    ensures front { IfSome result (λ c. IsFrontOf bytes.now c.bytes.now) }
     ensures bound { IfSome result (λ c. c.count < 2 ^ 32) }
 {
     let head = 2 * width.bytes();

@@ -2,11 +2,12 @@
 //! none, what was written of the others is left to the caller to take back.
 ghost use Rattle.std.specs.Prelude.{◌≡◌, ◌<◌, ◌≤◌, ◌+◌, ◌*◌, ◌^◌, length, IfOk, IfSome, option_map, false};
 ghost use Rattle.binlog_documents.specs.Scalars.{scalar_at, text_at};
-ghost use Rattle.binlog_documents.specs.Containers.{value_in, key_in, elements_of, members_of, array_at, object_at, value_at, element_entry, member_entries};
+ghost use Rattle.binlog_documents.specs.Containers.{value_in, key_in, elements_of, members_of, value_at, element_entry, member_entries};
 ghost use Rattle.binlog_documents.specs.Texts.{elements_text, members_text};
 ghost use Rattle.binlog_documents.specs.Widths.{bytes_of, container_view};
-ghost use Rattle.binlog_documents.specs.Appended.{IsAppended, IsKeyAppended, IsRead, text_of_elements, text_of_members};
+ghost use Rattle.binlog_documents.specs.Appended.{IsAppended, IsFrontOf, IsKeyAppended, IsRead, array_of, object_of, text_of_elements, text_of_members};
 ghost use Rattle.binlog_documents.specs.Drafts.{said};
+ghost use Rattle.binlog_documents.specs.declared.container.Width.TheVariants.{Two, Four};
 
 use crate::append::{append_comma, append_key, append_scalar, append_text};
 use crate::bytes::text_length_at;
@@ -58,24 +59,26 @@ pub(crate) fn append_scalar_at(
     Ok(Some(len))
 }
 
-/// The key of the entry at a place with its colon, and where it ends.
+/// The key of the entry at a place with its colon, and where it ends. What stands behind the bytes may be looked at.
 #[inline(always)]
 #[tactic(auto, unfolding(crate::specs::Containers::key_in))]
 fn append_key_in(
     out: &mut Draft,
     bytes: &[u8],
+    ahead: &[u8],
     width: Width,
     entry: usize,
     from: usize,
 ) -> Result<Option<usize>, AllocError>
-    requires { entry + (bytes_of width + 2) ≤ length bytes.now }
+    requires room { entry + (bytes_of width + 2) ≤ length bytes.now }
+    requires front { IsFrontOf ahead.now bytes.now }
     ensures { IfOk result (IsKeyAppended (said out.old) (said out.new) (key_in (bytes_of width) bytes.now entry from)) }
 {
     let (place, len) = key_entry(bytes, width, entry);
     if place < from || place + len > bytes.len() {
         return Ok(None);
     }
-    if !append_key(out, &bytes[place..], len)? {
+    if !append_key(out, &ahead[place..], len)? {
         return Ok(None);
     }
     Ok(Some(place + len))
@@ -114,7 +117,7 @@ fn append_small_array(
     bytes: &[u8],
     depth: usize,
 ) -> Result<Option<usize>, AllocError>
-    ensures text { IfOk result (IsAppended (said out.old) (said out.new) (array_at (value_at depth) 2 bytes.now)) }
+    ensures text { IfOk result (IsAppended (said out.old) (said out.new) (array_of depth Two bytes.now)) }
     ensures within { IfOk result (λ end. IfSome end (λ len. len ≤ length bytes.now)) }
 {
     append_array(out, bytes, Width::Two, depth)
@@ -128,7 +131,7 @@ fn append_large_array(
     bytes: &[u8],
     depth: usize,
 ) -> Result<Option<usize>, AllocError>
-    ensures text { IfOk result (IsAppended (said out.old) (said out.new) (array_at (value_at depth) 4 bytes.now)) }
+    ensures text { IfOk result (IsAppended (said out.old) (said out.new) (array_of depth Four bytes.now)) }
     ensures within { IfOk result (λ end. IfSome end (λ len. len ≤ length bytes.now)) }
 {
     append_array(out, bytes, Width::Four, depth)
@@ -144,14 +147,14 @@ fn append_array(
     width: Width,
     depth: usize,
 ) -> Result<Option<usize>, AllocError>
-    ensures text { IfOk result (IsAppended (said out.old) (said out.new) (array_at (value_at depth) (bytes_of width) bytes.now)) }
+    ensures text { IfOk result (IsAppended (said out.old) (said out.new) (array_of depth width bytes.now)) }
     ensures within { IfOk result (λ end. IfSome end (λ len. len ≤ length bytes.now)) }
 {
     let Some(array) = container_at(bytes, width, width.bytes() + 1) else {
         return Ok(None);
     };
     out.push_byte(b'[')?;
-    if !append_elements(out, array, width, depth)? {
+    if !append_elements(out, array, bytes, width, depth)? {
         return Ok(None);
     }
     out.push_byte(b']')?;
@@ -164,11 +167,13 @@ fn append_array(
 fn append_elements(
     out: &mut Draft,
     array: Container<'_>,
+    ahead: &[u8],
     width: Width,
     depth: usize,
 ) -> Result<bool, AllocError>
     requires room { 2 * bytes_of width + array.count * element_entry (bytes_of width) ≤ length array.bytes.now }
     requires few { array.count < 2 ^ 32 }
+    requires front { IsFrontOf ahead.now array.bytes.now }
     ensures text { IfOk result (IsRead (said out.old) (said out.new) (text_of_elements depth width array.entry)) }
 {
     let step = width.bytes() + 1;
@@ -176,7 +181,7 @@ fn append_elements(
     let mut from = entry + array.count * step;
     for place in 0..array.count {
         append_comma(out, place > 0)?;
-        let Some(end) = append_value_in(out, array.bytes, width, entry, from, depth)? else {
+        let Some(end) = append_value_in(out, array.bytes, ahead, width, entry, from, depth)? else {
             return Ok(false);
         };
         entry += step;
@@ -193,7 +198,7 @@ fn append_small_object(
     bytes: &[u8],
     depth: usize,
 ) -> Result<Option<usize>, AllocError>
-    ensures text { IfOk result (IsAppended (said out.old) (said out.new) (object_at (value_at depth) 2 bytes.now)) }
+    ensures text { IfOk result (IsAppended (said out.old) (said out.new) (object_of depth Two bytes.now)) }
     ensures within { IfOk result (λ end. IfSome end (λ len. len ≤ length bytes.now)) }
 {
     append_object(out, bytes, Width::Two, depth)
@@ -207,7 +212,7 @@ fn append_large_object(
     bytes: &[u8],
     depth: usize,
 ) -> Result<Option<usize>, AllocError>
-    ensures text { IfOk result (IsAppended (said out.old) (said out.new) (object_at (value_at depth) 4 bytes.now)) }
+    ensures text { IfOk result (IsAppended (said out.old) (said out.new) (object_of depth Four bytes.now)) }
     ensures within { IfOk result (λ end. IfSome end (λ len. len ≤ length bytes.now)) }
 {
     append_object(out, bytes, Width::Four, depth)
@@ -223,7 +228,7 @@ fn append_object(
     width: Width,
     depth: usize,
 ) -> Result<Option<usize>, AllocError>
-    ensures text { IfOk result (IsAppended (said out.old) (said out.new) (object_at (value_at depth) (bytes_of width) bytes.now)) }
+    ensures text { IfOk result (IsAppended (said out.old) (said out.new) (object_of depth width bytes.now)) }
     ensures within { IfOk result (λ end. IfSome end (λ len. len ≤ length bytes.now)) }
 {
     let entries = (width.bytes() + 2) + (width.bytes() + 1);
@@ -231,7 +236,7 @@ fn append_object(
         return Ok(None);
     };
     out.push_byte(b'{')?;
-    if !append_members(out, object, width, depth)? {
+    if !append_members(out, object, bytes, width, depth)? {
         return Ok(None);
     }
     out.push_byte(b'}')?;
@@ -244,11 +249,13 @@ fn append_object(
 fn append_members(
     out: &mut Draft,
     object: Container<'_>,
+    ahead: &[u8],
     width: Width,
     depth: usize,
 ) -> Result<bool, AllocError>
     requires room { 2 * bytes_of width + object.count * member_entries (bytes_of width) ≤ length object.bytes.now }
     requires few { object.count < 2 ^ 32 }
+    requires front { IsFrontOf ahead.now object.bytes.now }
     ensures text { IfOk result (IsRead (said out.old) (said out.new) (text_of_members depth width object.entry)) }
 {
     let key_step = width.bytes() + 2;
@@ -259,10 +266,11 @@ fn append_members(
     let mut from = keys_end(object, width);
     for place in 0..object.count {
         append_comma(out, place > 0)?;
-        let Some(key_end) = append_key_in(out, object.bytes, width, key_entry, key_from)? else {
+        let Some(key_end) = append_key_in(out, object.bytes, ahead, width, key_entry, key_from)?
+        else {
             return Ok(false);
         };
-        let Some(end) = append_value_in(out, object.bytes, width, entry, from, depth)? else {
+        let Some(end) = append_value_in(out, object.bytes, ahead, width, entry, from, depth)? else {
             return Ok(false);
         };
         key_entry += key_step;
@@ -280,12 +288,14 @@ fn append_members(
 fn append_value_in(
     out: &mut Draft,
     bytes: &[u8],
+    ahead: &[u8],
     width: Width,
     entry: usize,
     from: usize,
     depth: usize,
 ) -> Result<Option<usize>, AllocError>
-    requires { entry + element_entry (bytes_of width) ≤ length bytes.now }
+    requires room { entry + element_entry (bytes_of width) ≤ length bytes.now }
+    requires front { IsFrontOf ahead.now bytes.now }
     ensures text { IfOk result (IsAppended (said out.old) (said out.new) (value_in (value_at depth) (bytes_of width) bytes.now entry from)) }
 {
     let kind = bytes[entry];
@@ -298,8 +308,11 @@ fn append_value_in(
     let Some(place) = value_place(bytes, width, entry, from) else {
         return Ok(None);
     };
-    match append_value(out, kind, &bytes[place..], depth)? {
-        None => Ok(None),
-        Some(len) => Ok(Some(place + len)),
+    let Some(len) = append_value(out, kind, &ahead[place..], depth)? else {
+        return Ok(None);
+    };
+    if len > bytes.len() - place {
+        return Ok(None);
     }
+    Ok(Some(place + len))
 }

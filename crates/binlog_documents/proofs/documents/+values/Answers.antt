@@ -1,8 +1,10 @@
-use Rattle.std.proofs.Common.{◌+◌, ◌-◌, length, false, nat_lt, arith, rules}
+use Rattle.std.proofs.Common.{◌∙◌, sym, ◌+◌, ◌-◌, length, false, nat_lt, arith, rules}
 use Rattle.binlog_documents.specs.Containers.{value_at, elements_of, members_of}
 use Rattle.binlog_documents.specs.Drafts.{said}
 use Rattle.binlog_documents.specs.Widths.{bytes_of, container_view}
 use Rattle.binlog_documents.proofs.Steps.{elements-end, elements-go, elements-stop, elements_behind, entry-room, is-later, members-end, members-go, members-stop, members-stop_at_key, members_behind}
+use Rattle.std.proofs.lemmas.List.{take_rest}
+use Rattle.binlog_documents.proofs.Fronts.{value-none, value-passes, value-reaches}
 use Rattle.binlog_documents.proofs.documents.+values.Goals as goal
 
 pub append_elements-loop-place-preserved : goal.append_elements-loop-place-preserved
@@ -80,4 +82,31 @@ pub append_members-append_value_in-requires : goal.append_members-append_value_i
 append_members-append_value_in-requires t c =
     let l = c.loop-place in
     let room = (entry-room l.entry c.args.object.count l.place (c.bytes-step.result + 1) (length c.args.object.bytes.now) c.loop-place-test.true l.invariant.room).0 in
-    (search rules, omega arith)
+    (search rules, (omega arith, c.requires.front))
+
+pub append_value_in-returns-in_default-2 : goal.append_value_in-returns-in_default-2
+append_value_in-returns-in_default-2 t c =
+    let a = c.args in
+    let read = rw (take_rest a.ahead.now c.in-Some-value_place.place) at c.in_ok-len.ensures.text in
+    record {
+      text = value-none a.depth (bytes_of a.width) a.entry a.from c.in-Some-value_place.place a.ahead.now a.bytes.now (said a.out.now) (said c.append_value.new.out) c.requires.front c.in-Some-value_place.ensures.within
+          (sym c.is_inlined.ensures ∙ c.if-is_inlined.false) (sym c.value_place.ensures.value ∙ c.in-Some-value_place.is) (rw c.in_default-2.is at read);
+    }
+
+pub append_value_in-returns-then-len-bytes : goal.append_value_in-returns-then-len-bytes
+append_value_in-returns-then-len-bytes t c =
+    let a = c.args in
+    let read = rw (take_rest a.ahead.now c.in-Some-value_place.place) at c.in_ok-len.ensures.text in
+    record {
+      text = value-passes a.depth (bytes_of a.width) a.entry a.from c.in-Some-value_place.place a.ahead.now a.bytes.now (said a.out.now) (said c.append_value.new.out) c.in-Some-2.len c.requires.front c.in-Some-value_place.ensures.within
+          (sym c.is_inlined.ensures ∙ c.if-is_inlined.false) (sym c.value_place.ensures.value ∙ c.in-Some-value_place.is) (rw c.in-Some-2.is at read) c.if-len-bytes.true;
+    }
+
+pub append_value_in-returns : goal.append_value_in-returns
+append_value_in-returns t c =
+    let a = c.args in
+    let read = rw (take_rest a.ahead.now c.in-Some-value_place.place) at c.in_ok-len.ensures.text in
+    record {
+      text = value-reaches a.depth (bytes_of a.width) a.entry a.from c.in-Some-value_place.place a.ahead.now a.bytes.now (said a.out.now) (said c.append_value.new.out) c.in-Some-2.len c.requires.front c.in-Some-value_place.ensures.within
+          (sym c.is_inlined.ensures ∙ c.if-is_inlined.false) (sym c.value_place.ensures.value ∙ c.in-Some-value_place.is) (rw c.in-Some-2.is at read) (omega (arith, c.if-len-bytes.false));
+    }
