@@ -5,8 +5,10 @@ use Rattle.binlog_documents.specs.Containers.{array_at, object_at, elements_of, 
 use Rattle.binlog_documents.specs.Scalars.{Reading}
 use Rattle.binlog_documents.specs.Texts.{document_text, elements_text, members_text}
 use Rattle.binlog_documents.specs.Widths.{bytes_of, container_view}
+use Rattle.binlog_documents.specs.Drafts.{said}
 use Rattle.binlog_documents.specs.declared.container.Container as stored
 use Rattle.binlog_documents.specs.declared.container.Width.{Width}
+use Rattle.binlog_documents.specs.declared.draft.Draft.{Draft}
 
 -- bytes that are the first ones of others
 abbrev pub IsFrontOf : List ℕ → List ℕ → Type 0
@@ -26,6 +28,10 @@ object_of depth width bytes = object_at (value_at depth) (bytes_of width) bytes
 -- Where there is a value, its text was appended, and the place is where it ends.
 abbrev pub IsAppended : List ℕ → List ℕ → Reading → Option ℕ → Type 0
 IsAppended old new reading end = option_map (λ e. (new, e)) end ≡ behind old reading
+
+-- the same of a draft
+abbrev pub Appends : Draft → Draft → Reading → Option ℕ → Type 0
+Appends old new reading end = IsAppended (said old) (said new) reading end
 
 -- the same for a key and its colon
 abbrev pub key_behind : List ℕ → Option (List ℕ × ℕ) → Option (List ℕ × ℕ)

@@ -5,7 +5,7 @@ ghost use Rattle.binlog_documents.specs.Scalars.{scalar_at, text_at};
 ghost use Rattle.binlog_documents.specs.Containers.{value_in, key_in, elements_of, members_of, value_at, element_entry, member_entries};
 ghost use Rattle.binlog_documents.specs.Texts.{elements_text, members_text};
 ghost use Rattle.binlog_documents.specs.Widths.{bytes_of, container_view};
-ghost use Rattle.binlog_documents.specs.Appended.{IsAppended, IsFrontOf, IsKeyAppended, IsRead, array_of, object_of, text_of_elements, text_of_members};
+ghost use Rattle.binlog_documents.specs.Appended.{Appends, IsFrontOf, IsKeyAppended, IsRead, array_of, object_of, text_of_elements, text_of_members};
 ghost use Rattle.binlog_documents.specs.Drafts.{said};
 ghost use Rattle.binlog_documents.specs.declared.container.Width.TheVariants.{Two, Four};
 
@@ -24,7 +24,7 @@ const TEXT: u8 = 12;
 /// The string at the front of the bytes, and where it ends.
 #[tactic(auto, unfolding(crate::specs::Scalars::text_at))]
 fn append_text_at(out: &mut Draft, bytes: &[u8]) -> Result<Option<usize>, AllocError>
-    ensures text { IfOk result (IsAppended (said out.old) (said out.new) (text_at bytes.now)) }
+    ensures text { IfOk result (Appends out.old out.new (text_at bytes.now)) }
     ensures within { IfOk result (λ end. IfSome end (λ len. len ≤ length bytes.now)) }
 {
     let Some((len, begin)) = text_length_at(bytes) else {
@@ -46,7 +46,7 @@ pub(crate) fn append_scalar_at(
     kind: u8,
     bytes: &[u8],
 ) -> Result<Option<usize>, AllocError>
-    ensures text { IfOk result (IsAppended (said out.old) (said out.new) (scalar_at kind bytes.now)) }
+    ensures text { IfOk result (Appends out.old out.new (scalar_at kind bytes.now)) }
     ensures within { IfOk result (λ end. IfSome end (λ len. len ≤ length bytes.now)) }
 {
     if kind == TEXT {
@@ -94,7 +94,7 @@ pub(crate) fn append_value(
     bytes: &[u8],
     depth: usize,
 ) -> Result<Option<usize>, AllocError>
-    ensures text { IfOk result (IsAppended (said out.old) (said out.new) (value_at depth kind bytes.now)) }
+    ensures text { IfOk result (Appends out.old out.new (value_at depth kind bytes.now)) }
     ensures within { IfOk result (λ end. IfSome end (λ len. len ≤ length bytes.now)) }
 {
     if depth == 0 {
@@ -117,7 +117,7 @@ fn append_small_array(
     bytes: &[u8],
     depth: usize,
 ) -> Result<Option<usize>, AllocError>
-    ensures text { IfOk result (IsAppended (said out.old) (said out.new) (array_of depth Two bytes.now)) }
+    ensures text { IfOk result (Appends out.old out.new (array_of depth Two bytes.now)) }
     ensures within { IfOk result (λ end. IfSome end (λ len. len ≤ length bytes.now)) }
 {
     append_array(out, bytes, Width::Two, depth)
@@ -131,7 +131,7 @@ fn append_large_array(
     bytes: &[u8],
     depth: usize,
 ) -> Result<Option<usize>, AllocError>
-    ensures text { IfOk result (IsAppended (said out.old) (said out.new) (array_of depth Four bytes.now)) }
+    ensures text { IfOk result (Appends out.old out.new (array_of depth Four bytes.now)) }
     ensures within { IfOk result (λ end. IfSome end (λ len. len ≤ length bytes.now)) }
 {
     append_array(out, bytes, Width::Four, depth)
@@ -147,7 +147,7 @@ fn append_array(
     width: Width,
     depth: usize,
 ) -> Result<Option<usize>, AllocError>
-    ensures text { IfOk result (IsAppended (said out.old) (said out.new) (array_of depth width bytes.now)) }
+    ensures text { IfOk result (Appends out.old out.new (array_of depth width bytes.now)) }
     ensures within { IfOk result (λ end. IfSome end (λ len. len ≤ length bytes.now)) }
 {
     let Some(array) = container_at(bytes, width, width.bytes() + 1) else {
@@ -198,7 +198,7 @@ fn append_small_object(
     bytes: &[u8],
     depth: usize,
 ) -> Result<Option<usize>, AllocError>
-    ensures text { IfOk result (IsAppended (said out.old) (said out.new) (object_of depth Two bytes.now)) }
+    ensures text { IfOk result (Appends out.old out.new (object_of depth Two bytes.now)) }
     ensures within { IfOk result (λ end. IfSome end (λ len. len ≤ length bytes.now)) }
 {
     append_object(out, bytes, Width::Two, depth)
@@ -212,7 +212,7 @@ fn append_large_object(
     bytes: &[u8],
     depth: usize,
 ) -> Result<Option<usize>, AllocError>
-    ensures text { IfOk result (IsAppended (said out.old) (said out.new) (object_of depth Four bytes.now)) }
+    ensures text { IfOk result (Appends out.old out.new (object_of depth Four bytes.now)) }
     ensures within { IfOk result (λ end. IfSome end (λ len. len ≤ length bytes.now)) }
 {
     append_object(out, bytes, Width::Four, depth)
@@ -228,7 +228,7 @@ fn append_object(
     width: Width,
     depth: usize,
 ) -> Result<Option<usize>, AllocError>
-    ensures text { IfOk result (IsAppended (said out.old) (said out.new) (object_of depth width bytes.now)) }
+    ensures text { IfOk result (Appends out.old out.new (object_of depth width bytes.now)) }
     ensures within { IfOk result (λ end. IfSome end (λ len. len ≤ length bytes.now)) }
 {
     let entries = (width.bytes() + 2) + (width.bytes() + 1);
@@ -296,7 +296,7 @@ fn append_value_in(
 ) -> Result<Option<usize>, AllocError>
     requires room { entry + element_entry (bytes_of width) ≤ length bytes.now }
     requires front { IsFrontOf ahead.now bytes.now }
-    ensures text { IfOk result (IsAppended (said out.old) (said out.new) (value_in (value_at depth) (bytes_of width) bytes.now entry from)) }
+    ensures text { IfOk result (Appends out.old out.new (value_in (value_at depth) (bytes_of width) bytes.now entry from)) }
 {
     let kind = bytes[entry];
     if is_inlined(width, kind) {
