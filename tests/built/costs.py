@@ -21,9 +21,10 @@ from built.cost_logs import everyday, many_tables, one_table, one_transaction
 from built.preloaded import Memory, run_preloaded
 from logs import put, wide_tables
 
-FIGURES = Path(__file__).resolve().parents[1] / "costs.tsv"
+TOP = Path(__file__).resolve().parents[2]
+FIGURES = TOP / "tests/costs.tsv"
 # What LLVM builds is counted. Rattle's own compiler makes other instructions.
-PROGRAMS = [Path(__file__).resolve().parents[2] / "crates/program/out/program"]
+PROGRAMS = [TOP / "crates/program/out/program"]
 # A count may differ by this share, and by so many more: the system's loader makes some of the calls.
 SHARE, FEW = 0.03, 4
 ENVIRONMENT = {"GLIBC_TUNABLES": "glibc.cpu.hwcaps=-AVX2,-AVX2_Usable,-AVX512F,-AVX_Fast_Unaligned_Load,-ERMS,-FSRM"}
@@ -36,6 +37,8 @@ CALL = re.compile(rb"^SYSCALL\[\d+,\d+\]\( *\d+\) \w+ \(", re.M)
 TRANSACTIONS, LOOKS, MAPPED, TABLES, WIDE_TABLES = 1_000, 200, 100, 300, 60
 # A transaction of so many rows, and one of twice as many, make as many requests for memory, but for so many.
 ROWS, MORE_REQUESTS = 5_000, 4
+# The bytes of a log of documents, and how many instructions they may take for each that BLOBs take.
+DOCUMENT_BYTES, MOST_OF_BLOBS = 1_000_000, 1.5
 # The most memory, in KiB, that may be resident in a run over the log of everyday changes. It takes 2.5 MiB.
 MOST_RESIDENT = 4 << 10
 
@@ -166,6 +169,22 @@ def judge_long_transaction(options: tuple[str, ...], program: Path, folder: Path
     return reasons
 
 
+def documents_log(kind: str, folder: Path) -> bytes:
+    """A log of a server's documents (bench/make_log.py), or of the same bytes in BLOBs."""
+    path = folder / kind
+    subprocess.run([TOP / "bench/make_log.py", path, str(DOCUMENT_BYTES), kind], stdout=subprocess.DEVNULL, timeout=SECONDS, check=True)
+    return path.read_bytes()
+
+
+def judge_documents(program: Path, folder: Path) -> list[str]:
+    """Full lines of documents take at most half as many instructions again as those of the same bytes in BLOBs."""
+    documents, blobs = (
+        instructions_and_calls(program, Reading(("read", "--full", "log"), partial(documents_log, kind, folder)), folder)[0]
+        for kind in ("documents", "blobs")
+    )
+    return [] if documents <= MOST_OF_BLOBS * blobs else [f"{documents:,} instructions, and {blobs:,} where they are BLOBs"]
+
+
 def judge_resident(program: Path, folder: Path) -> list[str]:
     """No more than a few MiB are ever resident, even for a moment."""
     used = memory(program, READINGS["read"], folder)
@@ -183,4 +202,4 @@ def checks() -> list[Check]:
 
 def counted_checks() -> list[Check]:
     """Those whose counts hang on the compiler."""
-    return [Check(f"the cost of {name}", partial(judge, name)) for name in READINGS]
+    return [*(Check(f"the cost of {name}", partial(judge, name)) for name in READINGS), Check("the cost of documents", judge_documents)]
