@@ -1,4 +1,6 @@
 """docs/FORMAT.md tells the faults in the order in which the definitions of specs/ look for them."""
+from __future__ import annotations
+
 import re
 import unittest
 from functools import cache
@@ -112,7 +114,7 @@ def defined_steps() -> list[set[str]]:
     maps = module("binlog_table", "Map")
     calls = ["sections_at", *re.findall(r"← (.*)", maps.right("map_of"))]
     answers = [set(faults_in(call, maps, "declared.fault.MapFault.TheVariants")) for call in calls]
-    return [answer for before, answer in zip([None, *answers], answers, strict=False) if answer != before]
+    return [answer for before, answer in zip([None, *answers], answers) if answer != before]
 
 
 class FaultOrder(unittest.TestCase):
@@ -124,7 +126,7 @@ class FaultOrder(unittest.TestCase):
         defined = [framing(), *(faults_in(name, where, "declared.what.What.TheVariants") for where, name in found)]
         rows = table_rows()
         self.assertEqual([names for names, _ in rows], defined)
-        for (_, says), (where, name) in zip(rows[1:], found, strict=True):
+        for (_, says), (where, name) in zip(rows[1:], found):
             for mark in marks(where, name):
                 self.assertIn(mark, says, name)
         # Of the two that share a name, only the first has a least length.
