@@ -23,7 +23,7 @@ use Rattle.binlogfeed.specs.declared.words_fault.WordsFault.TheVariants as words
 use Rattle.binlogfeed.specs.Statuses.{EndsRun, IsStatus, judgement_of, open_status_of, output_of, run_status_of}
 use Rattle.binlogfeed.specs.declared.fault.RunFault.{RunFault}
 use Rattle.binlogfeed.specs.declared.fault.RunFault.TheVariants.{DuplicateFile, Token, Log, OutOfMemory}
-use Rattle.binlogfeed.specs.declared.program.Task.{Task}
+use Rattle.binlogfeed.specs.declared.words.Task.{Task}
 
 -- the files kept their names, hold what they are supposed to, and had no failure before
 pub ends_over : (task : Task) (old_names names old_contents contents : List (List ℕ)) (old_failures failures : ℕ) (honest : Bool)

@@ -8,12 +8,11 @@ use Rattle.binlogfeed.specs.Follow.{Ending, Follows, follow_status_of, supplied}
 use Rattle.binlogfeed.specs.Looks.{Look}
 use Rattle.binlogfeed.specs.Statuses.{EndsRun, EndsUnopened, IsStatus, judgement_of, output_of}
 use Rattle.binlogfeed.specs.Words.{AnswersWords, texts, words_status_of}
-use Rattle.binlogfeed.specs.declared.program.Task.{Task}
-use Rattle.binlogfeed.specs.declared.program.Task.TheVariants as tasks
 use Rattle.binlogfeed.specs.declared.program.Used.{Used}
 use Rattle.binlogfeed.specs.declared.program.Used.TheVariants.{Files, Looks}
 use Rattle.binlogfeed.specs.declared.words.Order.{Order}
-use Rattle.binlogfeed.specs.declared.words.Order.TheVariants.{Transactions, Read, Follow, History}
+use Rattle.binlogfeed.specs.declared.words.Order.TheVariants.{Follow, Once}
+use Rattle.binlogfeed.specs.declared.words.Task.{Task}
 use Rattle.binlogfeed.specs.declared.words_fault.WordsFault.{WordsFault}
 
 -- What a task comes to over files that are supposed to hold these contents: the logs come back where all files could be opened,
@@ -39,11 +38,7 @@ EndsFollowing follows (Looks looks) status = (ending : Ending) × follows looks.
 
 -- what an order comes to; the supply has what the files of each look are supposed to hold, or of the only one
 abbrev pub EndsOrder : {R F : Type 0} → Order → List (List (List ℕ)) → Option (List ℕ) → Used R F → Option (List ℕ) → Option (List ℕ) → ℕ → Type 0
-EndsOrder (Transactions files) supply input used old new status = EndsTask tasks.Transactions (texts files.items) (supplied supply 0) used old new status
-EndsOrder (Read filter start style files) supply input used old new status =
-    EndsTask (tasks.Read filter start style) (texts files.items) (supplied supply 0) used old new status
-EndsOrder (History schema table key style files) supply input used old new status =
-    EndsTask (tasks.History schema table key style) (texts files.items) (supplied supply 0) used old new status
+EndsOrder (Once task files) supply input used old new status = EndsTask task (texts files.items) (supplied supply 0) used old new status
 EndsOrder (Follow filter start style files) supply input used old new status =
     EndsFollowing (Follows style filter start (texts files.items) supply input old new) used status
 

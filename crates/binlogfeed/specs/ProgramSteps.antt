@@ -4,11 +4,10 @@ use Rattle.std.specs.Borrow.{Bor}
 use Rattle.std.specs.declared.io.Read as reader
 use Rattle.std.specs.declared.io.Write as writer
 use Rattle.clap.specs.Words.{Text}
-use Rattle.binlogfeed.specs.Endings.{EndsOrder, EndsTask, EndsWords}
+use Rattle.binlogfeed.specs.Endings.{EndsTask, EndsWords}
 use Rattle.binlogfeed.specs.Words.{texts}
-use Rattle.binlogfeed.specs.declared.program.Task.{Task}
 use Rattle.binlogfeed.specs.declared.program.Used.{Used}
-use Rattle.binlogfeed.specs.declared.words.Order.{Order}
+use Rattle.binlogfeed.specs.declared.words.Task.{Task}
 
 module _ {V : Type 0} (W : writer.Ghosts V) where
   -- what a task comes to over the files of paths
@@ -16,11 +15,7 @@ module _ {V : Type 0} (W : writer.Ghosts V) where
   DoesTask task paths contents old new result = EndsTask task (texts paths) contents result.0 (W.contents old) (W.contents new) result.1
 
   module _ {I : Type 0} (B : reader.Ghosts I) where
-    -- what an order comes to, and what the words do
-    abbrev pub PerformsOrder : {R F : Type 0} → Order → List (List (List ℕ)) → I → V → V → Used R F × ℕ → Type 0
-    PerformsOrder order supply input old new result =
-        EndsOrder order supply (B.remaining input) result.0 (W.contents old) (W.contents new) result.1
-
+    -- what the words come to
     abbrev pub AnswersGiven : {R F : Type 0} → List (Bor Text) → List (List (List ℕ)) → I → V → V → Used R F × ℕ → Type 0
     AnswersGiven words supply input old new result =
         EndsWords (texts words) supply (B.remaining input) result.0 (W.contents old) (W.contents new) result.1

@@ -10,8 +10,8 @@ use Rattle.binlog_feed.specs.Tokens.Judgement.{Fits}
 use Rattle.binlogfeed.specs.Faults.{status_of, IsNamed}
 use Rattle.binlogfeed.specs.Runs.{Output, AnswersIfBegun, ReadsFailed, units_output, begun_output_as, history_output_as}
 use Rattle.binlogfeed.specs.declared.fault.RunFault.{RunFault}
-use Rattle.binlogfeed.specs.declared.program.Task.{Task}
-use Rattle.binlogfeed.specs.declared.program.Task.TheVariants.{Transactions, Read, History}
+use Rattle.binlogfeed.specs.declared.words.Task.{Task}
+use Rattle.binlogfeed.specs.declared.words.Task.TheVariants.{Transactions, Read, History}
 
 -- a run that comes to the end of the files is 0
 abbrev pub run_status_of : Result ℕ RunFault → ℕ

@@ -16,7 +16,8 @@ use Rattle.binlogfeed.specs.KeyWords.{IsKeyText, IsKeyFault, value_given}
 use Rattle.binlogfeed.specs.Options.{IsFilterOf, AnswersOptions, rows_given}
 use Rattle.binlogfeed.specs.StartWords.{IsStart, IsTokenFault, token_text}
 use Rattle.binlogfeed.specs.declared.words.Order.{Order}
-use Rattle.binlogfeed.specs.declared.words.Order.TheVariants.{Transactions, Read, Follow, History}
+use Rattle.binlogfeed.specs.declared.words.Order.TheVariants.{Follow, Once}
+use Rattle.binlogfeed.specs.declared.words.Task.TheVariants.{Transactions, Read, History}
 use Rattle.binlogfeed.specs.declared.words_fault.WordsFault.{WordsFault}
 use Rattle.binlogfeed.specs.declared.words_fault.WordsFault.TheVariants.{Help, CommandLine, EventName, Set, Token, Key, OutOfMemory}
 
@@ -100,15 +101,15 @@ follows_given matches = is_followed (rows_given matches)
 
 -- the subcommand that the words name, with the values that they give it
 abbrev pub IsOrder : Order → Option (Text × List Row) → Type 0
-IsOrder (Transactions files) found =
+IsOrder (Once Transactions files) found =
     (rows : List Row) × (found ≡ Some (codes "transactions", rows)) × (texts files.items ≡ files_given rows)
-IsOrder (Read filter start style files) found =
+IsOrder (Once (Read filter start style) files) found =
     (rows : List Row) × (found ≡ Some (codes "read", rows)) × (is_followed rows ≡ false)
     × IsFilterOf rows filter × IsStart (token_text rows) start × (style ≡ style_given rows) × (texts files.items ≡ files_given rows) × (texts files.items ≢ [])
 IsOrder (Follow filter start style files) found =
     (rows : List Row) × (found ≡ Some (codes "read", rows)) × (is_followed rows ≡ true)
     × IsFilterOf rows filter × IsStart (token_text rows) start × (style ≡ style_given rows) × (texts files.items ≡ files_given rows)
-IsOrder (History schema table key style files) found =
+IsOrder (Once (History schema table key style) files) found =
     (rows : List Row) × (found ≡ Some (codes "history", rows))
     × (schema.now ≡ value_given (codes "schema") rows) × (table.now ≡ value_given (codes "table") rows)
     × IsKeyText style (value_given (codes "key") rows) (string_bytes key) × (style ≡ style_given rows) × (texts files.items ≡ files_given rows)

@@ -20,15 +20,9 @@ use std::alloc::{AllocError, Global};
 /// What the program is asked for.
 #[derive(Drop)]
 pub enum Order<'a> {
-    /// A line for each unit of these files.
-    Transactions {
-        files: Vec<&'a str>,
-    },
-    /// A line for each row change of these files behind the start that passes the filter.
-    Read {
-        filter: Filter,
-        start: Start,
-        style: Style,
+    /// A task, over these files.
+    Once {
+        task: Task<'a>,
         files: Vec<&'a str>,
     },
     /// A line for each row change of files that grow, of these first: behind the start, if it passes the filter.
@@ -38,13 +32,25 @@ pub enum Order<'a> {
         style: Style,
         files: Vec<&'a str>,
     },
-    /// A line for each row change of these files that is of this table and has this key.
+}
+
+/// What is done with files.
+#[derive(Drop)]
+pub enum Task<'a> {
+    /// A line is written for each unit.
+    Transactions,
+    /// A line is written for each row change behind the start that passes the filter.
+    Read {
+        filter: Filter,
+        start: Start,
+        style: Style,
+    },
+    /// A line is written for each row change of the table that has the key.
     History {
         schema: &'a str,
         table: &'a str,
         key: String,
         style: Style,
-        files: Vec<&'a str>,
     },
 }
 
@@ -96,7 +102,8 @@ fn transactions<'a>(alloc: Global, matches: &ArgMatches<'a>) -> Result<Order<'a>
     ensures { AnswersFound (Some (codes "transactions", rows_given matches.now)) result }
 {
     let files = files(alloc, matches)?;
-    Ok(Order::Transactions { files })
+    let task = Task::Transactions;
+    Ok(Order::Once { task, files })
 }
 
 fn read<'a>(alloc: Global, matches: &ArgMatches<'a>) -> Result<Order<'a>, WordsFault>
@@ -117,12 +124,12 @@ fn read<'a>(alloc: Global, matches: &ArgMatches<'a>) -> Result<Order<'a>, WordsF
             files,
         })
     } else {
-        Ok(Order::Read {
+        let task = Task::Read {
             filter,
             start,
             style,
-            files,
-        })
+        };
+        Ok(Order::Once { task, files })
     }
 }
 
@@ -140,13 +147,13 @@ fn history<'a>(alloc: Global, matches: &ArgMatches<'a>) -> Result<Order<'a>, Wor
     let style = style_given(matches);
     let key = key_of(alloc, style, value_of(matches, "key"))?;
     let files = files(alloc, matches)?;
-    Ok(Order::History {
+    let task = Task::History {
         schema: value_of(matches, "schema"),
         table: value_of(matches, "table"),
         key,
         style,
-        files,
-    })
+    };
+    Ok(Order::Once { task, files })
 }
 
 /// The style of lines: full ones where the flag is given.

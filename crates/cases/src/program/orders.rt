@@ -3,7 +3,7 @@ use crate::jobs::Told;
 use crate::language::{Ask, Case, How, Named, Page, Refused};
 use crate::program::runs::{run_changes, run_key, run_units};
 use crate::program::shown_orders::show_order;
-use binlogfeed::words::{Order, read_words};
+use binlogfeed::words::{Order, Task, read_words};
 use binlogfeed::words_fault::{WordsFault, words_line, words_status};
 
 /// Copies of the files of a case with these names.
@@ -19,31 +19,26 @@ fn files_named(page: &mut Page, case: &Case, names: &[&str]) -> Vec<Named> {
 /// Does what an order asks for, over the case's files.
 fn perform(told: &mut Told, case: &Case, order: Order<'_>, how: How) {
     match order {
-        Order::Transactions { files } => {
+        Order::Once { task, files } => {
             let files = files_named(&mut told.text, case, &files);
-            run_units(told, files, how);
-        }
-        Order::Read {
-            filter,
-            start,
-            files,
-            ..
-        } => {
-            let files = files_named(&mut told.text, case, &files);
-            run_changes(told, files, filter, start, how);
+            carry_out(told, files, task, how);
         }
         // A run that follows reads an input, which cases have none of.
         Order::Follow { .. } => told.text.refuse(Refused::UnknownWord),
-        Order::History {
+    }
+}
+
+/// Does a task over files.
+fn carry_out(told: &mut Told, files: Vec<Named>, task: Task<'_>, how: How) {
+    match task {
+        Task::Transactions => run_units(told, files, how),
+        Task::Read { filter, start, .. } => run_changes(told, files, filter, start, how),
+        Task::History {
             schema,
             table,
             key,
-            files,
             ..
-        } => {
-            let files = files_named(&mut told.text, case, &files);
-            run_key(told, files, (schema, table), key.as_str(), how);
-        }
+        } => run_key(told, files, (schema, table), key.as_str(), how),
     }
 }
 

@@ -3,18 +3,12 @@ use crate::language::Page;
 use crate::readers::kind_name;
 use binlog_feed::Start;
 use binlog_select::{Filter, Names};
-use binlogfeed::words::Order;
+use binlogfeed::words::{Order, Task};
 
 /// An order with a line for each list that is given, and one for the files.
 pub fn show_order(text: &mut Page, order: Order<'_>) {
     match order {
-        Order::Transactions { files } => show_files(text, "transactions", &files),
-        Order::Read {
-            filter,
-            start,
-            files,
-            ..
-        } => show_read(text, filter, &start, &files),
+        Order::Once { task, files } => show_task(text, task, &files),
         Order::Follow {
             filter,
             start,
@@ -24,15 +18,22 @@ pub fn show_order(text: &mut Page, order: Order<'_>) {
             text.push_str("followed\n");
             show_read(text, filter, &start, &files);
         }
-        Order::History {
+    }
+}
+
+/// A task, and the files that it is done over.
+fn show_task(text: &mut Page, task: Task<'_>, files: &[&str]) {
+    match task {
+        Task::Transactions => show_files(text, "transactions", files),
+        Task::Read { filter, start, .. } => show_read(text, filter, &start, files),
+        Task::History {
             schema,
             table,
             key,
-            files,
             ..
         } => {
             write!(text, "history \"{schema}\" \"{table}\" {key}\n");
-            show_files(text, "files", &files);
+            show_files(text, "files", files);
         }
     }
 }

@@ -1,4 +1,8 @@
+use Rattle.binlogfeed.specs.Follow.{supplied}
 use Rattle.binlogfeed.proofs.program.answer_words.Given as goal
 
-abbrev pub ghost-perform : goal.ghost-perform
-ghost-perform g a = g.supply
+abbrev pub ghost-carry_out : goal.ghost-carry_out
+ghost-carry_out g a = supplied g.supply 0
+
+abbrev pub ghost-follow : goal.ghost-follow
+ghost-follow g a = g.supply

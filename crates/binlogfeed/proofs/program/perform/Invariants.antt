@@ -1,8 +1,0 @@
-use Rattle.binlogfeed.specs.Follow.{supplied}
-use Rattle.binlogfeed.proofs.program.perform.Given as goal
-
-abbrev pub ghost-carry_out : goal.ghost-carry_out
-ghost-carry_out g a = supplied g.supply 0
-
-abbrev pub ghost-follow : goal.ghost-follow
-ghost-follow g a = g.supply
