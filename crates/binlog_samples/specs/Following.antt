@@ -9,7 +9,7 @@ use Rattle.binlog_feed.specs.Parsing.{LogFile}
 use Rattle.binlog_feed.specs.declared.fault.FeedFault.TheVariants as reading
 use Rattle.binlog_feed.specs.declared.fault.GoOnFault.TheVariants as going
 use Rattle.binlog_feed.specs.declared.start.Start.TheVariants.{Beginning, After}
-use Rattle.binlogfeed.specs.Follow.{WritesText, EndsAs, blank_text, follow_status_of, input_text, list_status_of, refusal_status_of, list_refusal_text}
+use Rattle.binlogfeed.specs.Follow.{FailsAs, WritesText, EndsAs, blank_text, follow_status_of, input_text, list_status_of, refusal_status_of, list_refusal_text}
 use Rattle.binlogfeed.specs.Lists.{BeginsWithList, HasNoLineFeed, HasNoList, line_text, list_text}
 use Rattle.binlogfeed.specs.Looks.{AreParts, BeginsFollowing, Look, first_look, gone_by, joined_parts, looks_text}
 use Rattle.binlogfeed.specs.Turns.{Turns, lists_text}
@@ -68,7 +68,7 @@ TurnsOfFiles = Turns (a_path ∷ []) [] 0 (a_path ∷ []) (a_names ∷ []) × Tu
 -- ---- what looks give
 
 abbrev pub look_at : List LogFile → Look
-look_at files = record { names = map LogFile.name files; contents = map LogFile.bytes files; honest = true }
+look_at files = record { names = map LogFile.name files; contents = map LogFile.bytes files; honest = true; failures = 0 }
 
 abbrev pub all : RowChange → Bool
 all change = true
@@ -141,10 +141,18 @@ StatusesOfEnds =
     × (follow_status_of (Err (Unopened opening.OutOfMemory)) ≡ 5) × (follow_status_of (Err (NotBegun (run.DuplicateFile 1))) ≡ 2)
     × (follow_status_of (Err (Refused going.FileGone)) ≡ 3) × (follow_status_of (Err (Ended second_is_bad)) ≡ 1) × (follow_status_of (Err (Ended run.Write)) ≡ 4)
 
--- a fault of the files takes the newest look's empty line away, a device leaves a beginning, and a list that is refused adds nothing
+-- A fault of the files takes the newest look's empty line away, a device leaves a beginning of that look behind all that stands in front, and
+-- a list that is refused adds nothing.
 abbrev pub TextsOfEnds : Type 0
 TextsOfEnds =
-    WritesText (Some (97 ∷ [])) (Some (97 ∷ 98 ∷ 10 ∷ [])) (98 ∷ 10 ∷ []) (Ok tt)
-    × WritesText (Some (97 ∷ [])) (Some (97 ∷ 98 ∷ 10 ∷ [])) (98 ∷ 10 ∷ []) (Err (Refused going.FileGone))
-    × WritesText (Some (97 ∷ [])) (Some (97 ∷ 98 ∷ [])) (98 ∷ 10 ∷ []) (Err (Ended second_is_bad))
-    × WritesText (Some (97 ∷ [])) (Some (97 ∷ 98 ∷ [])) (98 ∷ 99 ∷ 10 ∷ []) (Err (Ended run.Write))
+    WritesText (Some (97 ∷ [])) (Some (97 ∷ 98 ∷ 10 ∷ [])) [] (98 ∷ 10 ∷ []) (Ok tt)
+    × WritesText (Some (97 ∷ [])) (Some (97 ∷ 98 ∷ 10 ∷ [])) (98 ∷ []) (10 ∷ []) (Err (Refused going.FileGone))
+    × WritesText (Some (97 ∷ [])) (Some (97 ∷ 98 ∷ [])) [] (98 ∷ 10 ∷ []) (Err (Ended second_is_bad))
+    × WritesText (Some (97 ∷ [])) (Some (97 ∷ 98 ∷ 10 ∷ 99 ∷ [])) (98 ∷ 10 ∷ []) (99 ∷ 100 ∷ 10 ∷ []) (Err (Ended run.Write))
+    × (WritesText (Some (97 ∷ [])) (Some (97 ∷ 98 ∷ [])) (98 ∷ 10 ∷ []) (99 ∷ 10 ∷ []) (Err (Ended run.Write)) → ⊥)
+
+-- the device is named only where a read failed, and without a look only the output
+abbrev pub FailuresOfEnds : Type 0
+FailuresOfEnds =
+    (FailsAs (Err (Ended (run.Read 0))) (look_at one_file ∷ []) → ⊥) × FailsAs (Err (Ended (run.Read 0))) (record (look_at one_file) { failures = 1 } ∷ [])
+    × (FailsAs (Err (Ended (run.Read 0))) [] → ⊥) × FailsAs (Err (Ended run.Write)) []

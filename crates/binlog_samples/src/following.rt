@@ -1,7 +1,7 @@
 //! The definitions of runs that follow: lists of files, looks at them, and how such a run ends.
 ghost use Rattle.binlog_samples.specs.Following.{ListTexts, ListsBegin, NoLists, CutLists, TurnsOfLists, TurnsOfFiles};
 ghost use Rattle.binlog_samples.specs.Following.{PartsOfLooks, BeginsAtEnd, GoneFiles, JoinedParts, EmptyLooks};
-ghost use Rattle.binlog_samples.specs.Following.{TextsOfRefusals, StatusesOfRefusals, StatusesOfEnds, TextsOfEnds};
+ghost use Rattle.binlog_samples.specs.Following.{TextsOfRefusals, StatusesOfRefusals, StatusesOfEnds, TextsOfEnds, FailuresOfEnds};
 
 /// Which bytes are lists, and which files each of them has looked at.
 pub fn sample_lists()
@@ -28,4 +28,5 @@ pub fn sample_follow_ends()
     ensures statuses_of_refusals { StatusesOfRefusals }
     ensures statuses_of_ends { StatusesOfEnds }
     ensures texts_of_ends { TextsOfEnds }
+    ensures failures_of_ends { FailuresOfEnds }
 {}

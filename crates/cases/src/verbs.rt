@@ -75,7 +75,7 @@ fn push_verb(text: &mut Page, ask: Ask<'_>, verb: &str) {
         "reads" => push_reads(text, ask),
         "parts" => push_parts(text, ask),
         "look-up" => push_lookups(text, ask),
-        "go-on" => push_going_on(text, ask),
+        "go-on" | "run-on" => push_going_on(text, ask, verb),
         "at-end" => push_at_end(text, ask),
         "set" => push_set(text, ask),
         "holds" => push_holds(text, ask),

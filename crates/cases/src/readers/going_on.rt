@@ -3,7 +3,9 @@ use crate::language::{Ask, Page, Refused, cut_copies, source};
 use crate::readers::feed::show_change;
 use binlog_feed::{Feed, FeedFault, GoOnFault, Start};
 use binlog_frame::MemoryLogs;
+use binlog_json::Style;
 use binlog_select::{Filter, Token};
+use binlogfeed::run_on::run_on;
 
 /// No list of a case has so many changes.
 const MOST_CHANGES: u32 = 1_000;
@@ -79,8 +81,29 @@ fn gone_on(feed: Feed<MemoryLogs>, logs: MemoryLogs, text: &mut Page) -> Feed<Me
     }
 }
 
-/// `go-on LIST..`: all that a feed of the first list gives, and what it gives when it goes on over each further one.
-pub fn push_going_on(text: &mut Page, ask: Ask<'_>) {
+/// The lines that `run_on` writes of a source, and its answer; or why it didn't begin.
+fn ran_on(feed: Feed<MemoryLogs>, logs: MemoryLogs, text: &mut Page) -> Feed<MemoryLogs> {
+    let alloc = text.alloc();
+    let mut out = Vec::new(alloc);
+    match run_on(Style::Plain, alloc, feed, logs, Filter::new(), &mut out) {
+        Ok((feed, _earlier, answer)) => {
+            match str::from_utf8(&out) {
+                Ok(lines) => text.push_str(lines),
+                Err(_) => text.refuse(Refused::NoText),
+            }
+            write!(text, "{answer:?}\n");
+            feed
+        }
+        Err((fault, feed, _logs, _filter)) => {
+            write!(text, "{fault:?}\n");
+            feed
+        }
+    }
+}
+
+/// `go-on LIST..`: all that a feed of the first list gives, and what it gives when it goes on over each further one; for `run-on` the lines
+/// of these.
+pub fn push_going_on(text: &mut Page, ask: Ask<'_>, verb: &str) {
     let [first, further @ ..] = ask.words else {
         return text.refuse(Refused::BadPart);
     };
@@ -93,7 +116,10 @@ pub fn push_going_on(text: &mut Page, ask: Ask<'_>) {
             tell_all(&mut feed, text);
             for word in further {
                 if let Some(logs) = source_at(text, ask, word.as_str()) {
-                    feed = gone_on(feed, logs, text);
+                    feed = match verb {
+                        "run-on" => ran_on(feed, logs, text),
+                        _ => gone_on(feed, logs, text),
+                    };
                 }
             }
             let (_logs, _window) = feed.into_parts();
