@@ -3,9 +3,9 @@
 
     bench/run.py FOLDER [--bytes N] [--program PATH] [--beside PATH] [--count]
 
-FOLDER gets the logs that bench/make_log.py makes, of the shop, of wide rows, of a bulk load, and of documents and the same bytes as
-BLOBs, with a copy and lines; it needs four times the room of a log. Each command runs five times, in turns, and the fastest counts. --beside names another
-program that takes the same words, `read FILE` and `transactions FILE`, and is timed in the same turns. It needs no full lines
+FOLDER gets the logs that bench/make_log.py makes, of the shop, of wide rows, of a bulk load, and of documents and the same bytes
+as BLOBs, with a copy and lines; it needs four times the room of a log. Each command runs five times, in turns, and the fastest
+counts. --beside names another program that takes the same words, `read FILE` and `transactions FILE`, and is timed in the same turns. It needs no full lines
 (`read --full`), which are only asked of the program itself. --count has valgrind count the instructions over logs of 4 MB, too.
 The program must have been built (./binlogfeed --help).
 """

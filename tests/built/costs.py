@@ -38,7 +38,7 @@ TRANSACTIONS, LOOKS, MAPPED, TABLES, WIDE_TABLES = 1_000, 200, 100, 300, 60
 # A transaction of so many rows, and one of twice as many, make as many requests for memory, but for so many.
 ROWS, MORE_REQUESTS = 5_000, 4
 # The bytes of a log of documents, and how many instructions they may take for each that BLOBs take.
-DOCUMENT_BYTES, MOST_OF_BLOBS = 1_000_000, 1.5
+DOCUMENT_BYTES, MOST_OF_BLOBS = 1_000_000, 1.4
 # The most memory, in KiB, that may be resident in a run over the log of everyday changes. It takes 2.5 MiB.
 MOST_RESIDENT = 4 << 10
 
@@ -177,7 +177,7 @@ def documents_log(kind: str, folder: Path) -> bytes:
 
 
 def judge_documents(program: Path, folder: Path) -> list[str]:
-    """Full lines of documents take at most half as many instructions again as those of the same bytes in BLOBs."""
+    """Full lines of documents take few more instructions than those of the same bytes in BLOBs."""
     documents, blobs = (
         instructions_and_calls(program, Reading(("read", "--full", "log"), partial(documents_log, kind, folder)), folder)[0]
         for kind in ("documents", "blobs")
