@@ -4,7 +4,8 @@ ghost use Rattle.json_samples.specs.Texts.{Latin1Texts, Windows1252, Utf8Texts, 
 ghost use Rattle.json_samples.specs.Names.{Unnamed, Enums, EnumBytes, Sets, WideSets, MalformedSets, SetBytes};
 ghost use Rattle.json_samples.specs.Others.{Times, Decimals, Floats, NoNumbers, Documents, NoDocuments, RawValues};
 
-/// Integers by the server's sign, texts by their character sets, values of ENUM and SET, FLOAT and DOUBLE, and those that plain lines have, too.
+/// Integers by the server's sign, texts by their character sets, values of ENUM and SET, FLOAT and DOUBLE, and those that plain lines have,
+/// too.
 pub fn sample_full_values()
     ensures tiny { Tiny }
     ensures small { Small }
