@@ -4,8 +4,8 @@
 usage: tests/house.py [--list NAME]
 
 The figures are of what a reader meets: definitions that share a name, long clauses, calls with many of them, long functions and files,
-places that are never reached, lines of proofs and documents, clauses that docs/GUARANTEES.md names and
-the code hasn't, words of the glossary. --list prints what a figure counts. The last line is `N passed, M failed`.
+places that are never reached, lines of proofs and documents, clauses that docs/GUARANTEES.md names and the code hasn't, words of the
+glossary, the calls and the types that lie on the way of a change (way.txt). --list prints what a figure counts. The last line is `N passed, M failed`.
 """
 import argparse
 import re
@@ -19,6 +19,7 @@ from promises import unknown_clauses
 
 TOP = Path(__file__).resolve().parent.parent
 MOST = Path(__file__).resolve().parent / "house.txt"
+WAYS = Path(__file__).resolve().parent / "way.txt"
 GLOSSARY = TOP / "docs" / "GLOSSARY.md"
 CRATES = sorted(path for path in (TOP / "crates").iterdir() if (path / "src").is_dir())
 
@@ -31,6 +32,12 @@ LONG_FILE = 800
 DEFINED = re.compile(r"^(?:(?:abbrev|record|data|unfoldable|opaque|pub) )+(?!mod |use |mutual$)([^\s:(){}]+)")
 FUNCTION = re.compile(r"^( *)(pub )?(?:pub\([^)]*\) )?(?:const )?fn (\w+)")
 CLAUSE = re.compile(r"^ *(?:requires|ensures|ghost)\b(?! use)")
+# What a function answers, by the lines of its head.
+ANSWER = re.compile(r"->([^{]*?)(?:\{|\n *(?:requires|ensures|ghost))")
+# An event's own header, and what stands where there is no event, are no types round it.
+OWN_TYPES = {"Result", "Option", "Header", "Ending"}
+# So many a step of a way counts that isn't there, so that the figure is too large.
+MISSING = 1000
 
 
 class Item(NamedTuple):
@@ -198,7 +205,48 @@ def proof_lines() -> Iterator[Item]:
         yield Item(crate.name, sum(len(lines_of(path)) for path in crate.glob("proofs/**/*.antt")))
 
 
+def ways() -> dict[str, list[tuple[str, str]]]:
+    """The ways of way.txt, by their names: a file below crates/ and a function for each line."""
+    found: dict[str, list[tuple[str, str]]] = {}
+    for line in lines_of(WAYS):
+        words = line.split()
+        if len(words) == 1:
+            steps = found.setdefault(words[0], [])
+        elif words and not line.startswith("#"):
+            steps.append((words[0], words[1]))
+    return found
+
+
+def text_of(file: str, name: str) -> str:
+    """The lines of a function, from its head on; none where the file hasn't it."""
+    lines = lines_of(TOP / "crates" / file)
+    heads = ((at, head[1]) for at, line in enumerate(lines) if (head := FUNCTION.match(line)) and head[3] == name)
+    at, indent = next(heads, (len(lines), ""))
+    last = next((number for number in range(at, len(lines)) if lines[number] == f"{indent}}}"), len(lines))
+    return "\n".join(lines[at:last])
+
+
+def calls_between(way: str) -> Iterator[Item]:
+    """The functions between the first of a way and its last call."""
+    steps = ways()[way]
+    for (file, name), (_, called) in zip(steps, steps[1:]):
+        if not re.search(rf"\b{called}\(", text_of(file, name)):
+            yield Item(f"{file}: {name} doesn't call {called}", MISSING)
+    yield from (Item(f"{file}: {name}") for file, name in steps[1:-1])
+
+
+def types_round_an_event() -> Iterator[Item]:
+    """The types in which an event is answered on its way."""
+    answers = {f"{file}: {name}": ANSWER.search(text_of(file, name)) for file, name in ways()["types_round_an_event"]}
+    yield from (Item(f"{function} answers nothing", MISSING) for function, answer in answers.items() if not answer)
+    names = {name for answer in answers.values() if answer for name in re.findall(r"\b[A-Z]\w+", answer[1])}
+    yield from (Item(name) for name in sorted(names - OWN_TYPES) if not name.endswith("Fault"))
+
+
 FIGURES = {
+    "calls_between_main_and_the_feed": lambda: calls_between("calls_between_main_and_the_feed"),
+    "calls_between_the_feed_and_the_file": lambda: calls_between("calls_between_the_feed_and_the_file"),
+    "types_round_an_event": types_round_an_event,
     "shared_names": shared_names,
     "clauses_over_100_columns": lambda: clauses_over(LONG_CLAUSE),
     "clauses_over_140_columns": lambda: clauses_over(LONGEST_CLAUSE),
