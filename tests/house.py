@@ -34,10 +34,35 @@ FUNCTION = re.compile(r"^( *)(pub )?(?:pub\([^)]*\) )?(?:const )?fn (\w+)")
 CLAUSE = re.compile(r"^ *(?:requires|ensures|ghost)\b(?! use)")
 # What a function answers, by the lines of its head.
 ANSWER = re.compile(r"->([^{]*?)(?:\{|\n *(?:requires|ensures|ghost))")
-# An event's own header, and what stands where there is no event, are no types round it.
+# The functions that hand an event on, from the feed's step to the read of the file's bytes.
+EVENT_STEPS = (
+    ("binlog_feed/src/feed_step.rt", "step"),
+    ("binlog_feed/src/feed_step.rt", "judge"),
+    ("binlog_feed/src/next_event.rt", "take_found"),
+    ("binlog_feed/src/next_event.rt", "read_next"),
+    ("binlog_frame/src/frames.rt", "next_over"),
+    ("binlog_frame/src/reads.rt", "read_event"),
+)
+# These are no types round an event: its own header, what stands where no event does, and the standard library's.
 OWN_TYPES = {"Result", "Option", "Header", "Ending"}
-# So many a step of a way counts that isn't there, so that the figure is too large.
+# So much counts what a way lacks.
 MISSING = 1000
+
+
+class Step(NamedTuple):
+    """A function on a way: its file below crates/, and its name."""
+
+    file: str
+    function: str
+
+    def __str__(self) -> str:
+        """The step as way.txt has it."""
+        return f"{self.file} {self.function}"
+
+
+MAIN = Step("program/src/main.rt", "main")
+FEED = Step("binlog_feed/src/feed.rt", "next")
+FILE = Step("std", "read")
 
 
 class Item(NamedTuple):
@@ -205,47 +230,71 @@ def proof_lines() -> Iterator[Item]:
         yield Item(crate.name, sum(len(lines_of(path)) for path in crate.glob("proofs/**/*.antt")))
 
 
-def ways() -> dict[str, list[tuple[str, str]]]:
-    """The ways of way.txt, by their names: a file below crates/ and a function for each line."""
-    found: dict[str, list[tuple[str, str]]] = {}
+def ways() -> dict[str, list[Step]]:
+    """The ways of way.txt, by their names."""
+    found: dict[str, list[Step]] = {}
     for line in lines_of(WAYS):
         words = line.split()
         if len(words) == 1:
             steps = found.setdefault(words[0], [])
         elif words and not line.startswith("#"):
-            steps.append((words[0], words[1]))
+            steps.append(Step(words[0], words[1]))
     return found
 
 
-def text_of(file: str, name: str) -> str:
-    """The lines of a function, from its head on; none where the file hasn't it."""
-    lines = lines_of(TOP / "crates" / file)
-    heads = ((at, head[1]) for at, line in enumerate(lines) if (head := FUNCTION.match(line)) and head[3] == name)
+def lines_of_function(step: Step) -> list[str]:
+    """The lines of a function without comments, from its head on; none where the file hasn't it."""
+    lines = [re.sub(r"//.*", "", line) for line in lines_of(TOP / "crates" / step.file)]
+    heads = ((at, head[1]) for at, line in enumerate(lines) if (head := FUNCTION.match(line)) and head[3] == step.function)
     at, indent = next(heads, (len(lines), ""))
     last = next((number for number in range(at, len(lines)) if lines[number] == f"{indent}}}"), len(lines))
-    return "\n".join(lines[at:last])
+    return lines[at:last]
 
 
-def calls_between(way: str) -> Iterator[Item]:
-    """The functions between the first of a way and its last call."""
-    steps = ways()[way]
-    for (file, name), (_, called) in zip(steps, steps[1:]):
-        if not re.search(rf"\b{called}\(", text_of(file, name)):
-            yield Item(f"{file}: {name} doesn't call {called}", MISSING)
-    yield from (Item(f"{file}: {name}") for file, name in steps[1:-1])
+def calls_between(way: str, first: Step, last: Step) -> Iterator[Item]:
+    """The functions between the first one of a way and the last one. What the way lacks makes the figure too large."""
+    steps = ways().get(way, [])
+    if [*steps[:1], *steps[-1:]] != [first, last]:
+        yield Item(f"it doesn't go from {first} to {last}", MISSING)
+    for step, called in zip(steps, steps[1:]):
+        if not any(re.search(rf"\b{called.function}\(", line) for line in lines_of_function(step)[1:]):
+            yield Item(f"{step} doesn't call {called}", MISSING)
+    yield from (Item(str(step)) for step in steps[1:-1])
+
+
+def members_of_types() -> dict[str, set[str]]:
+    """The types of binlog_frame and binlog_feed, and those that each one's fields name."""
+    found = {}
+    for path in (path for path in sources() if path.parts[-3] in {"binlog_frame", "binlog_feed"}):
+        text = re.sub(r"//.*", "", path.read_text(encoding="utf-8"))
+        for name, body in re.findall(r"\n(?:pub(?:\([^)]*\))? )?(?:struct|enum) (\w+)[^;{]*\{(.*?)\n\}", text, re.DOTALL):
+            found[name] = set(re.findall(r"\b[A-Z]\w+", body))
+    return found
 
 
 def types_round_an_event() -> Iterator[Item]:
-    """The types in which an event is answered on its way."""
-    answers = {f"{file}: {name}": ANSWER.search(text_of(file, name)) for file, name in ways()["types_round_an_event"]}
-    yield from (Item(f"{function} answers nothing", MISSING) for function, answer in answers.items() if not answer)
-    names = {name for answer in answers.values() if answer for name in re.findall(r"\b[A-Z]\w+", answer[1])}
-    yield from (Item(name) for name in sorted(names - OWN_TYPES) if not name.endswith("Fault"))
+    """The types that the steps to an event answer, with those in them that hold its header."""
+    members = members_of_types()
+    steps = [Step(*words) for words in EVENT_STEPS]
+    answers = {step: ANSWER.search("\n".join(lines_of_function(step))) for step in steps}
+    yield from (Item(f"{step} answers nothing", MISSING) for step, answer in answers.items() if not answer)
+
+    def named_in(types: set[str]) -> set[str]:
+        inside = set().union(*(members.get(name, set()) for name in types)) - types
+        return types | named_in(types | inside) if inside else types
+
+    def holds_header(name: str) -> bool:
+        return "Header" in named_in({name})
+
+    told = {name for answer in answers.values() if answer for name in re.findall(r"\b[A-Z]\w+", answer[1])}
+    told = {name for name in told if not name.endswith("Fault") or holds_header(name)}
+    yield from (Item(name) for name in sorted((told | {name for name in named_in(told) if holds_header(name)}) - OWN_TYPES))
 
 
 FIGURES = {
-    "calls_between_main_and_the_feed": lambda: calls_between("calls_between_main_and_the_feed"),
-    "calls_between_the_feed_and_the_file": lambda: calls_between("calls_between_the_feed_and_the_file"),
+    "calls_between_main_and_the_feed": lambda: calls_between("calls_between_main_and_the_feed", MAIN, FEED),
+    "calls_between_the_feed_and_the_file": lambda: calls_between("calls_between_the_feed_and_the_file", FEED, FILE),
+    "calls_between_a_look_ahead_and_the_file": lambda: calls_between("calls_between_a_look_ahead_and_the_file", FEED, FILE),
     "types_round_an_event": types_round_an_event,
     "shared_names": shared_names,
     "clauses_over_100_columns": lambda: clauses_over(LONG_CLAUSE),

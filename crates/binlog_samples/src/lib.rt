@@ -2,6 +2,7 @@
 #![tactic(auto, unfolding(crate::proofs::OnBytes::on_bytes))]
 
 mod continuations;
+mod feeds;
 mod files;
 mod following;
 mod frames;
@@ -14,6 +15,7 @@ mod values;
 mod words;
 
 pub use continuations::sample_continuations;
+pub use feeds::sample_feeds;
 pub use files::sample_files;
 pub use following::{sample_follow_ends, sample_lists, sample_looks};
 pub use frames::sample_frames;
