@@ -8,23 +8,22 @@ use Rattle.binlog_feed.specs.Reaching.{ReachesFault}
 use Rattle.binlog_feed.specs.declared.fault.FeedFault.TheVariants.{OutOfMemory, Read}
 use Rattle.binlog_feed.specs.declared.unit.Unit.{Unit as UnitSummary}
 use Rattle.binlog_feed.specs.declared.unit.UnitEnding.TheVariants.{Xid}
-use Rattle.binlog_samples.specs.Changes.{first_change}
 
 abbrev pub two_named : List (List ℕ)
 two_named = codes "a" ∷ codes "b" ∷ []
 
--- a change of the second file, and its unit
-abbrev pub later_change : RowChange
-later_change = record first_change { file = codes "b"; position = 300 }
+-- a change of the second file, whatever it is otherwise, and its unit
+abbrev pub later : RowChange → RowChange
+later change = record change { file = codes "b"; position = 300 }
 
 abbrev pub later_unit : UnitSummary
 later_unit = record { file = 1; position = 300; end = 400; gtid = None; ending = Xid }
 
 -- the unit of a change begins at the place in its own file, and nowhere else
 abbrev pub UnitsBegin : Type 0
-UnitsBegin =
-    UnitBeginsAt two_named later_change (Some (1, 300)) × (UnitBeginsAt two_named later_change (Some (0, 300)) → ⊥)
-    × (UnitBeginsAt two_named later_change (Some (1, 301)) → ⊥) × (UnitBeginsAt two_named later_change None → ⊥)
+UnitsBegin = (change : RowChange)
+    → UnitBeginsAt two_named (later change) (Some (1, 300)) × (UnitBeginsAt two_named (later change) (Some (0, 300)) → ⊥)
+    × (UnitBeginsAt two_named (later change) (Some (1, 301)) → ⊥) × (UnitBeginsAt two_named (later change) None → ⊥)
 
 -- a read that failed was in the file of the place; of other faults nothing is said
 abbrev pub FailuresStand : Type 0
@@ -40,9 +39,9 @@ MarksGoOn =
 
 -- where a change is to come, reads reach to the end of its own unit, and no further
 abbrev pub ReadsEnd : Type 0
-ReadsEnd =
-    ReachesChange two_named (later_unit ∷ []) (later_change ∷ []) (0, 0) (1, 400) × (ReachesChange two_named (later_unit ∷ []) (later_change ∷ []) (0, 0) (1, 401) → ⊥)
-    × (ReachesChange two_named (record later_unit { file = 0 } ∷ []) (later_change ∷ []) (0, 0) (0, 4) → ⊥) × (ReachesChange two_named [] (later_change ∷ []) (0, 0) (0, 0) → ⊥)
+ReadsEnd = (change : RowChange)
+    → ReachesChange two_named (later_unit ∷ []) (later change ∷ []) (0, 0) (1, 400) × (ReachesChange two_named (later_unit ∷ []) (later change ∷ []) (0, 0) (1, 401) → ⊥)
+    × (ReachesChange two_named (record later_unit { file = 0 } ∷ []) (later change ∷ []) (0, 0) (0, 4) → ⊥) × (ReachesChange two_named [] (later change ∷ []) (0, 0) (0, 0) → ⊥)
 
 -- where a read failed, they reach no further than the end of its file
 abbrev pub ReadsFail : Type 0
