@@ -5,7 +5,8 @@ usage: tests/house.py [--list NAME]
 
 The figures are of what a reader meets: definitions that share a name, long clauses, calls with many of them, long functions and files,
 places that are never reached, lines of proofs and documents, clauses that docs/GUARANTEES.md names and the code hasn't, words of the
-glossary, the calls and the types that lie on the way of a change (way.txt). --list prints what a figure counts. The last line is `N passed, M failed`.
+glossary, the calls on the way of a change (way.txt), the types round an event. --list prints what a figure counts. The last line is
+`N passed, M failed`.
 """
 import argparse
 import re
