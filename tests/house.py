@@ -295,7 +295,8 @@ def types_round_an_event() -> Iterator[Item]:
 FIGURES = {
     "calls_between_main_and_the_feed": lambda: calls_between("calls_between_main_and_the_feed", MAIN, FEED),
     "calls_between_the_feed_and_the_file": lambda: calls_between("calls_between_the_feed_and_the_file", FEED, FILE),
-    "calls_between_a_look_ahead_and_the_file": lambda: calls_between("calls_between_a_look_ahead_and_the_file", FEED, FILE),
+    "calls_between_a_look_behind_rows_and_the_file": lambda: calls_between("calls_between_a_look_behind_rows_and_the_file", FEED, FILE),
+    "calls_between_a_second_reading_and_the_file": lambda: calls_between("calls_between_a_second_reading_and_the_file", FEED, FILE),
     "types_round_an_event": types_round_an_event,
     "shared_names": shared_names,
     "clauses_over_100_columns": lambda: clauses_over(LONG_CLAUSE),
