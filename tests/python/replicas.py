@@ -162,11 +162,11 @@ class Kills:
         self.new_target, self.rows_of = new_target, rows_of
         self.chance = random.Random(f"{schema} {count} {options}")
         self.killed = self.inside = self.finished = 0
-        # Kills in a row that left no new place: the later ones come later, however fast the machine is just now.
-        self.in_vain = 0
         self.reasons = []
         self.said = tempfile.NamedTemporaryFile(prefix="binlogfeed-")
         self.begins, self.ends = self.measured()
+        # By how much kills come later than what was measured says: it was busier then, or is now.
+        self.pace = 1.0
 
     def forked(self, target):
         """A replica in a process of its own."""
@@ -190,13 +190,16 @@ class Kills:
         """Kills it so often, and compares the tables whenever it came to the end."""
         deadline = time.monotonic() + SECONDS
         while self.wanted() and not self.reasons and time.monotonic() < deadline:
-            target, places = self.new_target(), set()
+            target, places = self.new_target(), {None}
+            unharmed = True
             while not self.ended(target) and not self.reasons and time.monotonic() < deadline:
-                place = self.place(target)
-                self.in_vain = self.in_vain + 1 if place in places else 0
+                place, unharmed = self.place(target), False
+                # A kill that left no new place came too early, and where there was none before the end, each would have come too late.
+                self.pace *= 1.2 if place in places else 1
                 places.add(place)
+            self.pace *= 0.8 if unharmed else 1
             self.finished += 1
-            self.inside += len(places - {None})
+            self.inside += len(places) - 1
             if not self.reasons and self.rows_of(target) != rows_wanted(self.schema):
                 self.reasons.append(f"the tables differ after {self.killed} kills")
 
@@ -214,8 +217,8 @@ class Kills:
 
     def ended(self, target):
         """Starts the replica, and kills it at some moment. Whether it came to its end before that."""
-        latest = self.begins + 0.6 * max(0.01, self.ends - self.begins) * 1.5**self.in_vain
-        status = self.forked(target).killed_after(self.chance.uniform(0.5 * self.begins, latest))
+        latest = self.begins + 0.6 * max(0.01, self.ends - self.begins)
+        status = self.forked(target).killed_after(self.pace * self.chance.uniform(0.5 * self.begins, latest))
         if status == -signal.SIGKILL:
             self.killed += 1
         elif status != 0:

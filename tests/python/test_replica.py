@@ -18,7 +18,7 @@ KILLS = [
     ("shop", 60, ()),
     ("bank", 100, ()),
     ("bank", 80, ("--commit-every", "7")),
-    ("bank", 40, ("--commit-every", "1000")),
+    ("bank", 40, ("--commit-every", "100")),
 ]
 TYPES = {"id": "int", "v": "varchar utf8mb4"}
 
