@@ -1,7 +1,7 @@
 #!/usr/bin/env python3
 """Tries the wrong bodies of crates/NAME/wrong-bodies/MODULE/*.edit, many of them in one check.
 
-usage: tests/wrong_bodies.py [--only TEXT] [--while FILE] [CRATE ..]
+usage: tests/wrong_bodies.py [--only TEXT] [--while FILE] [--unedited] [CRATE ..]
 
 A check judges each function by itself, since a proof cites only the contracts of what it calls. So edits of different
 functions are planted together in a copy of the crate, and `rt check` must refuse each edit's own function by a goal of
@@ -17,13 +17,16 @@ Each public function with a contract has to have an edit, here or in must-fail/,
 Those that no body can get wrong are named in wrong-bodies/without.md, each by a line "- `MODULE::TYPE::NAME`: why".
 
 A check asks for the edited functions alone, and so for what they call: what calls them would be proved again for nothing.
-Every function that it tells of and no edit touches must be proved, or be unproved only with what it calls. That the crate
-is proved as it is, this script doesn't look at: `rt ci` does. A check begins with what `rt check` kept in the crate's out/,
-where that is there, and a further one with what the one before it proved.
+What they call isn't proved either: in the copy the proof of a function that no edit touches is an empty file. A goal cites
+the contract of what is called, and never its proof. Only where an edit wasn't refused so, it is tried alone with all proofs:
+then every function that the check tells of and no edit touches must be proved, or be unproved only with what it calls. That
+the crate is proved as it is, this script doesn't look at: `rt ci` does. A check begins with what `rt check` kept in the
+crate's out/, where that is there, and a further one with what the one before it proved.
 
 The copies lie in .git/wrong-bodies. Checks run side by side, one a processor or as many as RT_JOBS says. --only tries the
-edits whose name, with its folder, has TEXT. As long as the file of --while is there, `rt ci` runs beside this script: a crate waits
-until that has built the libraries below it. The last line is 'N passed, M failed'.
+edits whose name, with its folder, has TEXT. --unedited tries the checks themselves: they plant nothing, and so must refuse no
+function. As long as the file of --while is there, `rt ci` runs beside this script: a crate waits until that has built the
+libraries below it. The last line is 'N passed, M failed'.
 """
 import argparse
 import fcntl
@@ -47,6 +50,8 @@ FOLDER = "wrong-bodies"
 # The public functions that need no edit.
 WITHOUT = "without.md"
 PARTS = ("src", "specs", "proofs")
+# The files of a function's own proof, and that which stands for all of them.
+PROOF_FILES, PROOF = ("Answers.antt", "Invariants.antt", "Proof.antt"), "Proof.antt"
 # So many edits in one check. Most of what a check costs beside its functions it costs once.
 MOST_IN_A_ROUND = 128
 LONGEST_CHECK = 7200
@@ -58,6 +63,7 @@ HEAD = re.compile(r"^( *)(?:pub(?:\([^)]*\))? )?(?:const )?fn (\w+)")
 PUBLIC = re.compile(r"^ *pub (?:const )?fn ")
 CLAUSE = re.compile(r"^\s*(?:requires|ensures|ghost)\b", re.M)
 IMPL = re.compile(r"^impl\b(?P<rest>.*)")
+TYPE = re.compile(r"^(?:pub(?:\([^)]*\))? )?(?:struct|enum|union) (\w+)", re.M)
 SAID = re.compile(r"^fn (\S+): (.*)$", re.M)
 # An error's file, and what it says; a record without a field is told of on the second line.
 ERROR = re.compile(r"^(?:\./)?(\S+?):\d+:\d+: error: (.*(?:\n  .*)?)$", re.M)
@@ -102,14 +108,29 @@ class Crate:
     edits: list = field(default_factory=list)
     # Further edits of functions that the first check has one of: they wait for what it keeps.
     later: list = field(default_factory=list)
+    # Its functions, each with the file in which it stands.
+    functions: list = field(default_factory=list)
+    # The modules of its types, by their names.
+    types: dict = field(default_factory=dict)
     # The owners and names that several functions have.
     shared: set = field(default_factory=set)
+    is_planted: bool = True
     # Why edits fail, by their name.
     failed: dict = field(default_factory=dict)
     refused: int = 0
     only_as_names_went: int = 0
     rounds: int = 0
     seconds: float = 0
+
+
+@dataclass(frozen=True)
+class Round:
+    """Edits that are planted together."""
+
+    edits: tuple
+    # Whether the functions that no edit touches have their proofs.
+    is_whole: bool = False
+    is_planted: bool = True
 
 
 class BadEdit(Exception):
@@ -210,7 +231,7 @@ def owner_of(head):
 
 def functions_of(path, text):
     """Returns the functions of a formatted file, from the line of each one's head to the next line with a bracket as far to the left."""
-    module = re.sub(r"(^|::)(lib|main)$", "", path[len("src/") : -len(".rt")].replace("/", "::"))
+    module = module_of(path)
     found, owner, lines = [], "", text.split("\n")
     for number, line in enumerate(lines):
         block, head = IMPL.match(line), HEAD.match(line)
@@ -282,18 +303,26 @@ def read_edit(crate, file, name):
     return Edit(crate.name, name, paths[0], tuple(zip(places, olds, news)), found.pop())
 
 
-def shared_names(crate):
-    """Returns the owners and names that several of the crate's functions have."""
+def module_of(path):
+    """Returns the module that a file is, by its path in the crate's folder."""
+    return re.sub(r"(^|::)(lib|main)$", "", path[len("src/") : -len(".rt")].replace("/", "::"))
+
+
+def read_functions(crate):
+    """Fills in the crate's functions and types, and the names that several of its functions have."""
     folder = ROOT / "crates" / crate.name
-    files = [it for it in sources(crate) if it.suffix == ".rt"]
-    found = [it for file in files for it in functions_of(str(file.relative_to(folder)), file.read_text())]
-    times = Counter((it.owner, it.name) for it in found)
-    return {it for it, number in times.items() if number > 1}
+    for file in sources(crate):
+        if file.suffix == ".rt":
+            path, text = str(file.relative_to(folder)), file.read_text()
+            crate.functions += [(path, it) for it in functions_of(path, text)]
+            crate.types |= {it: module_of(path) for it in TYPE.findall(text)}
+    times = Counter((it.owner, it.name) for _, it in crate.functions)
+    crate.shared = {it for it, number in times.items() if number > 1}
 
 
 def read_edits(crate, only):
     """Fills in the crate's edits; those that can't be applied have failed."""
-    crate.shared = shared_names(crate)
+    read_functions(crate)
     folder = ROOT / "crates" / crate.name / FOLDER
     files = sorted(it for it in folder.rglob("*") if it != folder / WITHOUT and (it.is_symlink() or not it.is_dir()))
     if not files:
@@ -415,19 +444,39 @@ def kept_of(crate, base):
     return base / f"kept-{crate.name}"
 
 
-def check_round(base, crate, crates, edits):
-    """Checks the crate with these edits planted, and returns what was said and the seconds that it took.
+def leave_out_proofs(home, crate, edits):
+    """Leaves an empty file in the place of the proof of each function that no edit touches, in a copy of the crate.
+
+    A method's proof lies where its type does. One whose place isn't known is left as it is.
+    """
+    edited = {(it.path, it.function) for it in edits}
+    for path, function in crate.functions:
+        owner = max((it for it in crate.types if function.owner.startswith(it)), key=len, default=None)
+        if (path, function) in edited or function.owner and not owner:
+            continue
+        module = crate.types[owner] if owner else function.module
+        folder = home / "proofs" / "/".join(it for it in (module.replace("::", "/"), function.owner, function.name) if it)
+        folder.mkdir(parents=True, exist_ok=True)
+        for name in PROOF_FILES:
+            (folder / name).unlink(missing_ok=True)
+        (folder / PROOF).touch()
+
+
+def check_round(base, crate, crates, tried):
+    """Checks the crate with a round's edits planted, and returns what was said and the seconds that it took.
 
     What it proved is left for the rounds that follow: rattle takes of it what the next edits leave as it is.
     """
     start, room = time.time(), Path(tempfile.mkdtemp(prefix=f"{crate.name}-", dir=base))
     make_room(room, crate, crates, base)
-    for path in {it.path for it in edits}:
+    for path in {it.path for it in tried.edits if tried.is_planted}:
         file = room / "crates" / crate.name / path
-        text = planted(file.read_text(), [it for it in edits if it.path == path])
+        text = planted(file.read_text(), [it for it in tried.edits if it.path == path])
         file.unlink()
         file.write_text(text)
-    said = check(room, crate, edits)
+    if not tried.is_whole:
+        leave_out_proofs(room / "crates" / crate.name, crate, tried.edits)
+    said = check(room, crate, tried.edits)
     keep(room / "crates" / crate.name / "out/incremental", kept_of(crate, base))
     shutil.rmtree(room)
     return said, time.time() - start
@@ -483,16 +532,17 @@ def is_excused(key, said):
     return calls is not None and all(said.get(it) != "proved" for it in re.findall(r"`([^`]+)`", calls[1]))
 
 
-def judge(edits, out):
-    """Returns each edit's verdict in a round, and what else failed than the edited functions, and those only unproved with them."""
+def judge(tried, out):
+    """Returns each edit's verdict in a round, and what else failed than the edited functions, those only unproved with them, and those
+    whose proofs were left out."""
     said, errors = dict(SAID.findall(out)), ERROR.findall(out)
     own, verdicts = set(), {}
-    for edit in edits:
+    for edit in tried.edits:
         keys = keys_of(edit, said)
         own.update(keys)
         each = [verdict_on(it, said, errors) for it in keys]
         verdicts[edit] = next((it for it in (REFUSED, NAMES, CALLEE, PASSED) if it in each), UNKNOWN)
-    others = {it: verdict_on(it, said, errors) for it in said if it not in own}
+    others = {it: verdict_on(it, said, errors) for it in said if it not in own} if tried.is_whole else {}
     strangers = [it for it, verdict in others.items() if verdict in (REFUSED, NAMES) or verdict == CALLEE and not is_excused(it, said)]
     folders = tuple(map(folder_of, said))
     return verdicts, strangers + [file for file, _ in errors if not file.startswith(folders)]
@@ -504,25 +554,35 @@ def first_error(out):
     return next((it for it in lines if it.startswith("error") or ": error" in it), lines[-1] if lines else "nothing was said")[:200]
 
 
-def settle(crate, edits, out):
-    """Takes down the verdicts of a round, and returns the lists of edits to try again."""
-    is_alone = len(edits) == 1
+def settle(crate, tried, out):
+    """Takes down the verdicts of a round, and returns the rounds in which edits are tried again."""
     if not CAME_TO_A_VERDICT.search(out):
-        if is_alone:
-            crate.failed[edits[0].name] = f"BAD EDIT: no contract was tried, since it doesn't compile: {first_error(out)}"
-        return [] if is_alone else halves(edits)
-    verdicts, strangers = judge(edits, out)
+        if not tried.is_whole:
+            return tried_again(tried.edits, tried)
+        crate.failed[tried.edits[0].name] = f"BAD EDIT: no contract was tried, since it doesn't compile: {first_error(out)}"
+        return []
+    verdicts, strangers = judge(tried, out)
+    if not tried.is_planted:
+        take_down_unedited(crate, verdicts)
+        return []
     again = []
-    for edit in edits:
+    for edit in tried.edits:
         if verdicts[edit] == UNKNOWN:
             crate.failed[edit.name] = f"BAD EDIT: the check tells of no function {edit.function.name} of {edit.path}"
-        elif not is_alone and (strangers or verdicts[edit] != REFUSED):
+        elif not tried.is_whole and (strangers or verdicts[edit] != REFUSED):
             again.append(edit)
         else:
             take_down(crate, edit, verdicts[edit])
-    if len(again) == len(edits):
-        return halves(again)
-    return [again] if again else []
+    return tried_again(tuple(again), tried)
+
+
+def take_down_unedited(crate, verdicts):
+    """Takes down how functions came out in which nothing is planted: none has a goal that isn't proved."""
+    for edit, verdict in verdicts.items():
+        if verdict in (PASSED, CALLEE):
+            crate.refused += 1
+        else:
+            crate.failed[edit.name] = f"{edit.function.name} is {verdict} as it is"
 
 
 def take_down(crate, edit, verdict):
@@ -538,8 +598,13 @@ def take_down(crate, edit, verdict):
             print(f"{edit.label()}: refused only as names went away, which says little: change a value and keep the names", flush=True)
 
 
-def halves(edits):
-    return [it for it in (edits[: len(edits) // 2], edits[len(edits) // 2 :]) if it]
+def tried_again(edits, tried):
+    """Returns the rounds in which some edits of a round are tried again: fewer in each, and at last one alone, with all proofs."""
+    if len(edits) < 2:
+        return [Round(edits, is_whole=True)] if edits else []
+    if len(edits) < len(tried.edits):
+        return [Round(edits)]
+    return [Round(it) for it in (edits[: len(edits) // 2], edits[len(edits) // 2 :])]
 
 
 # The run
@@ -555,17 +620,17 @@ def try_all(base, chosen, crates, jobs, proving):
             waiting = [it for it in waiting if it not in begun]
             queue.extend(opening_of(begun, crates))
             while queue and len(running) < jobs:
-                crate, edits = queue.popleft()
-                running[pool.submit(check_round, base, crate, crates, edits)] = crate, edits
+                crate, tried = queue.popleft()
+                running[pool.submit(check_round, base, crate, crates, tried)] = crate, tried
             if not running:
                 time.sleep(SECONDS_BETWEEN_LOOKS)
                 continue
             for done in wait(running, SECONDS_BETWEEN_LOOKS if waiting else None, FIRST_COMPLETED).done:
-                crate, edits = running.pop(done)
+                crate, tried = running.pop(done)
                 said, seconds = done.result()
                 crate.rounds += 1
                 crate.seconds += seconds
-                queue.extendleft((crate, it) for it in reversed(after_round(crate, edits, said, seconds)))
+                queue.extendleft((crate, it) for it in reversed(after_round(crate, tried, said, seconds)))
                 if not any(it is crate for it, _ in [*queue, *running.values()]):
                     tell(crate)
 
@@ -583,7 +648,7 @@ def opening_of(begun, crates):
             take_down_all(crate, f"its library {lacking} isn't proved")
             tell(crate)
         else:
-            first, *crate.later = rounds_of(crate.edits)
+            first, *crate.later = [Round(tuple(it), is_planted=crate.is_planted) for it in rounds_of(crate.edits)]
             opening.append((crate, first))
     return opening
 
@@ -594,15 +659,15 @@ def take_down_all(crate, why):
         crate.failed[edit.name] = f"not tried, since {why}"
 
 
-def after_round(crate, edits, said, seconds):
+def after_round(crate, tried, said, seconds):
     """Returns the rounds that follow on a round."""
     before, failed = crate.refused, len(crate.failed)
-    again = settle(crate, edits, said)
+    again = settle(crate, tried, said)
     later, crate.later = crate.later, []
     for name in list(crate.failed)[failed:]:
         print(f"{crate.name}/{FOLDER}/{name}: {crate.failed[name]}")
-    came_out = f"{crate.refused - before} refused, {len(crate.failed) - failed} not, {sum(map(len, again))} to try again"
-    print(f"{crate.name}: {len(edits)} edits in one check, {seconds:.0f} s: {came_out}", flush=True)
+    came_out = f"{crate.refused - before} refused, {len(crate.failed) - failed} not, {sum(len(it.edits) for it in again)} to try again"
+    print(f"{crate.name}: {len(tried.edits)} edits in one check, {seconds:.0f} s: {came_out}", flush=True)
     return again + later
 
 
@@ -611,7 +676,7 @@ def tell(crate):
     for name, why in sorted(crate.failed.items()):
         print(f"{crate.name}/{name if name.startswith(FOLDER) else f'{FOLDER}/{name}'}: {why}")
     names = f" ({crate.only_as_names_went} only as names went away)" if crate.only_as_names_went else ""
-    print(f"{crate.name}: {crate.refused} refused{names}, {len(crate.failed)} not; {crate.rounds} checks in {crate.seconds:.0f} s", flush=True)
+    print(f"{crate.name}: {crate.refused} {'refused' if crate.is_planted else 'not refused, as nothing is planted'}{names}, {len(crate.failed)} not; {crate.rounds} checks in {crate.seconds:.0f} s", flush=True)
 
 
 def clear(base):
@@ -649,6 +714,7 @@ def main():
     reader = argparse.ArgumentParser(description="Tries the wrong bodies of the crates.")
     reader.add_argument("--only", default="", metavar="TEXT", help="the edits whose name has this")
     reader.add_argument("--while", type=Path, metavar="FILE", dest="proving", help="the file that is there as long as `rt ci` runs beside this")
+    reader.add_argument("--unedited", action="store_true", help="plant nothing: then no function may be refused")
     reader.add_argument("names", nargs="*", metavar="CRATE")
     given = reader.parse_args()
     start, crates = time.time(), read_crates()
@@ -658,6 +724,7 @@ def main():
         print(f"{name}: crates.txt names no such crate")
     chosen = [crates[it] for it in dict.fromkeys(names) if it in crates]
     for crate in chosen:
+        crate.is_planted = not given.unedited
         read_edits(crate, given.only)
         if not crate.edits:
             tell(crate)
