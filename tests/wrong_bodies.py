@@ -68,9 +68,11 @@ SAID = re.compile(r"^fn (\S+): (.*)$", re.M)
 # An error's file, and what it says; a record without a field is told of on the second line.
 ERROR = re.compile(r"^(?:\./)?(\S+?):\d+:\d+: error: (.*(?:\n  .*)?)$", re.M)
 CALLS = re.compile(r"it calls (.*), which (?:is|are) not proved")
+# The proof of functions that call one another, or themselves, lies elsewhere.
+RESERVED = re.compile(r"^(?:\./)?(proofs/\S+): error\[reserved-name\]", re.M)
 CAME_TO_A_VERDICT = re.compile(r"^(?:logic=(?:not-)?proved|only=\d)", re.M)
-# What antt says where a proof file names what an edit took away, or cites such a proof.
-NAMES_WENT = re.compile(r"has no field|is not in scope|has no `|was not admitted")
+# What antt says where a proof file names what an edit took away, or cites such a proof, and where a proof was left out.
+NAMES_WENT = re.compile(r"has no field|is not in scope|has no `|was not admitted|exports no `")
 
 
 @dataclass(frozen=True)
@@ -108,7 +110,6 @@ class Crate:
     edits: list = field(default_factory=list)
     # Further edits of functions that the first check has one of: they wait for what it keeps.
     later: list = field(default_factory=list)
-    # Its functions, each with the file in which it stands.
     functions: list = field(default_factory=list)
     # The modules of its types, by their names.
     types: dict = field(default_factory=dict)
@@ -314,9 +315,9 @@ def read_functions(crate):
     for file in sources(crate):
         if file.suffix == ".rt":
             path, text = str(file.relative_to(folder)), file.read_text()
-            crate.functions += [(path, it) for it in functions_of(path, text)]
+            crate.functions += functions_of(path, text)
             crate.types |= {it: module_of(path) for it in TYPE.findall(text)}
-    times = Counter((it.owner, it.name) for _, it in crate.functions)
+    times = Counter((it.owner, it.name) for it in crate.functions)
     crate.shared = {it for it, number in times.items() if number > 1}
 
 
@@ -444,21 +445,23 @@ def kept_of(crate, base):
     return base / f"kept-{crate.name}"
 
 
-def leave_out_proofs(home, crate, edits):
-    """Leaves an empty file in the place of the proof of each function that no edit touches, in a copy of the crate.
+def proof_folder(crate, function):
+    """Returns the folder of a function's proof, below proofs/: a method's lies where its type does. None where that isn't known."""
+    owner = max((it for it in crate.types if function.owner.startswith(it)), key=len, default=None)
+    if function.owner and not owner:
+        return None
+    module = crate.types[owner] if owner else function.module
+    return "/".join(it for it in (module.replace("::", "/"), function.owner, function.name) if it)
 
-    A method's proof lies where its type does. One whose place isn't known is left as it is.
-    """
-    edited = {(it.path, it.function) for it in edits}
-    for path, function in crate.functions:
-        owner = max((it for it in crate.types if function.owner.startswith(it)), key=len, default=None)
-        if (path, function) in edited or function.owner and not owner:
-            continue
-        module = crate.types[owner] if owner else function.module
-        folder = home / "proofs" / "/".join(it for it in (module.replace("::", "/"), function.owner, function.name) if it)
+
+def leave_out_proofs(home, crate, edits):
+    """Leaves an empty file in the place of the proof of each function that no edit touches, in a copy of the crate."""
+    edited = {proof_folder(crate, it.function) for it in edits}
+    for name in {proof_folder(crate, it) for it in crate.functions} - edited - {None}:
+        folder = home / "proofs" / name
         folder.mkdir(parents=True, exist_ok=True)
-        for name in PROOF_FILES:
-            (folder / name).unlink(missing_ok=True)
+        for file in PROOF_FILES:
+            (folder / file).unlink(missing_ok=True)
         (folder / PROOF).touch()
 
 
@@ -477,6 +480,10 @@ def check_round(base, crate, crates, tried):
     if not tried.is_whole:
         leave_out_proofs(room / "crates" / crate.name, crate, tried.edits)
     said = check(room, crate, tried.edits)
+    if reserved := RESERVED.findall(said):
+        for name in reserved:
+            (room / "crates" / crate.name / name).unlink()
+        said = check(room, crate, tried.edits)
     keep(room / "crates" / crate.name / "out/incremental", kept_of(crate, base))
     shutil.rmtree(room)
     return said, time.time() - start
