@@ -42,7 +42,7 @@ import threading
 import time
 from collections import Counter, deque
 from concurrent.futures import FIRST_COMPLETED, ThreadPoolExecutor, wait
-from dataclasses import dataclass, field
+from dataclasses import dataclass, field, replace
 from pathlib import Path
 
 ROOT = Path(__file__).resolve().parent.parent
@@ -608,10 +608,10 @@ def take_down(crate, edit, verdict):
 def tried_again(edits, tried):
     """Returns the rounds in which some edits of a round are tried again: fewer in each, and at last one alone, with all proofs."""
     if len(edits) < 2:
-        return [Round(edits, is_whole=True)] if edits else []
+        return [replace(tried, edits=edits, is_whole=True)] if edits else []
     if len(edits) < len(tried.edits):
-        return [Round(edits)]
-    return [Round(it) for it in (edits[: len(edits) // 2], edits[len(edits) // 2 :])]
+        return [replace(tried, edits=edits)]
+    return [replace(tried, edits=it) for it in (edits[: len(edits) // 2], edits[len(edits) // 2 :])]
 
 
 # The run
@@ -683,7 +683,9 @@ def tell(crate):
     for name, why in sorted(crate.failed.items()):
         print(f"{crate.name}/{name if name.startswith(FOLDER) else f'{FOLDER}/{name}'}: {why}")
     names = f" ({crate.only_as_names_went} only as names went away)" if crate.only_as_names_went else ""
-    print(f"{crate.name}: {crate.refused} {'refused' if crate.is_planted else 'not refused, as nothing is planted'}{names}, {len(crate.failed)} not; {crate.rounds} checks in {crate.seconds:.0f} s", flush=True)
+    came_out = "refused" if crate.is_planted else "not refused, as nothing is planted"
+    checks = f"{crate.rounds} checks in {crate.seconds:.0f} s"
+    print(f"{crate.name}: {crate.refused} {came_out}{names}, {len(crate.failed)} not; {checks}", flush=True)
 
 
 def clear(base):

@@ -194,7 +194,7 @@ class Kills:
             unharmed = True
             while not self.ended(target) and not self.reasons and time.monotonic() < deadline:
                 place, unharmed = self.place(target), False
-                # A kill that left no new place came too early, and where there was none before the end, each would have come too late.
+                # A kill that left no new place came too early. Where the replica comes to its end unharmed, the kill came too late.
                 self.pace *= 1.2 if place in places else 1
                 places.add(place)
             self.pace *= 0.8 if unharmed else 1
