@@ -17,16 +17,17 @@ Each public function with a contract has to have an edit, here or in must-fail/,
 Those that no body can get wrong are named in wrong-bodies/without.md, each by a line "- `MODULE::TYPE::NAME`: why".
 
 A check asks for the edited functions alone, and so for what they call: what calls them would be proved again for nothing.
-What they call isn't proved either: in the copy the proof of a function that no edit touches is an empty file. A goal cites
-the contract of what is called, and never its proof. Only where an edit wasn't refused so, it is tried alone with all proofs:
-then every function that the check tells of and no edit touches must be proved, or be unproved only with what it calls. That
-the crate is proved as it is, this script doesn't look at: `rt ci` does. A check begins with what `rt check` kept in the
-crate's out/, where that is there, and a further one with what the one before it proved.
+What they call isn't proved either: in the copy a function that no edit touches has the body `unreachable!()` and an empty
+proof, unless it calls itself. A goal cites the contract of what is called, and never its body or its proof. Only where an
+edit wasn't refused so, it is tried alone with all bodies and proofs: then every function that the check tells of and no edit
+touches must be proved, or be unproved only with what it calls. That the crate is proved as it is, this script doesn't look
+at: `rt ci` does. A check begins with what `rt check` kept in the crate's out/, where that is there, and a further one with
+what the one before it proved.
 
 The copies lie in .git/wrong-bodies. Checks run side by side, one a processor or as many as RT_JOBS says. --only tries the
 edits whose name, with its folder, has TEXT. --unedited tries the checks themselves: they plant nothing, and so must refuse no
 function. As long as the file of --while is there, `rt ci` runs beside this script: a crate waits until that has built the
-libraries below it. The last line is 'N passed, M failed'.
+libraries below it, and half as many checks run. The last line is 'N passed, M failed'.
 """
 import argparse
 import fcntl
@@ -43,6 +44,7 @@ import time
 from collections import Counter, deque
 from concurrent.futures import FIRST_COMPLETED, ThreadPoolExecutor, wait
 from dataclasses import dataclass, field, replace
+from itertools import takewhile
 from pathlib import Path
 
 ROOT = Path(__file__).resolve().parent.parent
@@ -52,6 +54,8 @@ WITHOUT = "without.md"
 PARTS = ("src", "specs", "proofs")
 # The files of a function's own proof, and that which stands for all of them.
 PROOF_FILES, PROOF = ("Answers.antt", "Invariants.antt", "Proof.antt"), "Proof.antt"
+# What stands in the place of a body: it is read, checked and lowered at once.
+NO_BODY = "unreachable!()"
 # So many edits in one check. Most of what a check costs beside its functions it costs once.
 MOST_IN_A_ROUND = 128
 LONGEST_CHECK = 7200
@@ -68,8 +72,8 @@ SAID = re.compile(r"^fn (\S+): (.*)$", re.M)
 # An error's file, and what it says; a record without a field is told of on the second line.
 ERROR = re.compile(r"^(?:\./)?(\S+?):\d+:\d+: error: (.*(?:\n  .*)?)$", re.M)
 CALLS = re.compile(r"it calls (.*), which (?:is|are) not proved")
-# The proof of functions that call one another, or themselves, lies elsewhere.
-RESERVED = re.compile(r"^(?:\./)?(proofs/\S+): error\[reserved-name\]", re.M)
+# The mark of functions that call one another: their proof lies elsewhere, and goes by their bodies.
+CYCLE = re.compile(r"^ *#\[cycle\b")
 CAME_TO_A_VERDICT = re.compile(r"^(?:logic=(?:not-)?proved|only=\d)", re.M)
 # What antt says where a proof file names what an edit took away, or cites such a proof, and where a proof was left out.
 NAMES_WENT = re.compile(r"has no field|is not in scope|has no `|was not admitted|exports no `")
@@ -129,7 +133,7 @@ class Round:
     """Edits that are planted together."""
 
     edits: tuple
-    # Whether the functions that no edit touches have their proofs.
+    # Whether the functions that no edit touches have their bodies and proofs.
     is_whole: bool = False
     is_planted: bool = True
 
@@ -454,10 +458,40 @@ def proof_folder(crate, function):
     return "/".join(it for it in (module.replace("::", "/"), function.owner, function.name) if it)
 
 
-def leave_out_proofs(home, crate, edits):
-    """Leaves an empty file in the place of the proof of each function that no edit touches, in a copy of the crate."""
-    edited = {proof_folder(crate, it.function) for it in edits}
-    for name in {proof_folder(crate, it) for it in crate.functions} - edited - {None}:
+def body_of(function, lines):
+    """Returns the lines of a function's body as a slice, in a formatted file: none where it stands in the line of its head."""
+    indent = re.match(" *", lines[function.first])[0]
+    start = next((it for it in range(function.first, function.last) if re.match(rf"{indent}(?! ).*\{{$", lines[it])), None)
+    return None if start is None or lines[function.last] != f"{indent}}}" else slice(start + 1, function.last)
+
+
+def may_be_left_out(function, lines, body):
+    """Returns whether a function's body isn't needed: no constant is made by it, and it doesn't call itself, at once or by others."""
+    attributes = takewhile(lambda it: it.lstrip().startswith("#["), reversed(lines[: function.first]))
+    is_recursive = any(map(CYCLE.match, attributes)) or re.search(rf"\b{function.name}\b", "\n".join(lines[body]))
+    return not (is_recursive or "const fn" in lines[function.first])
+
+
+def leave_out(home, crate, edits):
+    """Leaves out the body and the proof of each function that no edit touches, in a copy of the crate."""
+    edited = {(it.path, it.function.owner, it.function.name) for it in edits}
+    for file in sorted((home / "src").rglob("*.rt")):
+        path, text = str(file.relative_to(home)), file.read_text()
+        lines = text.split("\n")
+        # From the end on, so that the lines in front stay where they are.
+        for function in reversed(functions_of(path, text)):
+            body = body_of(function, lines)
+            if body and (path, function.owner, function.name) not in edited and may_be_left_out(function, lines, body):
+                indent = re.match(" *", lines[function.first])[0]
+                lines[body] = [f"{indent}    {NO_BODY}"]
+                leave_out_proof(home, crate, function)
+        file.unlink()
+        file.write_text("\n".join(lines))
+
+
+def leave_out_proof(home, crate, function):
+    """Leaves an empty file in the place of a function's proof."""
+    if name := proof_folder(crate, function):
         folder = home / "proofs" / name
         folder.mkdir(parents=True, exist_ok=True)
         for file in PROOF_FILES:
@@ -478,12 +512,8 @@ def check_round(base, crate, crates, tried):
         file.unlink()
         file.write_text(text)
     if not tried.is_whole:
-        leave_out_proofs(room / "crates" / crate.name, crate, tried.edits)
+        leave_out(room / "crates" / crate.name, crate, tried.edits)
     said = check(room, crate, tried.edits)
-    if reserved := RESERVED.findall(said):
-        for name in reserved:
-            (room / "crates" / crate.name / name).unlink()
-        said = check(room, crate, tried.edits)
     keep(room / "crates" / crate.name / "out/incremental", kept_of(crate, base))
     shutil.rmtree(room)
     return said, time.time() - start
@@ -541,7 +571,7 @@ def is_excused(key, said):
 
 def judge(tried, out):
     """Returns each edit's verdict in a round, and what else failed than the edited functions, those only unproved with them, and those
-    whose proofs were left out."""
+    that were left out."""
     said, errors = dict(SAID.findall(out)), ERROR.findall(out)
     own, verdicts = set(), {}
     for edit in tried.edits:
@@ -623,16 +653,18 @@ def try_all(base, chosen, crates, jobs, proving):
     queue, running = deque(), {}
     with ThreadPoolExecutor(jobs) as pool:
         while waiting or queue or running:
-            begun = [it for it in waiting if has_libraries(it, crates)] if proving and proving.exists() else waiting
+            is_beside = proving is not None and proving.exists()
+            begun = [it for it in waiting if has_libraries(it, crates)] if is_beside else waiting
             waiting = [it for it in waiting if it not in begun]
             queue.extend(opening_of(begun, crates))
-            while queue and len(running) < jobs:
+            lanes = (jobs + 1) // 2 if is_beside else jobs
+            while queue and len(running) < lanes:
                 crate, tried = queue.popleft()
                 running[pool.submit(check_round, base, crate, crates, tried)] = crate, tried
             if not running:
                 time.sleep(SECONDS_BETWEEN_LOOKS)
                 continue
-            for done in wait(running, SECONDS_BETWEEN_LOOKS if waiting else None, FIRST_COMPLETED).done:
+            for done in wait(running, SECONDS_BETWEEN_LOOKS if is_beside else None, FIRST_COMPLETED).done:
                 crate, tried = running.pop(done)
                 said, seconds = done.result()
                 crate.rounds += 1
