@@ -245,7 +245,7 @@ def functions_of(path, text):
         elif line.startswith("}"):
             owner = ""
         if head:
-            ends = rf"{head[1]}\}}|{head[1]}(?:pub(?:\([^)]*\))? )?(?:const )?fn \w"
+            ends = rf"{head[1]}\{{?\}}|{head[1]}(?:pub(?:\([^)]*\))? )?(?:const )?fn \w"
             last = next((at for at in range(number + 1, len(lines)) if re.match(ends, lines[at])), len(lines) - 1)
             is_short = line.rstrip().endswith(("}", ";"))
             found.append(Function(module, owner, head[2], number, number if is_short else last))
@@ -554,8 +554,11 @@ def folder_of(key):
 def verdict_on(key, said, errors):
     """Judges one function by what a check said of it."""
     text, own = said[key], [it for file, it in errors if file.startswith(folder_of(key))]
-    if text == "proved":
+    if text.split(",")[0] == "proved":
         return PASSED
+    # No goal was refused where antt gave up at a limit of its own.
+    if text.startswith("could not tell"):
+        return CALLEE
     if "`search` did not prove" in text or any(not NAMES_WENT.search(it) for it in own):
         return REFUSED
     if own:
@@ -570,8 +573,9 @@ def is_excused(key, said):
 
 
 def judge(tried, out):
-    """Returns each edit's verdict in a round, and what else failed than the edited functions, those only unproved with them, and those
-    that were left out."""
+    """Returns each edit's verdict in a round, and what else failed: other functions by goals of their own, and files that aren't a
+    function's. Where nothing was left out, other functions are unproved only with the edited ones.
+    """
     said, errors = dict(SAID.findall(out)), ERROR.findall(out)
     own, verdicts = set(), {}
     for edit in tried.edits:
@@ -579,8 +583,9 @@ def judge(tried, out):
         own.update(keys)
         each = [verdict_on(it, said, errors) for it in keys]
         verdicts[edit] = next((it for it in (REFUSED, NAMES, CALLEE, PASSED) if it in each), UNKNOWN)
-    others = {it: verdict_on(it, said, errors) for it in said if it not in own} if tried.is_whole else {}
-    strangers = [it for it, verdict in others.items() if verdict in (REFUSED, NAMES) or verdict == CALLEE and not is_excused(it, said)]
+    others = {it: verdict_on(it, said, errors) for it in said if it not in own}
+    unexcused = [it for it, verdict in others.items() if verdict == CALLEE and tried.is_whole and not is_excused(it, said)]
+    strangers = [it for it, verdict in others.items() if verdict in (REFUSED, NAMES)] + unexcused
     folders = tuple(map(folder_of, said))
     return verdicts, strangers + [file for file, _ in errors if not file.startswith(folders)]
 
@@ -600,7 +605,7 @@ def settle(crate, tried, out):
         return []
     verdicts, strangers = judge(tried, out)
     if not tried.is_planted:
-        take_down_unedited(crate, verdicts)
+        take_down_unedited(crate, verdicts, strangers, dict(SAID.findall(out)))
         return []
     again = []
     for edit in tried.edits:
@@ -608,18 +613,23 @@ def settle(crate, tried, out):
             crate.failed[edit.name] = f"BAD EDIT: the check tells of no function {edit.function.name} of {edit.path}"
         elif not tried.is_whole and (strangers or verdicts[edit] != REFUSED):
             again.append(edit)
+        elif strangers:
+            crate.failed[edit.name] = f"BAD EDIT: beside it these aren't proved: {', '.join(strangers)[:200]}"
         else:
             take_down(crate, edit, verdicts[edit])
     return tried_again(tuple(again), tried)
 
 
-def take_down_unedited(crate, verdicts):
-    """Takes down how functions came out in which nothing is planted: none has a goal that isn't proved."""
+def take_down_unedited(crate, verdicts, strangers, said):
+    """Takes down how functions came out in which nothing is planted: each is proved, or unproved only with what it calls."""
     for edit, verdict in verdicts.items():
-        if verdict in (PASSED, CALLEE):
+        unproved = [it for it in keys_of(edit, said) if said[it].split(",")[0] != "proved"]
+        if verdict in (PASSED, CALLEE) and all(is_excused(it, said) for it in unproved):
             crate.refused += 1
         else:
-            crate.failed[edit.name] = f"{edit.function.name} is {verdict} as it is"
+            crate.failed[edit.name] = f"{edit.function.name} is {verdict} as it is: {' '.join(said[it] for it in unproved)[:200]}"
+    for name in strangers:
+        crate.failed[name] = "it isn't proved, though nothing is planted"
 
 
 def take_down(crate, edit, verdict):
