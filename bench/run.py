@@ -71,7 +71,7 @@ def make(folder, kind, size):
 def late_token(lines):
     """The token of a line near the end of the lines."""
     with open(lines, "rb") as file:
-        file.seek(max(0, os.path.getsize(lines) - 20_000))
+        file.seek(max(0, os.path.getsize(lines) - 200_000))
         return json.loads(file.read().splitlines()[-10])["token"]
 
 
