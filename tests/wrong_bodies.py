@@ -62,6 +62,7 @@ LONGEST_CHECK = 7200
 # Held while what was kept is copied, or replaced.
 KEEPING = threading.Lock()
 SECONDS_BETWEEN_LOOKS = 2
+SECONDS_AT_REST = 5
 
 HEAD = re.compile(r"^( *)(?:pub(?:\([^)]*\))? )?(?:const )?fn (\w+)")
 PUBLIC = re.compile(r"^ *pub (?:const )?fn ")
@@ -194,10 +195,23 @@ def is_of_the_gate(crate):
 
     It has no stamp, since it holds statements alone: it fits the libraries of the same run, and all are copied together.
     """
-    built = ROOT / "crates" / crate.name / "out/rlib" / f"{crate.name}.rlib/format"
-    if not built.is_file() or (built.parent.parent / "stamp").exists():
+    built = library_of(crate)
+    if not (built / "format").is_file() or (built.parent / "stamp").exists():
         return False
+    # The folder's time counts: where an earlier run proved the crate, its files are links, and have the times of that run.
     return all(it.stat().st_mtime < built.stat().st_mtime for it in sources(crate))
+
+
+def library_of(crate):
+    """Returns the folder of the crate's library."""
+    return ROOT / "crates" / crate.name / "out/rlib" / f"{crate.name}.rlib"
+
+
+def is_at_rest(crate):
+    """Returns whether nothing was put into the crate's library in the last seconds: `rt ci` may be about to put more there."""
+    built = library_of(crate)
+    folders = [built, *(it for it in built.rglob("*") if it.is_dir())]
+    return time.time() - max(it.stat().st_mtime for it in folders) > SECONDS_AT_REST
 
 
 def is_built(crate, crates):
@@ -686,7 +700,7 @@ def try_all(base, chosen, crates, jobs, proving):
 
 def has_libraries(crate, crates):
     """Returns whether `rt ci` has built the libraries below a crate."""
-    return all(map(is_of_the_gate, below(crate, crates)))
+    return all(is_of_the_gate(it) and is_at_rest(it) for it in below(crate, crates))
 
 
 def opening_of(begun, crates):
