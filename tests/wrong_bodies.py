@@ -52,6 +52,7 @@ FOLDER = "wrong-bodies"
 # The public functions that need no edit.
 WITHOUT = "without.md"
 PARTS = ("src", "specs", "proofs")
+LIBRARY = "crates/{0}/out/rlib/{0}.rlib"
 # The files of a function's own proof, and that which stands for all of them.
 PROOF_FILES, PROOF = ("Answers.antt", "Invariants.antt", "Proof.antt"), "Proof.antt"
 # What stands in the place of a body: it is read, checked and lowered at once.
@@ -62,7 +63,6 @@ LONGEST_CHECK = 7200
 # Held while what was kept is copied, or replaced.
 KEEPING = threading.Lock()
 SECONDS_BETWEEN_LOOKS = 2
-SECONDS_AT_REST = 5
 
 HEAD = re.compile(r"^( *)(?:pub(?:\([^)]*\))? )?(?:const )?fn (\w+)")
 PUBLIC = re.compile(r"^ *pub (?:const )?fn ")
@@ -191,27 +191,19 @@ def stamp(crate, crates):
 
 
 def is_of_the_gate(crate):
-    """Returns whether the crate has the library that `rt ci` proved and built from its sources as they are.
-
-    It has no stamp, since it holds statements alone: it fits the libraries of the same run, and all are copied together.
-    """
-    built = library_of(crate)
+    """Returns whether the crate has the library that `rt ci` proved from its sources as they are: it has no stamp, holds statements alone,
+    and fits the libraries of the same run, so all are copied together."""
+    built = ROOT / LIBRARY.format(crate.name)
     if not (built / "format").is_file() or (built.parent / "stamp").exists():
         return False
     # The folder's time counts: where an earlier run proved the crate, its files are links, and have the times of that run.
     return all(it.stat().st_mtime < built.stat().st_mtime for it in sources(crate))
 
 
-def library_of(crate):
-    """Returns the folder of the crate's library."""
-    return ROOT / "crates" / crate.name / "out/rlib" / f"{crate.name}.rlib"
-
-
 def is_at_rest(crate):
     """Returns whether nothing was put into the crate's library in the last seconds: `rt ci` may be about to put more there."""
-    built = library_of(crate)
-    folders = [built, *(it for it in built.rglob("*") if it.is_dir())]
-    return time.time() - max(it.stat().st_mtime for it in folders) > SECONDS_AT_REST
+    folders = (ROOT / LIBRARY.format(crate.name)).rglob("**/")
+    return time.time() - max(it.stat().st_mtime for it in folders if it.is_dir()) > 2 * SECONDS_BETWEEN_LOOKS
 
 
 def is_built(crate, crates):
