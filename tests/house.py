@@ -93,8 +93,9 @@ def lines_of(path: Path) -> list[str]:
 
 
 def sources() -> Iterator[Path]:
-    """The files of code."""
-    return (path for crate in CRATES for path in sorted(crate.glob("src/**/*.rt")))
+    """The files of code, and those of programs of tests."""
+    yield from (path for crate in CRATES for path in sorted(crate.glob("src/**/*.rt")))
+    yield from sorted(TOP.glob("tests/unproved/*/src/**/*.rattle"))
 
 
 def documents() -> list[Path]:
@@ -172,8 +173,8 @@ def long_functions() -> Iterator[Item]:
 
 def long_files() -> Iterator[Item]:
     """Files of code, definitions, proofs or Python that are too long."""
-    kinds = ("crates/*/src/**/*.rt", "crates/*/specs/**/*.antt", "crates/*/proofs/**/*.antt", "python/**/*.py", "tests/**/*.py", "examples/**/*.py")
-    found = sorted(path for kind in kinds for path in TOP.glob(kind))
+    kinds = ("crates/*/specs/**/*.antt", "crates/*/proofs/**/*.antt", "python/**/*.py", "tests/**/*.py", "examples/**/*.py")
+    found = sorted([*sources(), *(path for kind in kinds for path in TOP.glob(kind))])
     return (Item(f"{short(path)}: {len(lines_of(path))}") for path in found if len(lines_of(path)) > LONG_FILE)
 
 

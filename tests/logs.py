@@ -1,5 +1,5 @@
 """Logs for the tests, with what `transactions` and `read` write for them: small ones by their names (logs.jsonl), and those that are made,
-of the pieces of crates/cases/data/pieces.cases."""
+of the pieces of tests/unproved/cases/data/pieces.cases."""
 from __future__ import annotations
 
 import json
@@ -29,7 +29,7 @@ SMALL = small_logs()
 A, FRONT = SMALL.bytes_of("A"), SMALL.bytes_of("Front")
 
 # The bytes of parts, which may name the pieces.
-parts = Pieces().read(HERE.parent / "crates/cases/data/pieces.cases").bytes_of
+parts = Pieces().read(HERE / "unproved/cases/data/pieces.cases").bytes_of
 
 SOURCE_ID = "3e11fa47-71ca-11e1-9e33-c80aa9429562"
 MAGIC = parts("magic")

@@ -15,7 +15,7 @@ from typing import NamedTuple
 sys.dont_write_bytecode = True
 
 from built import (  # noqa: E402
-    cases, collations, costs, faults, floats, following, full_lines, help_text, json_documents, library_page, rare_paths, refusals, rows,
+    collations, costs, faults, floats, following, full_lines, help_text, json_documents, library_page, rare_paths, refusals, rows,
     server_documents, server_logs, system, terminal, tokens, truth, words, wrapper,
 )  # fmt: skip
 from built.check import Check  # noqa: E402
@@ -106,10 +106,8 @@ def main() -> int:
     tasks += tasks_of([given.program.absolute()] if given.program else costs.PROGRAMS, costs.counted_checks(), missing)
     print(rows.summary(), flush=True)
     if not given.program:
-        for part in (cases, library_page):
-            tasks += tasks_of(part.PROGRAMS, part.checks(), missing)
-        tasks += tasks_of(refusals.PROGRAMS, refusals.index_checks(), missing)
-        tasks += tasks_of(library_page.PROGRAMS, rare_paths.index_checks(), missing)
+        stories = [*library_page.checks(), *rare_paths.index_checks(), *refusals.index_checks()]
+        tasks += tasks_of(library_page.PROGRAMS, stories, missing)
     if given.gate:
         tasks += tasks_of([wrapper.PROGRAM], wrapper.checks(), missing)
     for program in missing:

@@ -5,7 +5,9 @@ usage: tests/wrong_bodies.py [--only TEXT] [--while FILE] [--unedited] [CRATE ..
 
 A check judges each function by itself, since a proof cites only the contracts of what it calls. So edits of different
 functions are planted together in a copy of the crate, and `rt check` must refuse each edit's own function by a goal of
-its own. An edit whose function is only unproved with something that it calls, or only as names went away, or which was
+its own. Of several edits of one function each but the first stands in a twin of it: the same text with its attributes under
+another name, and the same proof. Methods of a trait, constant functions and those that call themselves have no twins: their
+further edits wait for another check. An edit whose function is only unproved with something that it calls, or only as names went away, or which was
 planted beside one that doesn't compile, is tried again with fewer others, and at last alone. An edit that isn't refused
 fails the run, and so does one that can't be applied, whose function can't be found, or that doesn't compile.
 
@@ -41,92 +43,34 @@ import sys
 import tempfile
 import threading
 import time
-from collections import Counter, deque
+from collections import deque
 from concurrent.futures import FIRST_COMPLETED, ThreadPoolExecutor, wait
-from dataclasses import dataclass, field, replace
-from itertools import takewhile
+from dataclasses import dataclass, replace
 from pathlib import Path
 
-ROOT = Path(__file__).resolve().parent.parent
-FOLDER = "wrong-bodies"
-# The public functions that need no edit.
-WITHOUT = "without.md"
-PARTS = ("src", "specs", "proofs")
+sys.dont_write_bytecode = True
+
+from edits import (  # noqa: E402
+    FOLDER, PARTS, ROOT, Crate, body_of, copy_proof, functions_of, may_be_left_out, planted, proof_folder, read_edits, rounds_of, sources,
+)  # fmt: skip
+
 LIBRARY = "crates/{0}/out/rlib/{0}.rlib"
 # The files of a function's own proof, and that which stands for all of them.
 PROOF_FILES, PROOF = ("Answers.antt", "Invariants.antt", "Proof.antt"), "Proof.antt"
 # What stands in the place of a body: it is read, checked and lowered at once.
 NO_BODY = "unreachable!()"
-# So many edits in one check. Most of what a check costs beside its functions it costs once.
-MOST_IN_A_ROUND = 128
 LONGEST_CHECK = 7200
 # Held while what was kept is copied, or replaced.
 KEEPING = threading.Lock()
 SECONDS_BETWEEN_LOOKS = 2
 
-HEAD = re.compile(r"^( *)(?:pub(?:\([^)]*\))? )?(?:const )?fn (\w+)")
-PUBLIC = re.compile(r"^ *pub (?:const )?fn ")
-CLAUSE = re.compile(r"^\s*(?:requires|ensures|ghost)\b", re.M)
-IMPL = re.compile(r"^impl\b(?P<rest>.*)")
-TYPE = re.compile(r"^(?:pub(?:\([^)]*\))? )?(?:struct|enum|union) (\w+)", re.M)
 SAID = re.compile(r"^fn (\S+): (.*)$", re.M)
 # An error's file, and what it says; a record without a field is told of on the second line.
 ERROR = re.compile(r"^(?:\./)?(\S+?):\d+:\d+: error: (.*(?:\n  .*)?)$", re.M)
 CALLS = re.compile(r"it calls (.*), which (?:is|are) not proved")
-# The mark of functions that call one another: their proof lies elsewhere, and goes by their bodies.
-CYCLE = re.compile(r"^ *#\[cycle\b")
 CAME_TO_A_VERDICT = re.compile(r"^(?:logic=(?:not-)?proved|only=\d)", re.M)
 # What antt says where a proof file names what an edit took away, or cites such a proof, and where a proof was left out.
 NAMES_WENT = re.compile(r"has no field|is not in scope|has no `|was not admitted|exports no `")
-
-
-@dataclass(frozen=True)
-class Function:
-    """A function of a crate: its module, the words of the type and trait that it belongs to, its name, and its lines."""
-
-    module: str
-    owner: str
-    name: str
-    first: int
-    last: int
-
-    def path(self):
-        return "::".join(it for it in (self.module, self.owner, self.name) if it)
-
-
-@dataclass(frozen=True)
-class Edit:
-    crate: str
-    # Its folder and its file's name, below wrong-bodies/.
-    name: str
-    path: str
-    # The place of each old text in the file, that text, and the new one.
-    changes: tuple
-    function: Function
-
-    def label(self):
-        return f"{self.crate}/{FOLDER}/{self.name}"
-
-
-@dataclass
-class Crate:
-    name: str
-    deps: list
-    edits: list = field(default_factory=list)
-    # Further edits of functions that the first check has one of: they wait for what it keeps.
-    later: list = field(default_factory=list)
-    functions: list = field(default_factory=list)
-    # The modules of its types, by their names.
-    types: dict = field(default_factory=dict)
-    # The owners and names that several functions have.
-    shared: set = field(default_factory=set)
-    is_planted: bool = True
-    # Why edits fail, by their name.
-    failed: dict = field(default_factory=dict)
-    refused: int = 0
-    only_as_names_went: int = 0
-    rounds: int = 0
-    seconds: float = 0
 
 
 @dataclass(frozen=True)
@@ -137,10 +81,6 @@ class Round:
     # Whether the functions that no edit touches have their bodies and proofs.
     is_whole: bool = False
     is_planted: bool = True
-
-
-class BadEdit(Exception):
-    """An edit that says nothing of a contract, and why."""
 
 
 # The repository
@@ -163,14 +103,6 @@ def below(crate, crates):
         if name in crates:
             found += [it for it in [*below(crates[name], crates), crates[name]] if it not in found]
     return found
-
-
-def sources(crate):
-    """Yields the crate's files in the order in which rt sums them."""
-    for part in PARTS:
-        for at, folders, names in os.walk(ROOT / "crates" / crate.name / part):
-            folders.sort()
-            yield from (Path(at) / name for name in sorted(names))
 
 
 def stamp(crate, crates):
@@ -228,167 +160,6 @@ def build_libraries(chosen, crates):
     return None
 
 
-# The edits
-
-
-def owner_of(head):
-    """Returns the words of an impl's head as rattle joins them to a name: its type, then its trait and what that takes."""
-    parameters, text = re.fullmatch(r"(<(?:[^<>]|<[^<>]*>)*>)?(.*)", head.rstrip("{ ")).groups()
-    taken = re.findall(r"[<,] *(\w+)", parameters or "")
-    given, _, taker = text.rpartition(" for ")
-    type_words, trait_words = ([it for it in re.findall(r"[A-Z]\w*", words) if it not in taken] for words in (taker, given))
-    return "".join([*type_words[:1], *trait_words])
-
-
-def functions_of(path, text):
-    """Returns the functions of a formatted file, from the line of each one's head to the next line with a bracket as far to the left."""
-    module = module_of(path)
-    found, owner, lines = [], "", text.split("\n")
-    for number, line in enumerate(lines):
-        block, head = IMPL.match(line), HEAD.match(line)
-        if block:
-            owner = owner_of(block["rest"])
-        elif line.startswith("}"):
-            owner = ""
-        if head:
-            ends = rf"{head[1]}\{{?\}}|{head[1]}(?:pub(?:\([^)]*\))? )?(?:const )?fn \w"
-            last = next((at for at in range(number + 1, len(lines)) if re.match(ends, lines[at])), len(lines) - 1)
-            is_short = line.rstrip().endswith(("}", ";"))
-            found.append(Function(module, owner, head[2], number, number if is_short else last))
-    return found
-
-
-def function_at(functions, text, start, old):
-    """Returns the function that the text to replace stands in, which begins at a place of the file."""
-    first, last = text.count("\n", 0, start), text.count("\n", 0, start + len(old))
-    around = [it for it in functions if it.first <= first and last <= it.last]
-    if not around:
-        raise BadEdit(f"it changes what no function holds: {old.strip()[:80]!r}")
-    if CLAUSE.match(text.split("\n")[first]):
-        raise BadEdit(f"it changes a clause, which shows nothing: {old.strip()[:80]!r}")
-    return around[-1]
-
-
-def place_of(text, old, path, part):
-    """Returns the only place of a text in a part of a file, which a slice says."""
-    times = text[part].count(old)
-    if times != 1:
-        raise BadEdit(f"it is stale: {path} has its old text {times} times, and not once: {old.strip()[:80]!r}")
-    return text.index(old, part.start)
-
-
-def part_of(functions, text, names):
-    """Returns the part of a file in which an edit's old texts stand: that of the function that it names, or all of it."""
-    if not names:
-        return slice(0, len(text))
-    found = [it for it in functions if it.name == names[0]]
-    if len(names) != 1 or len(found) != 1:
-        raise BadEdit(f"a line 'in: NAME' names the only function of that name in its file, and {' '.join(names)} is none")
-    lines = text.split("\n")
-    start = sum(len(it) + 1 for it in lines[: found[0].first])
-    return slice(start, start + sum(len(it) + 1 for it in lines[found[0].first : found[0].last + 1]))
-
-
-def read_edit(crate, file, name):
-    """Reads an edit of one function, and sees to it that it can be applied and lies in its file's folder."""
-    if not re.fullmatch(r"[a-z0-9_]+\.edit", file.name) or not file.is_file():
-        raise BadEdit("an edit's name is of small letters, digits and _, and ends in .edit")
-    lines = file.read_text().splitlines()
-    said = lambda word: [it.removeprefix(f"{word}:").removeprefix(" ") for it in lines if it.startswith(f"{word}:")]
-    paths, names, olds, news = map(said, ("file", "in", "old", "new"))
-    if len(paths) != 1 or not re.fullmatch(r"src/[\w/]+\.rt", paths[0]) or not all(olds) or not olds or len(olds) != len(news):
-        raise BadEdit("an edit is one line 'file: src/NAME.rt' and then pairs of lines 'old: TEXT' and 'new: TEXT'")
-    home = paths[0].removeprefix("src/").removesuffix(".rt")
-    if name != f"{home}/{file.name}":
-        raise BadEdit(f"it changes {paths[0]}, so its folder is {FOLDER}/{home}/")
-    try:
-        text = (ROOT / "crates" / crate.name / paths[0]).read_text()
-    except OSError:
-        raise BadEdit(f"it is stale: there is no file {paths[0]}") from None
-    functions = functions_of(paths[0], text)
-    part = part_of(functions, text, names)
-    places = [place_of(text, old, paths[0], part) for old in olds]
-    found = {function_at(functions, text, at, old) for at, old in zip(places, olds)}
-    if len(found) != 1:
-        raise BadEdit("it changes more than one function")
-    return Edit(crate.name, name, paths[0], tuple(zip(places, olds, news)), found.pop())
-
-
-def module_of(path):
-    """Returns the module that a file is, by its path in the crate's folder."""
-    return re.sub(r"(^|::)(lib|main)$", "", path[len("src/") : -len(".rt")].replace("/", "::"))
-
-
-def read_functions(crate):
-    """Fills in the crate's functions and types, and the names that several of its functions have."""
-    folder = ROOT / "crates" / crate.name
-    for file in sources(crate):
-        if file.suffix == ".rt":
-            path, text = str(file.relative_to(folder)), file.read_text()
-            crate.functions += functions_of(path, text)
-            crate.types |= {it: module_of(path) for it in TYPE.findall(text)}
-    times = Counter((it.owner, it.name) for it in crate.functions)
-    crate.shared = {it for it, number in times.items() if number > 1}
-
-
-def read_edits(crate, only):
-    """Fills in the crate's edits; those that can't be applied have failed."""
-    read_functions(crate)
-    folder = ROOT / "crates" / crate.name / FOLDER
-    files = sorted(it for it in folder.rglob("*") if it != folder / WITHOUT and (it.is_symlink() or not it.is_dir()))
-    if not files:
-        crate.failed[f"{FOLDER}/"] = "there is no edit in it"
-    for file in files:
-        name = file.relative_to(folder).as_posix()
-        try:
-            if only in name:
-                crate.edits.append(read_edit(crate, file, name))
-        except (BadEdit, UnicodeDecodeError) as why:
-            crate.failed[name] = f"BAD EDIT: {why}"
-    for path in [] if only else without_edits(crate):
-        crate.failed[path] = "NO EDIT: a public function with a contract, and nothing shows that it refuses a wrong body"
-
-
-def promises(text):
-    """Returns whether a function is public, and has a contract that some body wouldn't meet: it gives or changes something."""
-    head = CLAUSE.split(text)[0]
-    return PUBLIC.match(text) and re.search(r"^\s*ensures\b", text, re.M) and ("->" in head or "&mut" in head)
-
-
-def without_edits(crate):
-    """Returns the paths of the public functions with a contract that no edit changes, and that aren't named as such."""
-    folder, promising, changed = ROOT / "crates" / crate.name, set(), {it.function.path() for it in crate.edits}
-    for file in (it for it in sources(crate) if it.suffix == ".rt"):
-        path, text = str(file.relative_to(folder)), file.read_text()
-        functions, lines = functions_of(path, text), text.split("\n")
-        promising.update(it.path() for it in functions if promises("\n".join(lines[it.first : it.last + 1])))
-        for edit in folder.glob("must-fail/*.edit"):
-            olds = re.findall(r"^old: (.*)$", edit.read_text(), re.M) if f"file: {path}\n" in edit.read_text() else []
-            changed.update(function_at(functions, text, text.index(it), it).path() for it in olds if it in text)
-    named = folder / FOLDER / WITHOUT
-    return promising - changed - set(re.findall(r"^- `([\w:]+)`: ", named.read_text() if named.is_file() else "", re.M))
-
-
-def rounds_of(edits):
-    """Returns the edits in the lists that are planted together: not too many, and no function twice in one."""
-    rounds = []
-    for edit in edits:
-        fitting = (it for it in rounds if len(it) < MOST_IN_A_ROUND and all(edit.function != other.function or edit.path != other.path for other in it))
-        found = next(fitting, None)
-        if found is None:
-            rounds.append([edit])
-        else:
-            found.append(edit)
-    return rounds
-
-
-def planted(text, edits):
-    """Returns a file's text with edits of different functions in it, each at its own place."""
-    for start, old, new in sorted((it for edit in edits for it in edit.changes), reverse=True):
-        text = text[:start] + new + text[start + len(old) :]
-    return text
-
-
 # The copies
 
 
@@ -441,7 +212,7 @@ def asked_by(function, crate):
 def check(room, crate, edits):
     """Returns what a check in a copy says of the edited functions and those that they call."""
     words = ["rt", "check", "--jobs", "1"]
-    for path in sorted({asked_by(it.function, crate) for it in edits}):
+    for path in sorted({asked_by(it.planted_in(), crate) for it in edits}):
         words += ["--only", path]
     how = {"stdin": subprocess.DEVNULL, "stdout": subprocess.PIPE, "stderr": subprocess.STDOUT, "errors": "replace"}
     try:
@@ -455,32 +226,9 @@ def kept_of(crate, base):
     return base / f"kept-{crate.name}"
 
 
-def proof_folder(crate, function):
-    """Returns the folder of a function's proof, below proofs/: a method's lies where its type does. None where that isn't known."""
-    owner = max((it for it in crate.types if function.owner.startswith(it)), key=len, default=None)
-    if function.owner and not owner:
-        return None
-    module = crate.types[owner] if owner else function.module
-    return "/".join(it for it in (module.replace("::", "/"), function.owner, function.name) if it)
-
-
-def body_of(function, lines):
-    """Returns the lines of a function's body as a slice, in a formatted file: none where it stands in the line of its head."""
-    indent = re.match(" *", lines[function.first])[0]
-    start = next((it for it in range(function.first, function.last) if re.match(rf"{indent}(?! ).*\{{$", lines[it])), None)
-    return None if start is None or lines[function.last] != f"{indent}}}" else slice(start + 1, function.last)
-
-
-def may_be_left_out(function, lines, body):
-    """Returns whether a function's body isn't needed: no constant is made by it, and it doesn't call itself, at once or by others."""
-    attributes = takewhile(lambda it: it.lstrip().startswith("#["), reversed(lines[: function.first]))
-    is_recursive = any(map(CYCLE.match, attributes)) or re.search(rf"\b{function.name}\b", "\n".join(lines[body]))
-    return not (is_recursive or "const fn" in lines[function.first])
-
-
 def leave_out(home, crate, edits):
     """Leaves out the body and the proof of each function that no edit touches, in a copy of the crate."""
-    edited = {(it.path, it.function.owner, it.function.name) for it in edits}
+    edited = {(it.path, it.planted_in().owner, it.planted_in().name) for it in edits}
     for file in sorted((home / "src").rglob("*.rt")):
         path, text = str(file.relative_to(home)), file.read_text()
         lines = text.split("\n")
@@ -517,6 +265,8 @@ def check_round(base, crate, crates, tried):
         text = planted(file.read_text(), [it for it in tried.edits if it.path == path])
         file.unlink()
         file.write_text(text)
+    for edit in (it for it in tried.edits if it.twin):
+        copy_proof(room / "crates" / crate.name, crate, edit)
     if not tried.is_whole:
         leave_out(room / "crates" / crate.name, crate, tried.edits)
     said = check(room, crate, tried.edits)
@@ -540,7 +290,7 @@ REFUSED, NAMES, PASSED, CALLEE, UNKNOWN = "refused", "names", "passed", "callee"
 
 def keys_of(edit, said):
     """Returns the names by which a check tells of the edit's function: its own first, then those of its closures."""
-    function = edit.function
+    function = edit.planted_in()
     inside = "::".join(it for it in (edit.crate, function.module) if it)
     name = "::".join(it for it in (function.owner, function.name) if it)
     own = f"{inside}::{name}"
@@ -654,7 +404,7 @@ def take_down(crate, edit, verdict):
 def tried_again(edits, tried):
     """Returns the rounds in which some edits of a round are tried again: fewer in each, and at last one alone, with all proofs."""
     if len(edits) < 2:
-        return [replace(tried, edits=edits, is_whole=True)] if edits else []
+        return [replace(tried, edits=(replace(edits[0], twin=0),), is_whole=True)] if edits else []
     if len(edits) < len(tried.edits):
         return [replace(tried, edits=edits)]
     return [replace(tried, edits=it) for it in (edits[: len(edits) // 2], edits[len(edits) // 2 :])]
@@ -703,7 +453,7 @@ def opening_of(begun, crates):
             take_down_all(crate, f"its library {lacking} isn't proved")
             tell(crate)
         else:
-            first, *crate.later = [Round(tuple(it), is_planted=crate.is_planted) for it in rounds_of(crate.edits)]
+            first, *crate.later = [Round(tuple(it), is_planted=crate.is_planted) for it in rounds_of(crate)]
             opening.append((crate, first))
     return opening
 

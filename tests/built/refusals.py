@@ -1,4 +1,4 @@
-"""Each request for memory refused in turn, by refuse_request.c, which is preloaded: in runs of the program, and in cases of an index."""
+"""Each request for memory refused in turn, by refuse_request.c, which is preloaded: in runs of the program, and in stories by an index."""
 import re
 from functools import partial
 from pathlib import Path
@@ -7,13 +7,9 @@ from built.check import Check, Wanted, differs, said
 from built.preloaded import run_preloaded
 from logs import put, worked_log
 
-TOP = Path(__file__).resolve().parents[2]
-CASES = TOP / "crates/cases/data"
-# The program that carries out the cases of an index.
-PROGRAMS = [TOP / "crates/cases/out/cases", TOP / "crates/cases/out/cases.by-rattle"]
 OUT_OF_MEMORY = said("out of memory")
-# How a case tells of a refusal.
-NO_MEMORY = re.compile(rb"out of memory|OutOfMemory")
+# How key_story tells of a refusal.
+NO_MEMORY = re.compile(rb"Error: .*OutOfMemory.*\n")
 
 
 def last_token(lines: bytes) -> str:
@@ -47,22 +43,22 @@ def judge_words(words: list[str], goes_on: bool, program: Path, folder: Path) ->
     return [] if ended > requests // 2 else [f"{ended} of {requests} refusals ended the run"]
 
 
-def judge_index(program: Path, _folder: Path) -> list[str]:
-    """A refused request leaves an index as it was, and a feed where it was: what is done once more comes out. Or the cases say that there
-    was no memory."""
-    before = run_preloaded(program, [], CASES, text=b"from pieces.cases\n").memory.requests
-    cases = b"from pieces.cases\nfrom histories.cases\n"
-    whole, (requests, *_) = run_preloaded(program, [], CASES, text=cases)
-    done_again = told = 0
-    for refused in range(before + 1, requests + 1):
-        came = run_preloaded(program, [], CASES, refused, cases).outcome
+def judge_index(program: Path, folder: Path) -> list[str]:
+    """A story by an index is told whole, or as a beginning of it behind which the program says that there was no memory."""
+    put(folder, ["log"], worked_log(3))
+    words = ["s", "t", "[1]", "log"]
+    whole, (requests, *_) = run_preloaded(program, words, folder)
+    if whole.status != 0 or not whole.stdout:
+        return [f"status {whole.status}, where none of {requests} is refused"]
+    told = 0
+    for refused in range(1, requests + 1):
+        came = run_preloaded(program, words, folder, refused).outcome
         if came == whole:
-            done_again += 1
-        elif NO_MEMORY.search(came.stdout + came.stderr):
-            told += 1
-        else:
-            return [f"request {refused} of {requests}", *differs(came, Wanted(0, whole.stdout))]
-    return [] if done_again and told else [f"{done_again} of {requests - before} refusals came out, {told} were told of"]
+            continue
+        told += 1
+        if came.status != 1 or not NO_MEMORY.fullmatch(came.stderr) or not whole.stdout.startswith(came.stdout):
+            return [f"request {refused} of {requests}", *differs(came, Wanted(1, None, None)), f"said: {came.stderr!r}"]
+    return [] if told > requests // 2 else [f"{told} of {requests} refusals were told of"]
 
 
 # Runs of the program: their words, and whether they can go on behind a line's token.
@@ -82,5 +78,5 @@ def checks() -> list[Check]:
 
 
 def index_checks() -> list[Check]:
-    """The check of the program of cases."""
+    """The check of a program that tells the stories of keys by an index."""
     return [Check("an index, each request for memory refused in turn", judge_index)]
