@@ -65,7 +65,7 @@ class Crate:
     name: str
     deps: list
     edits: list = field(default_factory=list)
-    # Further edits of functions that the first check has one of: they wait for what it keeps.
+    # Further edits of functions that the first check has one of, and that have no twins.
     later: list = field(default_factory=list)
     functions: list = field(default_factory=list)
     # The modules of its types, by their names.
@@ -231,10 +231,10 @@ def without_edits(crate):
     return promising - changed - set(re.findall(r"^- `([\w:]+)`: ", named.read_text() if named.is_file() else "", re.M))
 
 
-def rounds_of(crate):
-    """Returns the edits in the lists that are planted together: not too many, and no function twice in one, but by its twins."""
+def rounds_of(edits):
+    """Returns edits in the lists that are planted together: not too many, and no function twice in one, but by its twins."""
     rounds = []
-    for edit in with_twins(crate) if crate.is_planted else crate.edits:
+    for edit in edits:
         place = edit.path, edit.planted_in()
         fitting = (it for it in rounds if len(it) < MOST_IN_A_ROUND and all(place != (other.path, other.planted_in()) for other in it))
         found = next(fitting, None)
@@ -314,8 +314,12 @@ def body_of(function, lines):
     return None if start is None or lines[function.last] != f"{indent}}}" else slice(start + 1, function.last)
 
 
+def attributes_of(function, lines):
+    """Returns the attributes of a function, each in a line above its head."""
+    return list(takewhile(lambda it: it.lstrip().startswith("#["), reversed(lines[: function.first])))
+
+
 def may_be_left_out(function, lines, body):
     """Returns whether a function's body isn't needed: no constant is made by it, and it doesn't call itself, at once or by others."""
-    attributes = takewhile(lambda it: it.lstrip().startswith("#["), reversed(lines[: function.first]))
-    is_recursive = any(map(CYCLE.match, attributes)) or re.search(rf"\b{function.name}\b", "\n".join(lines[body]))
+    is_recursive = any(map(CYCLE.match, attributes_of(function, lines))) or re.search(rf"\b{function.name}\b", "\n".join(lines[body]))
     return not (is_recursive or "const fn" in lines[function.first])

@@ -144,8 +144,10 @@ def main() -> int:
     what = parser.add_mutually_exclusive_group()
     what.add_argument("--only", metavar="FILE.cases", help="print what the cases of this file come to")
     what.add_argument("--format", action="store_true", help="lay the texts out as rt fmt does")
-    parser.add_argument("names", nargs="*", choices=[*names(), []], metavar="NAME", help=f"of {', '.join(names())}")
+    parser.add_argument("names", nargs="*", metavar="NAME", help=f"of {', '.join(names())}")
     given = parser.parse_args()
+    if unknown := [name for name in given.names if name not in names()]:
+        parser.error(f"tests/unproved/crates.txt names no {' and no '.join(unknown)}")
     with tempfile.TemporaryDirectory(prefix="binlogfeed-") as folder:
         room = Path(folder)
         lay_out(room)

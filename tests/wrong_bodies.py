@@ -7,9 +7,12 @@ A check judges each function by itself, since a proof cites only the contracts o
 functions are planted together in a copy of the crate, and `rt check` must refuse each edit's own function by a goal of
 its own. Of several edits of one function each but the first stands in a twin of it: the same text with its attributes under
 another name, and the same proof. Methods of a trait, constant functions and those that call themselves have no twins: their
-further edits wait for another check. An edit whose function is only unproved with something that it calls, or only as names went away, or which was
-planted beside one that doesn't compile, is tried again with fewer others, and at last alone. An edit that isn't refused
-fails the run, and so does one that can't be applied, whose function can't be found, or that doesn't compile.
+further edits wait for another check. In the first check of a crate the answers to goals that stand in the functions' own files
+are all that is checked, and goals without one are left open (`#[tactic(none)]`), since a refused answer refuses the edit. What
+isn't refused so is tried again, with the search for all other goals. An edit whose function is then only unproved with something
+that it calls, or only as names went away, or which was planted beside one that doesn't compile, is tried again with fewer
+others, and at last alone. An edit that isn't refused fails the run, and so does one that can't be applied, whose function can't
+be found, or that doesn't compile.
 
 An edit is a file with a line 'file: src/NAME.rt' and pairs of lines 'old: TEXT' and 'new: TEXT'. Each old text stands in
 that file exactly once, inside one function; or with a line 'in: NAME' once in the function of that name. Its folder has the
@@ -27,9 +30,10 @@ at: `rt ci` does. A check begins with what `rt check` kept in the crate's out/, 
 what the one before it proved.
 
 The copies lie in .git/wrong-bodies. Checks run side by side, one a processor or as many as RT_JOBS says. --only tries the
-edits whose name, with its folder, has TEXT. --unedited tries the checks themselves: they plant nothing, and so must refuse no
-function. As long as the file of --while is there, `rt ci` runs beside this script: a crate waits until that has built the
-libraries below it, and half as many checks run. The last line is 'N passed, M failed'.
+edits whose name, with its folder, has TEXT. --unedited tries the checks themselves: they plant the functions and twins as they
+are, and so must refuse none, and in the first check no answer. As long as the file of --while is there, `rt ci` runs beside this
+script: a crate waits until that has built the libraries below it, and half as many checks run. The last line is 'N passed, M
+failed'.
 """
 import argparse
 import fcntl
@@ -51,14 +55,17 @@ from pathlib import Path
 sys.dont_write_bytecode = True
 
 from edits import (  # noqa: E402
-    FOLDER, PARTS, ROOT, Crate, body_of, copy_proof, functions_of, may_be_left_out, planted, proof_folder, read_edits, rounds_of, sources,
+    FOLDER, PARTS, ROOT, Crate, attributes_of, body_of, copy_proof, functions_of, may_be_left_out, planted, proof_folder, read_edits,
+    rounds_of, sources, with_twins,
 )  # fmt: skip
 
 LIBRARY = "crates/{0}/out/rlib/{0}.rlib"
 # The files of a function's own proof, and that which stands for all of them.
-PROOF_FILES, PROOF = ("Answers.antt", "Invariants.antt", "Proof.antt"), "Proof.antt"
+PROOF_FILES, ANSWERS, PROOF = ("Answers.antt", "Invariants.antt", "Proof.antt"), "Answers.antt", "Proof.antt"
 # What stands in the place of a body: it is read, checked and lowered at once.
 NO_BODY = "unreachable!()"
+# Over a function: its goals without an answer are left open. A function may have another way of its own, or that of a cycle.
+NO_SEARCH, OWN_WAY = "#[tactic(none)]", re.compile(r" *#\[(?:tactic|cycle)\b")
 LONGEST_CHECK = 7200
 # Held while what was kept is copied, or replaced.
 KEEPING = threading.Lock()
@@ -81,6 +88,8 @@ class Round:
     # Whether the functions that no edit touches have their bodies and proofs.
     is_whole: bool = False
     is_planted: bool = True
+    # Whether goals without an answer are searched for. Else only the answers that edited functions have are checked.
+    is_searched: bool = True
 
 
 # The repository
@@ -253,6 +262,26 @@ def leave_out_proof(home, crate, function):
         (folder / PROOF).touch()
 
 
+def leave_search_out(home, crate, edits):
+    """Leaves out the search for goals without an answer, in the edited functions that have answers and don't say themselves how to search."""
+    edited = {(it.path, it.planted_in().owner, it.planted_in().name) for it in edits}
+    for path in {it.path for it in edits}:
+        file, text = home / path, (home / path).read_text()
+        lines = text.split("\n")
+        for function in reversed(functions_of(path, text)):
+            has_own_way = any(OWN_WAY.match(it) for it in attributes_of(function, lines))
+            if (path, function.owner, function.name) in edited and has_answers(home, crate, function) and not has_own_way:
+                lines.insert(function.first, re.match(" *", lines[function.first])[0] + NO_SEARCH)
+        file.unlink()
+        file.write_text("\n".join(lines))
+
+
+def has_answers(home, crate, function):
+    """Returns whether a function has answers of its own to some of its goals."""
+    name = proof_folder(crate, function)
+    return name is not None and (home / "proofs" / name / ANSWERS).is_file()
+
+
 def check_round(base, crate, crates, tried):
     """Checks the crate with a round's edits planted, and returns what was said and the seconds that it took.
 
@@ -260,17 +289,20 @@ def check_round(base, crate, crates, tried):
     """
     start, room = time.time(), Path(tempfile.mkdtemp(prefix=f"{crate.name}-", dir=base))
     make_room(room, crate, crates, base)
-    for path in {it.path for it in tried.edits if tried.is_planted}:
+    for path in {it.path for it in tried.edits}:
         file = room / "crates" / crate.name / path
         text = planted(file.read_text(), [it for it in tried.edits if it.path == path])
         file.unlink()
         file.write_text(text)
+    home = room / "crates" / crate.name
     for edit in (it for it in tried.edits if it.twin):
-        copy_proof(room / "crates" / crate.name, crate, edit)
+        copy_proof(home, crate, edit)
     if not tried.is_whole:
-        leave_out(room / "crates" / crate.name, crate, tried.edits)
+        leave_out(home, crate, tried.edits)
+    if not tried.is_searched:
+        leave_search_out(home, crate, tried.edits)
     said = check(room, crate, tried.edits)
-    keep(room / "crates" / crate.name / "out/incremental", kept_of(crate, base))
+    keep(home / "out/incremental", kept_of(crate, base))
     shutil.rmtree(room)
     return said, time.time() - start
 
@@ -361,8 +393,7 @@ def settle(crate, tried, out):
         return []
     verdicts, strangers = judge(tried, out)
     if not tried.is_planted:
-        take_down_unedited(crate, verdicts, strangers, dict(SAID.findall(out)))
-        return []
+        return take_down_unedited(crate, tried, verdicts, strangers, dict(SAID.findall(out)))
     again = []
     for edit in tried.edits:
         if verdicts[edit] == UNKNOWN:
@@ -376,16 +407,21 @@ def settle(crate, tried, out):
     return tried_again(tuple(again), tried)
 
 
-def take_down_unedited(crate, verdicts, strangers, said):
-    """Takes down how functions came out in which nothing is planted: each is proved, or unproved only with what it calls."""
+def take_down_unedited(crate, tried, verdicts, strangers, said):
+    """Takes down how functions came out in which nothing is planted: each is proved, or unproved only with what it calls. Where nothing was
+    searched for, no answer may be refused. Returns the round in which these functions are tried again."""
+    again = []
     for edit, verdict in verdicts.items():
         unproved = [it for it in keys_of(edit, said) if said[it].split(",")[0] != "proved"]
-        if verdict in (PASSED, CALLEE) and all(is_excused(it, said) for it in unproved):
+        if verdict in (PASSED, CALLEE) and not tried.is_searched:
+            again.append(edit)
+        elif verdict in (PASSED, CALLEE) and all(is_excused(it, said) for it in unproved):
             crate.refused += 1
         else:
             crate.failed[edit.name] = f"{edit.function.name} is {verdict} as it is: {' '.join(said[it] for it in unproved)[:200]}"
     for name in strangers:
         crate.failed[name] = "it isn't proved, though nothing is planted"
+    return tried_again(tuple(again), tried)
 
 
 def take_down(crate, edit, verdict):
@@ -402,7 +438,10 @@ def take_down(crate, edit, verdict):
 
 
 def tried_again(edits, tried):
-    """Returns the rounds in which some edits of a round are tried again: fewer in each, and at last one alone, with all proofs."""
+    """Returns the rounds in which some edits of a round are tried again: with a search, then fewer in each, and at last one alone, with all
+    proofs."""
+    if not tried.is_searched:
+        return [replace(tried, edits=edits, is_searched=True)] if edits else []
     if len(edits) < 2:
         return [replace(tried, edits=(replace(edits[0], twin=0),), is_whole=True)] if edits else []
     if len(edits) < len(tried.edits):
@@ -453,8 +492,9 @@ def opening_of(begun, crates):
             take_down_all(crate, f"its library {lacking} isn't proved")
             tell(crate)
         else:
-            first, *crate.later = [Round(tuple(it), is_planted=crate.is_planted) for it in rounds_of(crate)]
-            opening.append((crate, first))
+            first, *later = rounds_of(with_twins(crate))
+            crate.later = [edit for edits in later for edit in edits]
+            opening.append((crate, Round(tuple(first), is_planted=crate.is_planted, is_searched=False)))
     return opening
 
 
@@ -468,12 +508,14 @@ def after_round(crate, tried, said, seconds):
     """Returns the rounds that follow on a round."""
     before, failed = crate.refused, len(crate.failed)
     again = settle(crate, tried, said)
-    later, crate.later = crate.later, []
+    if not tried.is_searched:
+        edits = [edit for it in again for edit in it.edits] + crate.later
+        again = [Round(tuple(it), is_planted=crate.is_planted) for it in rounds_of(edits)]
     for name in list(crate.failed)[failed:]:
         print(f"{crate.name}/{FOLDER}/{name}: {crate.failed[name]}")
     came_out = f"{crate.refused - before} refused, {len(crate.failed) - failed} not, {sum(len(it.edits) for it in again)} to try again"
     print(f"{crate.name}: {len(tried.edits)} edits in one check, {seconds:.0f} s: {came_out}", flush=True)
-    return again + later
+    return again
 
 
 def tell(crate):
@@ -533,6 +575,8 @@ def main():
     for crate in chosen:
         crate.is_planted = not given.unedited
         read_edits(crate, given.only)
+        if given.unedited:
+            crate.edits = [replace(it, changes=()) for it in crate.edits]
         if not crate.edits:
             tell(crate)
     try_somewhere(chosen, crates, given.proving)
