@@ -7,9 +7,9 @@ A check judges each function by itself, since a proof cites only the contracts o
 functions are planted together in a copy of the crate, and `rt check` must refuse each edit's own function by a goal of
 its own. Of several edits of one function each but the first stands in a twin of it: the same text with its attributes under
 another name, and the same proof. Methods of a trait, constant functions and those that call themselves have no twins: their
-further edits wait for another check. In the first check of a crate the answers to goals that stand in the functions' own files
-are all that is checked, and goals without one are left open (`#[tactic(none)]`), since a refused answer refuses the edit. What
-isn't refused so is tried again, with the search for all other goals. An edit whose function is then only unproved with something
+further edits wait for another check. Where many of the functions have answers to goals in files of their own, a first check looks
+at these alone, and leaves goals without one open (`#[tactic(none)]`), since a refused answer refuses the edit. What isn't refused
+so is tried again, with the search for all other goals. An edit whose function is then only unproved with something
 that it calls, or only as names went away, or which was planted beside one that doesn't compile, is tried again with fewer
 others, and at last alone. An edit that isn't refused fails the run, and so does one that can't be applied, whose function can't
 be found, or that doesn't compile.
@@ -66,6 +66,8 @@ PROOF_FILES, ANSWERS, PROOF = ("Answers.antt", "Invariants.antt", "Proof.antt"),
 NO_BODY = "unreachable!()"
 # Over a function: its goals without an answer are left open. A function may have another way of its own, or that of a cycle.
 NO_SEARCH, OWN_WAY = "#[tactic(none)]", re.compile(r" *#\[(?:tactic|cycle)\b")
+# So many edits of functions with answers are worth a check of these alone.
+MANY_ANSWERED = 16
 LONGEST_CHECK = 7200
 # Held while what was kept is copied, or replaced.
 KEEPING = threading.Lock()
@@ -494,7 +496,8 @@ def opening_of(begun, crates):
         else:
             first, *later = rounds_of(with_twins(crate))
             crate.later = [edit for edits in later for edit in edits]
-            opening.append((crate, Round(tuple(first), is_planted=crate.is_planted, is_searched=False)))
+            answered = sum(has_answers(ROOT / "crates" / crate.name, crate, it.function) for it in first)
+            opening.append((crate, Round(tuple(first), is_planted=crate.is_planted, is_searched=answered < MANY_ANSWERED)))
     return opening
 
 
@@ -508,14 +511,16 @@ def after_round(crate, tried, said, seconds):
     """Returns the rounds that follow on a round."""
     before, failed = crate.refused, len(crate.failed)
     again = settle(crate, tried, said)
+    left = sum(len(it.edits) for it in again)
+    edits, crate.later = crate.later, []
     if not tried.is_searched:
-        edits = [edit for it in again for edit in it.edits] + crate.later
-        again = [Round(tuple(it), is_planted=crate.is_planted) for it in rounds_of(edits)]
+        edits, again = [edit for it in again for edit in it.edits] + edits, []
+    later = [Round(tuple(it), is_planted=crate.is_planted) for it in rounds_of(edits)]
     for name in list(crate.failed)[failed:]:
         print(f"{crate.name}/{FOLDER}/{name}: {crate.failed[name]}")
-    came_out = f"{crate.refused - before} refused, {len(crate.failed) - failed} not, {sum(len(it.edits) for it in again)} to try again"
+    came_out = f"{crate.refused - before} refused, {len(crate.failed) - failed} not, {left} to try again"
     print(f"{crate.name}: {len(tried.edits)} edits in one check, {seconds:.0f} s: {came_out}", flush=True)
-    return again
+    return again + later
 
 
 def tell(crate):
