@@ -4,7 +4,7 @@
 usage: tests/unproved.py [--only FILE.cases | --format] [NAME ..]
 
 Their text is Rattle's, in files that end in `.rattle`, since `rt ci` takes each file `.rt` for one that has to be proved. This script lays
-them out in a temporary folder, beside copies of the libraries that tests/unproved/crates.txt says, and runs them there by `rt try`. It
+them out in a temporary folder, beside copies of the libraries that tests/unproved/libraries.txt says, and runs them there by `rt try`. It
 compiles them and the libraries' sources by LLVM, with a check of each access to memory. NAME is `cases`, which carries out the cases of
 docs/CASES.md, or `system_files`, tests over files of the system; without one, both are run.
 
@@ -46,13 +46,13 @@ def lines_of(path: Path) -> list[str]:
 
 def names() -> list[str]:
     """The programs, in the order of their file."""
-    return [line.partition(":")[0] for line in lines_of(HOME / "crates.txt") if not line.startswith("#")]
+    return [line.partition(":")[0] for line in lines_of(HOME / "libraries.txt") if not line.startswith("#")]
 
 
 def lay_out(room: Path) -> None:
     """Lays out the programs as crates beside copies of all others."""
     shutil.copytree(TOP / "crates", room / "crates", ignore=shutil.ignore_patterns("out", "proofs", "must-fail", "wrong-bodies"))
-    (room / "crates.txt").write_text("\n".join([*lines_of(TOP / "crates.txt"), *lines_of(HOME / "crates.txt")]) + "\n", encoding="utf-8")
+    (room / "crates.txt").write_text("\n".join([*lines_of(TOP / "crates.txt"), *lines_of(HOME / "libraries.txt")]) + "\n", encoding="utf-8")
     for file in sorted(HOME.glob("*/src/**/*.rattle")):
         copy = laid_out(room, file)
         copy.parent.mkdir(parents=True, exist_ok=True)
@@ -147,7 +147,7 @@ def main() -> int:
     parser.add_argument("names", nargs="*", metavar="NAME", help=f"of {', '.join(names())}")
     given = parser.parse_args()
     if unknown := [name for name in given.names if name not in names()]:
-        parser.error(f"tests/unproved/crates.txt names no {' and no '.join(unknown)}")
+        parser.error(f"tests/unproved/libraries.txt names no {' and no '.join(unknown)}")
     with tempfile.TemporaryDirectory(prefix="binlogfeed-") as folder:
         room = Path(folder)
         lay_out(room)
