@@ -51,10 +51,16 @@ class Edit:
     function: Function
     # Where other edits of its function are planted beside it: the number of the twin that it has. 0 stands for the function itself.
     twin: int = 0
+    # The type whose method the twin is, if any.
+    twin_owner: str = ""
 
     def planted_in(self):
         """Returns the function that it is planted in: its own, or a twin of that."""
-        return replace(self.function, name=f"{self.function.name}_twin{self.twin}") if self.twin else self.function
+        name = f"{self.function.name}_twin{self.twin}"
+        return replace(self.function, owner=self.twin_owner, name=name) if self.twin else self.function
+
+    def is_of_a_definition(self):
+        return self.path.startswith("specs/")
 
     def label(self):
         return f"{self.crate}/{FOLDER}/{self.name}"
@@ -93,11 +99,17 @@ def sources(crate):
             yield from (Path(at) / name for name in sorted(names))
 
 
+def parts_of(head):
+    """Returns the parts of an impl's head behind its first word: its parameters, its trait and its type."""
+    parameters, text = re.fullmatch(r"(<(?:[^<>]|<[^<>]*>)*>)?(.*)", head.rstrip("{ ")).groups()
+    given, _, taker = text.rpartition(" for ")
+    return parameters or "", given, taker.strip()
+
+
 def owner_of(head):
     """Returns the words of an impl's head as rattle joins them to a name: its type, then its trait and what that takes."""
-    parameters, text = re.fullmatch(r"(<(?:[^<>]|<[^<>]*>)*>)?(.*)", head.rstrip("{ ")).groups()
-    taken = re.findall(r"[<,] *(\w+)", parameters or "")
-    given, _, taker = text.rpartition(" for ")
+    parameters, given, taker = parts_of(head)
+    taken = re.findall(r"[<,] *(\w+)", parameters)
     type_words, trait_words = ([it for it in re.findall(r"[A-Z]\w*", words) if it not in taken] for words in (taker, given))
     return "".join([*type_words[:1], *trait_words])
 
@@ -157,10 +169,10 @@ def read_edit(crate, file, name):
         raise BadEdit("an edit's name is of small letters, digits and _, and ends in .edit")
     lines = file.read_text().splitlines()
     said = lambda word: [it.removeprefix(f"{word}:").removeprefix(" ") for it in lines if it.startswith(f"{word}:")]
-    paths, names, olds, news = map(said, ("file", "in", "old", "new"))
-    if len(paths) != 1 or not re.fullmatch(r"src/[\w/]+\.rt", paths[0]) or not all(olds) or not olds or len(olds) != len(news):
-        raise BadEdit("an edit is one line 'file: src/NAME.rt' and then pairs of lines 'old: TEXT' and 'new: TEXT'")
-    home = paths[0].removeprefix("src/").removesuffix(".rt")
+    paths, names, samples, olds, news = map(said, ("file", "in", "by", "old", "new"))
+    if len(paths) != 1 or not re.fullmatch(r"src/[\w/]+\.rt|specs/[\w/]+\.antt", paths[0]) or not all(olds) or not olds or len(olds) != len(news):
+        raise BadEdit("an edit is one line 'file: src/NAME.rt' or 'file: specs/NAME.antt', and then pairs of lines 'old: TEXT' and 'new: TEXT'")
+    home = paths[0].removeprefix("src/").rpartition(".")[0]
     if name != f"{home}/{file.name}":
         raise BadEdit(f"it changes {paths[0]}, so its folder is {FOLDER}/{home}/")
     try:
@@ -170,9 +182,12 @@ def read_edit(crate, file, name):
     functions = functions_of(paths[0], text)
     part = part_of(functions, text, names)
     places = [place_of(text, old, paths[0], part) for old in olds]
-    found = {function_at(functions, text, at, old) for at, old in zip(places, olds)}
+    if paths[0].startswith("specs/"):
+        found = {it for it in crate.functions if [it.path()] == samples}
+    else:
+        found = {function_at(functions, text, at, old) for at, old in zip(places, olds)}
     if len(found) != 1:
-        raise BadEdit("it changes more than one function")
+        raise BadEdit("it changes more than one function, or a definition without a line 'by: MODULE::NAME' that names one")
     return Edit(crate.name, name, paths[0], tuple(zip(places, olds, news)), found.pop())
 
 
@@ -232,12 +247,12 @@ def without_edits(crate):
 
 
 def rounds_of(edits):
-    """Returns edits in the lists that are planted together: not too many, and no function twice in one, but by its twins."""
+    """Returns edits in the lists that are planted together: not too many, no function twice in one, but by its twins, and a definition alone."""
     rounds = []
     for edit in edits:
-        place = edit.path, edit.planted_in()
-        fitting = (it for it in rounds if len(it) < MOST_IN_A_ROUND and all(place != (other.path, other.planted_in()) for other in it))
-        found = next(fitting, None)
+        place, is_alone = (edit.path, edit.planted_in()), edit.is_of_a_definition()
+        free = (it for it in rounds if len(it) < MOST_IN_A_ROUND and not is_alone and not it[0].is_of_a_definition())
+        found = next((it for it in free if all(place != (other.path, other.planted_in()) for other in it)), None)
         if found is None:
             rounds.append([edit])
         else:
@@ -250,18 +265,35 @@ def with_twins(crate):
     before, edits = Counter(), []
     for edit in crate.edits:
         place = edit.path, edit.function
-        edits.append(replace(edit, twin=before[place]) if before[place] and may_have_twins(crate, edit) else edit)
+        if before[place] and may_have_twins(crate, edit):
+            edits.append(replace(edit, twin=before[place], twin_owner=type_of(crate, edit.function) or ""))
+        else:
+            edits.append(edit)
         before[place] += 1
     return edits
 
 
 def may_have_twins(crate, edit):
-    """Returns whether a function may stand under another name beside itself: it is no method of a trait, and is asked for by its own name."""
+    """Returns whether a function may stand under another name beside itself: it is asked for by its own name, and says its contract itself,
+    where it is a method of a trait."""
     function = edit.function
+    if edit.is_of_a_definition():
+        return False
     lines = (ROOT / "crates" / crate.name / edit.path).read_text().split("\n")
-    body = body_of(function, lines)
-    is_own = not function.owner or function.owner in crate.types and (function.owner, function.name) not in crate.shared
-    return bool(is_own and body and may_be_left_out(function, lines, body))
+    body, owner = body_of(function, lines), type_of(crate, function)
+    is_asked_for = not function.owner or owner and (owner, function.name) not in crate.shared
+    is_told = not is_of_a_trait(crate, function) or CLAUSE.search("\n".join(lines[function.first : function.last]))
+    return bool(is_asked_for and is_told and body and may_be_left_out(function, lines, body))
+
+
+def type_of(crate, function):
+    """Returns the name of the type whose method a function is, at once or by a trait. None where it is no method, or the type isn't known."""
+    return max((it for it in crate.types if function.owner.startswith(it)), key=len, default=None)
+
+
+def is_of_a_trait(crate, function):
+    """Returns whether a function is a method of a trait: then it goes by the words of its type and of that."""
+    return bool(function.owner) and function.owner not in crate.types
 
 
 def changed(text, changes):
@@ -278,14 +310,27 @@ def planted(text, edits):
 
 
 def twin_of(text, edit):
-    """Returns the change that puts an edited twin behind a function, with its attributes."""
+    """Returns the change that puts an edited twin behind a function, with its attributes; that of a trait's method behind the impl."""
     lines, first, last = text.split("\n"), edit.function.first, edit.function.last
     while lines[first - 1].strip() and not lines[first - 1].endswith("{"):
         first -= 1
     start, end = (sum(len(it) + 1 for it in lines[:number]) for number in (first, last + 1))
     twin = changed(text[start : end - 1], [(at - start, old, new) for at, old, new in edit.changes])
     head = rf"^( *(?:pub(?:\([^)]*\))? )?fn ){edit.function.name}\b"
-    return end - 1, "", "\n\n" + re.sub(head, rf"\g<1>{edit.planted_in().name}", twin, count=1, flags=re.M)
+    twin = re.sub(head, rf"\g<1>{edit.planted_in().name}", twin, count=1, flags=re.M)
+    if edit.function.owner == edit.twin_owner:
+        return end - 1, "", f"\n\n{twin}"
+    begins, ends = impl_around(lines, first)
+    uses = [it for it in lines[begins:ends] if it.startswith("    ghost use ")]
+    parameters, _, taker = parts_of(IMPL.match(lines[begins])["rest"])
+    own = "\n".join([f"impl{parameters} {taker} {{", *uses, "", twin, "}"])
+    return sum(len(it) + 1 for it in lines[: ends + 1]) - 1, "", f"\n\n{own}"
+
+
+def impl_around(lines, number):
+    """Returns the first line and the last one of the impl that a line stands in, in a formatted file."""
+    begins = next(it for it in range(number, -1, -1) if IMPL.match(lines[it]))
+    return begins, next(it for it in range(number, len(lines)) if lines[it].startswith("}"))
 
 
 def copy_proof(home, crate, edit):
@@ -293,14 +338,14 @@ def copy_proof(home, crate, edit):
     name, twin = (proof_folder(crate, it) for it in (edit.function, edit.planted_in()))
     for file in sorted((home / "proofs" / name).glob("*.antt")):
         copy = home / "proofs" / twin / file.name
-        copy.parent.mkdir(exist_ok=True)
+        copy.parent.mkdir(parents=True, exist_ok=True)
         own, others = (f"Rattle.{crate.name}.proofs.{it.replace('/', '.')}." for it in (name, twin))
         copy.write_text(file.read_text().replace(own, others))
 
 
 def proof_folder(crate, function):
     """Returns the folder of a function's proof, below proofs/: a method's lies where its type does. None where that isn't known."""
-    owner = max((it for it in crate.types if function.owner.startswith(it)), key=len, default=None)
+    owner = type_of(crate, function)
     if function.owner and not owner:
         return None
     module = crate.types[owner] if owner else function.module

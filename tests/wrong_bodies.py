@@ -18,6 +18,9 @@ An edit is a file with a line 'file: src/NAME.rt' and pairs of lines 'old: TEXT'
 that file exactly once, inside one function; or with a line 'in: NAME' once in the function of that name. Its folder has the
 path of that file: edits of src/NAME.rt lie in wrong-bodies/NAME/, and those of src/A/B.rt in wrong-bodies/A/B/.
 
+An edit may change a definition, too: 'file: specs/NAME.antt', in wrong-bodies/specs/NAME/. Its line 'by: MODULE::NAME' names the
+function that must be refused with it, such as one that computes samples. It has a check of its own.
+
 Each public function with a contract has to have an edit, here or in must-fail/, but for laws, which give and change nothing.
 Those that no body can get wrong are named in wrong-bodies/without.md, each by a line "- `MODULE::TYPE::NAME`: why".
 
@@ -55,8 +58,8 @@ from pathlib import Path
 sys.dont_write_bytecode = True
 
 from edits import (  # noqa: E402
-    FOLDER, PARTS, ROOT, Crate, attributes_of, body_of, copy_proof, functions_of, may_be_left_out, planted, proof_folder, read_edits,
-    rounds_of, sources, with_twins,
+    FOLDER, PARTS, ROOT, Crate, attributes_of, body_of, copy_proof, functions_of, is_of_a_trait, may_be_left_out, planted, proof_folder,
+    read_edits, rounds_of, sources, with_twins,
 )  # fmt: skip
 
 LIBRARY = "crates/{0}/out/rlib/{0}.rlib"
@@ -71,7 +74,7 @@ MANY_ANSWERED = 16
 LONGEST_CHECK = 7200
 # Held while what was kept is copied, or replaced.
 KEEPING = threading.Lock()
-SECONDS_BETWEEN_LOOKS = 2
+SECONDS_BETWEEN_LOOKS = 5
 
 SAID = re.compile(r"^fn (\S+): (.*)$", re.M)
 # An error's file, and what it says; a record without a field is told of on the second line.
@@ -239,14 +242,14 @@ def kept_of(crate, base):
 
 def leave_out(home, crate, edits):
     """Leaves out the body and the proof of each function that no edit touches, in a copy of the crate."""
-    edited = {(it.path, it.planted_in().owner, it.planted_in().name) for it in edits}
+    edited = {it.planted_in().path() for it in edits}
     for file in sorted((home / "src").rglob("*.rt")):
         path, text = str(file.relative_to(home)), file.read_text()
         lines = text.split("\n")
         # From the end on, so that the lines in front stay where they are.
         for function in reversed(functions_of(path, text)):
             body = body_of(function, lines)
-            if body and (path, function.owner, function.name) not in edited and may_be_left_out(function, lines, body):
+            if body and function.path() not in edited and may_be_left_out(function, lines, body):
                 indent = re.match(" *", lines[function.first])[0]
                 lines[body] = [f"{indent}    {NO_BODY}"]
                 leave_out_proof(home, crate, function)
@@ -265,14 +268,17 @@ def leave_out_proof(home, crate, function):
 
 
 def leave_search_out(home, crate, edits):
-    """Leaves out the search for goals without an answer, in the edited functions that have answers and don't say themselves how to search."""
-    edited = {(it.path, it.planted_in().owner, it.planted_in().name) for it in edits}
-    for path in {it.path for it in edits}:
+    """Leaves out the search for goals without an answer, in the edited functions that have answers and don't say themselves how to search.
+
+    Methods of a trait keep it: what their impl says of the trait goes by it, too, and that error would be no function's.
+    """
+    edited = {it.planted_in().path() for it in edits}
+    for path in {it.path for it in edits if not it.is_of_a_definition()}:
         file, text = home / path, (home / path).read_text()
         lines = text.split("\n")
         for function in reversed(functions_of(path, text)):
-            has_own_way = any(OWN_WAY.match(it) for it in attributes_of(function, lines))
-            if (path, function.owner, function.name) in edited and has_answers(home, crate, function) and not has_own_way:
+            keeps_search = is_of_a_trait(crate, function) or any(OWN_WAY.match(it) for it in attributes_of(function, lines))
+            if function.path() in edited and has_answers(home, crate, function) and not keeps_search:
                 lines.insert(function.first, re.match(" *", lines[function.first])[0] + NO_SEARCH)
         file.unlink()
         file.write_text("\n".join(lines))
@@ -461,10 +467,12 @@ def try_all(base, chosen, crates, jobs, proving):
     with ThreadPoolExecutor(jobs) as pool:
         while waiting or queue or running:
             is_beside = proving is not None and proving.exists()
-            begun = [it for it in waiting if has_libraries(it, crates)] if is_beside else waiting
-            waiting = [it for it in waiting if it not in begun]
-            queue.extend(opening_of(begun, crates))
             lanes = (jobs + 1) // 2 if is_beside else jobs
+            # A look at what is built costs something, too.
+            if len(queue) + len(running) < lanes or not is_beside:
+                begun = [it for it in waiting if has_libraries(it, crates)] if is_beside else waiting
+                waiting = [it for it in waiting if it not in begun]
+                queue.extend(opening_of(begun, crates))
             while queue and len(running) < lanes:
                 crate, tried = queue.popleft()
                 running[pool.submit(check_round, base, crate, crates, tried)] = crate, tried
