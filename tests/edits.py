@@ -71,7 +71,7 @@ class Crate:
     name: str
     deps: list
     edits: list = field(default_factory=list)
-    # Further edits of functions that the first check has one of, and that have no twins.
+    # Edits for further checks: of definitions, and of functions that the first check has one of and that have no twins.
     later: list = field(default_factory=list)
     functions: list = field(default_factory=list)
     # The modules of its types, by their names.

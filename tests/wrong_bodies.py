@@ -6,13 +6,13 @@ usage: tests/wrong_bodies.py [--only TEXT] [--while FILE] [--unedited] [CRATE ..
 A check judges each function by itself, since a proof cites only the contracts of what it calls. So edits of different
 functions are planted together in a copy of the crate, and `rt check` must refuse each edit's own function by a goal of
 its own. Of several edits of one function each but the first stands in a twin of it: the same text with its attributes under
-another name, and the same proof. Methods of a trait, constant functions and those that call themselves have no twins: their
-further edits wait for another check. Where many of the functions have answers to goals in files of their own, a first check looks
-at these alone, and leaves goals without one open (`#[tactic(none)]`), since a refused answer refuses the edit. What isn't refused
-so is tried again, with the search for all other goals. An edit whose function is then only unproved with something
-that it calls, or only as names went away, or which was planted beside one that doesn't compile, is tried again with fewer
-others, and at last alone. An edit that isn't refused fails the run, and so does one that can't be applied, whose function can't
-be found, or that doesn't compile.
+another name, and the same proof. The twin of a trait's method stands in an impl of the type's own, if the method says its contract
+itself. Constant functions and those that call themselves have no twins: their further edits wait for another check. Where many of
+the functions have answers to goals in files of their own, a first check looks at these alone, and leaves goals without one open
+(`#[tactic(none)]`), since a refused answer refuses the edit. What isn't refused so is tried again, with the search for all other
+goals. An edit whose function is then only unproved with something that it calls, or only as names went away, or which was planted
+beside one that doesn't compile, is tried again with fewer others, and at last alone. An edit that isn't refused fails the run, and
+so does one that can't be applied, whose function can't be found, or that doesn't compile.
 
 An edit is a file with a line 'file: src/NAME.rt' and pairs of lines 'old: TEXT' and 'new: TEXT'. Each old text stands in
 that file exactly once, inside one function; or with a line 'in: NAME' once in the function of that name. Its folder has the
