@@ -20,6 +20,7 @@ MOST_IN_A_ROUND = 160
 HEAD = re.compile(r"^( *)(?:pub(?:\([^)]*\))? )?(?:const )?fn (\w+)")
 PUBLIC = re.compile(r"^ *pub (?:const )?fn ")
 CLAUSE = re.compile(r"^\s*(?:requires|ensures|ghost)\b", re.M)
+REQUIRES = re.compile(r"^ *requires\b")
 IMPL = re.compile(r"^impl\b(?P<rest>.*)")
 TYPE = re.compile(r"^(?:pub(?:\([^)]*\))? )?(?:struct|enum|union) (\w+)", re.M)
 # The mark of functions that call one another: their proof lies elsewhere, and goes by their bodies.
@@ -125,7 +126,7 @@ def functions_of(path, text):
         elif line.startswith("}"):
             owner = ""
         if head:
-            ends = rf"{head[1]}\{{?\}}|{head[1]}(?:pub(?:\([^)]*\))? )?(?:const )?fn \w"
+            ends = rf"\}}|{head[1]}\{{?\}}|{head[1]}(?:pub(?:\([^)]*\))? )?(?:const )?fn \w"
             last = next((at for at in range(number + 1, len(lines)) if re.match(ends, lines[at])), len(lines) - 1)
             is_short = line.rstrip().endswith(("}", ";"))
             found.append(Function(module, owner, head[2], number, number if is_short else last))
@@ -222,6 +223,7 @@ def read_edits(crate, only):
                 crate.edits.append(read_edit(crate, file, name))
         except (BadEdit, UnicodeDecodeError) as why:
             crate.failed[name] = f"BAD EDIT: {why}"
+    crate.edits.sort(key=Edit.is_of_a_definition)
     for path in [] if only else without_edits(crate):
         crate.failed[path] = "NO EDIT: a public function with a contract, and nothing shows that it refuses a wrong body"
 
@@ -274,16 +276,18 @@ def with_twins(crate):
 
 
 def may_have_twins(crate, edit):
-    """Returns whether a function may stand under another name beside itself: it is asked for by its own name, and says its contract itself,
-    where it is a method of a trait."""
-    function = edit.function
-    if edit.is_of_a_definition():
+    """Returns whether a function may stand under another name beside itself: no other method of its type has its name, and it says its contract
+    itself, with what it requires, where it is a method of a trait."""
+    function, owner = edit.function, type_of(crate, edit.function)
+    if edit.is_of_a_definition() or function.owner and not owner:
         return False
     lines = (ROOT / "crates" / crate.name / edit.path).read_text().split("\n")
-    body, owner = body_of(function, lines), type_of(crate, function)
-    is_asked_for = not function.owner or owner and (owner, function.name) not in crate.shared
-    is_told = not is_of_a_trait(crate, function) or CLAUSE.search("\n".join(lines[function.first : function.last]))
-    return bool(is_asked_for and is_told and body and may_be_left_out(function, lines, body))
+    body = body_of(function, lines)
+    if not body or not may_be_left_out(function, lines, body):
+        return False
+    is_told = not is_of_a_trait(crate, function) or any(map(REQUIRES.match, lines[function.first : body.start]))
+    namesakes = [it for it in crate.functions if owner and it.name == function.name and type_of(crate, it) == owner]
+    return is_told and len(namesakes) < 2
 
 
 def type_of(crate, function):
