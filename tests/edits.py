@@ -185,10 +185,12 @@ def read_edit(crate, file, name):
     places = [place_of(text, old, paths[0], part) for old in olds]
     if paths[0].startswith("specs/"):
         found = {it for it in crate.functions if [it.path()] == samples}
+        why = "an edit of a definition has one line 'by: MODULE::NAME', with a function of the crate"
     else:
-        found = {function_at(functions, text, at, old) for at, old in zip(places, olds)}
+        found = {function_at(functions, text, at, old) for at, old in zip(places, olds)} if not samples else set()
+        why = "it changes more than one function, or has a line 'by: ..', which is for definitions"
     if len(found) != 1:
-        raise BadEdit("it changes more than one function, or a definition without a line 'by: MODULE::NAME' that names one")
+        raise BadEdit(why)
     return Edit(crate.name, name, paths[0], tuple(zip(places, olds, news)), found.pop())
 
 
@@ -236,7 +238,7 @@ def promises(text):
 
 def without_edits(crate):
     """Returns the paths of the public functions with a contract that no edit changes, and that aren't named as such."""
-    folder, promising, changed = ROOT / "crates" / crate.name, set(), {it.function.path() for it in crate.edits}
+    folder, promising, changed = ROOT / "crates" / crate.name, set(), {it.function.path() for it in crate.edits if not it.is_of_a_definition()}
     for file in (it for it in sources(crate) if it.suffix == ".rt"):
         path, text = str(file.relative_to(folder)), file.read_text()
         functions, lines = functions_of(path, text), text.split("\n")
