@@ -8,9 +8,8 @@ from built.preloaded import run_preloaded
 from logs import put, worked_log
 
 OUT_OF_MEMORY = said("out of memory")
-# How key_story tells of a refusal. Where it comes while the words are read, it says what words it wants.
+# How key_story tells of a refusal.
 NO_MEMORY = re.compile(rb"Error: .*OutOfMemory.*\n")
-NO_WORDS = re.compile(rb"Error: Wanted\(.*\)\n")
 
 
 def last_token(lines: bytes) -> str:
@@ -56,10 +55,8 @@ def judge_index(program: Path, folder: Path) -> list[str]:
         came = run_preloaded(program, words, folder, refused).outcome
         if came == whole:
             continue
-        says_why = NO_MEMORY.fullmatch(came.stderr) is not None
-        told += says_why
-        is_told = says_why or (NO_WORDS.fullmatch(came.stderr) and not came.stdout)
-        if came.status != 1 or not is_told or not whole.stdout.startswith(came.stdout):
+        told += 1
+        if came.status != 1 or not NO_MEMORY.fullmatch(came.stderr) or not whole.stdout.startswith(came.stdout):
             return [f"request {refused} of {requests}", *differs(came, Wanted(1, None, None)), f"said: {came.stderr!r}"]
     return [] if told > requests // 2 else [f"{told} of {requests} refusals were told of"]
 

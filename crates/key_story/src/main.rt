@@ -5,9 +5,10 @@ use binlog_feed::{AtFault, Feed, FeedFault, OpenFeedFault, Start};
 use binlog_frame::{FileLogs, Logs, OpenFault};
 use binlog_json::{HistoryFault, KeyIndex, line};
 use binlog_select::{Filter, Token};
-use serde_json::Value;
+use serde_json::{Category, Value};
 use std::alloc::{AllocError, Global};
 use std::env;
+use std::io::ErrorKind;
 use std::rt::Files;
 
 /// Why the story isn't told to its end.
@@ -33,7 +34,10 @@ impl From<AllocError> for Fault {
 fn compact_key(alloc: Global, text: &str) -> Result<String, Fault> {
     match Value::from_str(alloc, text) {
         Ok(key) => Ok(key.to_string(alloc)?),
-        Err(_) => Err(Fault::Wanted("KEY as JSON")),
+        Err(error) => match error.classify() {
+            Category::Memory => Err(Fault::OutOfMemory),
+            _ => Err(Fault::Wanted("KEY as JSON")),
+        },
     }
 }
 
@@ -119,10 +123,18 @@ fn answer<R: Files + Print + AllocGlobal + Clone + Drop>(
     tell_story(rt, logs, schema, table, &key)
 }
 
+/// The words of the command line, which must be UTF-8.
+fn words_given(rt: &HostRuntime) -> Result<Vec<String>, Fault> {
+    match env::args(rt) {
+        Ok(words) => Ok(words.collect(rt.alloc())?),
+        Err(error) => match error.kind() {
+            ErrorKind::OutOfMemory => Err(Fault::OutOfMemory),
+            _ => Err(Fault::Wanted("words in UTF-8")),
+        },
+    }
+}
+
 fn main(rt: HostRuntime) -> Result<(), Fault> {
-    let Ok(words) = env::args(&rt) else {
-        return Err(Fault::Wanted("words in UTF-8"));
-    };
-    let words: Vec<String> = words.collect(rt.alloc())?;
+    let words = words_given(&rt)?;
     answer(&rt, &words)
 }
