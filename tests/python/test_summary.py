@@ -15,6 +15,7 @@ import time
 import xml.etree.ElementTree
 from collections import Counter
 from html.parser import HTMLParser
+from textwrap import dedent
 from unittest import TestCase, mock
 
 import logs
@@ -434,6 +435,23 @@ class Faults(FolderTest):
             said = process.stdout.read(), process.stderr.read()
         self.assertEqual((process.returncode, said), (130, (b"", b"")))
         self.assertEqual([number for number in started.read_text().split() if runs(number)], [])
+
+    def test_interrupted_within_a_fork(self):
+        """An interrupt that comes before a new process has begun its work ends it, and it says nothing."""
+        code = """
+            import os, signal, time
+            from binlogfeed import ProgramFailed
+            from binlogfeed.summary.beside import Beside
+            signal.signal(signal.SIGINT, signal.default_int_handler)
+            os.register_at_fork(after_in_child=lambda: os.kill(os.getpid(), signal.SIGINT))
+            try:
+                Beside(lambda: time.sleep(600)).result()
+            except ProgramFailed as error:
+                print(error)
+        """
+        ended = subprocess.run([sys.executable, "-c", dedent(code)], capture_output=True, env=ENVIRONMENT, timeout=SECONDS, check=False)
+        self.assertEqual((ended.returncode, ended.stderr), (0, b""))
+        self.assertEqual(ended.stdout, b"binlogfeed: a process of the summary ended early\n")
 
     def test_killed(self):
         """No process of a summary that is killed goes on without it: neither those that count, nor the programs."""

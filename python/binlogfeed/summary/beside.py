@@ -9,7 +9,7 @@ import signal
 import struct
 import threading
 import time
-from collections.abc import Callable, Sequence
+from collections.abc import Callable, Collection, Sequence
 from typing import Any, BinaryIO, Generic, NoReturn, TypeVar
 
 from binlogfeed.faults import BinlogfeedError, ProgramFailed
@@ -108,17 +108,23 @@ class Worker(Generic[Result]):
 def _forked(work: Callable[[], None]) -> int:
     """A new process that does some work. It ends without writing what this one still has in its buffers."""
     parent = os.getpid()
-    process = os.fork()
-    if process:
-        return process
-    _do(work, parent)
+    # An interrupt within the fork would be told as an exception that is ignored, and the new process would go on.
+    mask = signal.pthread_sigmask(signal.SIG_BLOCK, [signal.SIGINT])
+    try:
+        process = os.fork()
+        if not process:
+            _do(work, parent, mask)
+    finally:
+        signal.pthread_sigmask(signal.SIG_SETMASK, mask)
+    return process
 
 
-def _do(work: Callable[[], None], parent: int) -> NoReturn:
-    """Does the work, and ends the process."""
+def _do(work: Callable[[], None], parent: int, mask: Collection[int]) -> NoReturn:
+    """Does the work under this mask of signals, and ends the process."""
     status = 1
     try:
         # Within this, so that no interrupt goes on into what the other process was about to do.
+        signal.pthread_sigmask(signal.SIG_SETMASK, mask)
         threading.Thread(target=_end_with, args=(parent,), daemon=True).start()
         work()
         status = 0
