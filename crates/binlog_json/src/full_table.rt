@@ -1,7 +1,8 @@
 //! What full lines need of a table: its columns' types and the names of its key, kept from line to line by the body of the table's map.
 ghost use Rattle.std.specs.Prelude.{◌≡◌, ℕ, true, Ok, OnOk, IfOk};
 ghost use Rattle.std.proofs.Props.{props};
-ghost use Rattle.binlog_table.specs.Map.{Map, map_at};
+ghost use Rattle.binlog_table.specs.Map.{Map, map_at_by};
+ghost use Rattle.binlog_profile.specs.declared.profile.Profile.TheVariants.{Server};
 ghost use Rattle.binlog_types.specs.ColumnTypes.{types_of};
 ghost use Rattle.binlog_json.specs.FullWritten.{key_part, key_text, type_column_text};
 ghost use Rattle.binlog_json.specs.TypeTexts.{types_data, every_column};
@@ -30,8 +31,8 @@ pub(crate) struct FullTable {
     pub(crate) types: Vec<ColumnType>,
     /// The members `key` and `types`.
     pub(crate) key: Line,
-    ghost typed: { are_known ≡ true → (map : Map) → map_at body.items ≡ Ok map → types.items ≡ types_of map.sections } by { Prim.hlevel props },
-    ghost keyed: { are_known ≡ true → (map : Map) → map_at body.items ≡ Ok map → line_bytes key ≡ key_part map } by { Prim.hlevel props },
+    ghost typed: { are_known ≡ true → (map : Map) → map_at_by Server body.items ≡ Ok map → types.items ≡ types_of map.sections } by { Prim.hlevel props },
+    ghost keyed: { are_known ≡ true → (map : Map) → map_at_by Server body.items ≡ Ok map → line_bytes key ≡ key_part map } by { Prim.hlevel props },
 }
 
 impl FullTable {

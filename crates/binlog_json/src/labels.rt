@@ -2,7 +2,8 @@
 //! from image to image by the body of the table's map.
 ghost use Rattle.std.specs.Prelude.{◌≡◌, ◌<◌, ◌≤◌, ℕ, List, length, take, true, Ok, OnOk};
 ghost use Rattle.std.proofs.Props.{props};
-ghost use Rattle.binlog_table.specs.Map.{Map, map_at};
+ghost use Rattle.binlog_table.specs.Map.{Map, map_at_by};
+ghost use Rattle.binlog_profile.specs.declared.profile.Profile.TheVariants.{Server};
 ghost use Rattle.binlog_json.specs.Labels.{AreLabels, label_text};
 ghost use Rattle.binlog_json.specs.Written.{label_joined, table_text};
 ghost use Rattle.binlog_json.specs.LineBytes.{line_bytes};
@@ -30,8 +31,8 @@ pub(crate) struct Labels {
     names: Line,
     text: Line,
     bounds: Vec<(usize, usize)>,
-    ghost known: { are_known ≡ true → (map : Map) → map_at body.items ≡ Ok map → AreLabels map.names (line_bytes text) bounds.items } by { Prim.hlevel props },
-    ghost named: { are_known ≡ true → (map : Map) → map_at body.items ≡ Ok map → line_bytes names ≡ table_text map.schema map.table } by { Prim.hlevel props },
+    ghost known: { are_known ≡ true → (map : Map) → map_at_by Server body.items ≡ Ok map → AreLabels map.names (line_bytes text) bounds.items } by { Prim.hlevel props },
+    ghost named: { are_known ≡ true → (map : Map) → map_at_by Server body.items ≡ Ok map → line_bytes names ≡ table_text map.schema map.table } by { Prim.hlevel props },
 }
 
 impl Labels {

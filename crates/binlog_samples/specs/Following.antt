@@ -19,6 +19,7 @@ use Rattle.binlogfeed.specs.declared.lists.ListFault.TheVariants as lists
 use Rattle.binlog_samples.specs.Changes.{Brief, brief, first_change}
 use Rattle.binlog_samples.specs.Statuses.{two_names, second_is_bad}
 use Rattle.binlog_samples.specs.Tokens.{first_name, third_name, token, first_file, second_file, third_file, second_change, third_change}
+use Rattle.binlog_profile.specs.declared.profile.Profile.TheVariants.{Strict}
 
 -- ---- lists
 
@@ -68,7 +69,7 @@ TurnsOfFiles = Turns (a_path ∷ []) [] 0 (a_path ∷ []) (a_names ∷ []) × Tu
 -- ---- what looks give
 
 abbrev pub look_at : List LogFile → Look
-look_at files = record { names = map LogFile.name files; contents = map LogFile.bytes files; honest = true; failures = 0 }
+look_at files = record { names = map LogFile.name files; contents = record { profile = Strict; files = map LogFile.bytes files }; honest = true; failures = 0 }
 
 abbrev pub all : RowChange → Bool
 all change = true

@@ -1,11 +1,12 @@
 -- Sources of files: their reads, lengths and failures, refused paths, and equal names.
 use Rattle.std.specs.Prelude.{◌≡◌, ℕ, ◌-◌, ◌^◌, Bool, true, false, List, [], ◌∷◌, codes}
 use Rattle.binlog_frame.specs.Files.{IsLastPart, RefusesPath, RefusesOne, lengths_are}
-use Rattle.binlog_frame.specs.Logs.{HasRisen, KeepsSource}
+use Rattle.binlog_frame.specs.Logs.{Contents, HasRisen, KeepsSource}
 use Rattle.binlog_frame.specs.Transcript.{FileRead, is_true, are_true}
 use Rattle.binlog_frame.specs.declared.open_fault.OpenFault.TheVariants.{BadName, CannotOpen}
 use Rattle.binlog_feed.specs.Names.{IsDuplicate}
 use Rattle.binlog_feed.specs.declared.fault.OpenFeedFault.TheVariants.{DuplicateFile}
+use Rattle.binlog_profile.specs.declared.profile.Profile.TheVariants.{Strict}
 
 -- ---- reads
 
@@ -55,7 +56,7 @@ Rises = HasRisen 0 1 × HasRisen 3 9 × HasRisen (2 ^ 64 - 1) (2 ^ 64 - 1) × (H
 
 pub record Source : Type 0 where
   pub names : List (List ℕ)
-  pub contents : List (List ℕ)
+  pub contents : Contents
   pub lengths : List ℕ
   pub honest : Bool
   pub failures : ℕ
@@ -64,7 +65,7 @@ abbrev pub Keeps : Source → Source → Type 0
 Keeps before after = KeepsSource (λ s. s.names) (λ s. s.contents) (λ s. s.lengths) (λ s. s.honest) (λ s. s.failures) before after
 
 abbrev pub some_source : Source
-some_source = record { names = codes "a" ∷ []; contents = codes "abc" ∷ []; lengths = 3 ∷ []; honest = true; failures = 1 }
+some_source = record { names = codes "a" ∷ []; contents = record { profile = Strict; files = codes "abc" ∷ [] }; lengths = 3 ∷ []; honest = true; failures = 1 }
 
 abbrev pub found_out : Source
 found_out = record some_source { honest = false }
@@ -75,7 +76,7 @@ Kept = Keeps some_source some_source × Keeps some_source found_out × Keeps som
 
 abbrev pub NotKept : Type 0
 NotKept =
-    (Keeps some_source (record some_source { names = codes "b" ∷ [] }) → ⊥) × (Keeps some_source (record some_source { contents = codes "abd" ∷ [] }) → ⊥)
+    (Keeps some_source (record some_source { names = codes "b" ∷ [] }) → ⊥) × (Keeps some_source (record some_source { contents = record { profile = Strict; files = codes "abd" ∷ [] } }) → ⊥)
     × (Keeps some_source (record some_source { lengths = 4 ∷ [] }) → ⊥) × (Keeps found_out some_source → ⊥)
     × (Keeps some_source (record some_source { failures = 0 }) → ⊥)
 

@@ -15,6 +15,7 @@ pub mod FieldLoop
 pub mod Prepended
 pub mod ColumnLoop
 pub mod NameOrders
+pub mod NumberNames
 pub mod PackedNumbers
 pub mod KeyLoop
 pub mod StringLoop

@@ -1,25 +1,84 @@
 -- The map of sections, read in four steps.
-use Rattle.std.proofs.Common.{◌≡◌, ℕ, List, [], length, Option, Some, None, Ok}
-use Rattle.std.specs.Prelude.{unwrap_or}
+use Rattle.std.proofs.Common.{◌≡◌, ℕ, List, [], length, true, Option, Some, None, Ok, refl, ap, sym, ◌∙◌}
+use Rattle.std.specs.Prelude.{unwrap_or, is_some}
+use Rattle.binlog_profile.specs.declared.profile.Profile.{Profile}
+use Rattle.binlog_profile.specs.declared.profile.Profile.TheVariants.{Strict, Server}
 use Rattle.binlog_table.specs.declared.column.Column.{Column}
 use Rattle.binlog_table.specs.MapResult.{◌>>=◌}
 use Rattle.binlog_table.specs.Columns.{columns_at}
 use Rattle.binlog_table.specs.Names.{column_names, names_in, named, key_in, used_up, value_names}
-use Rattle.binlog_table.specs.Map.{Sections, Map, signed_enough, columns_stand, columns_in, map_of}
-use Rattle.binlog_table.proofs.FirstFaults.{bind_assoc}
+use Rattle.binlog_table.specs.Map.{Sections, Map, signed_enough, columns_stand, columns_in, map_of_by, map_at_by, sections_at, has_own_names}
+use Rattle.binlog_table.proofs.FirstFaults.{bind_assoc, bind_then, bind_known, ok_same}
 
 abbrev made : Sections → List (List ℕ) → List ℕ → List Column → List (Option (List (List ℕ))) → Map
 made s names key columns values = record { table_id = s.table_id; schema = s.schema; table = s.table; columns = columns; names = names; key = key; value_names = values; sections = s }
 
 -- the names, the key, the columns that stand, and the names of values
-pub map_in_steps : (s : Sections) → (names_in (length s.types) s.fields.names >>= λ names. key_in (length s.types) s.fields.key s.fields.prefix_key >>= λ key. columns_in s >>= λ columns. value_names columns s.fields.set_names s.fields.enum_names >>= λ values. Ok (made s names key columns values)) ≡ map_of s
-unfolding map_of column_names
-map_in_steps s = by_field s.fields.names
+pub map_in_steps : (profile : Profile) (s : Sections) → (names_in profile (length s.types) s.fields.names >>= λ names. key_in (length s.types) s.fields.key s.fields.prefix_key >>= λ key. columns_in profile s >>= λ columns. value_names columns s.fields.set_names s.fields.enum_names >>= λ values. Ok (made s names key columns values)) ≡ map_of_by profile s
+unfolding map_of_by column_names
+map_in_steps profile s = by_field profile s.fields.names
+  where
+    by_field : (profile : Profile) (field : Option (List ℕ))
+        → (names_in profile (length s.types) field >>= λ names. key_in (length s.types) s.fields.key s.fields.prefix_key >>= λ key.
+        (columns_at s.types s.metadata (unwrap_or s.fields.signs []) 0 >>= λ c. columns_stand profile c.1.0 field (unwrap_or s.fields.signs []) c.1.1 >>= λ _. Ok c.0) >>= λ columns. value_names columns s.fields.set_names s.fields.enum_names >>= λ values. Ok (made s names key columns values))
+        ≡ (column_names (length s.types) field >>= λ names. key_in (length s.types) s.fields.key s.fields.prefix_key >>= λ key. columns_at s.types s.metadata (unwrap_or s.fields.signs []) 0 >>= λ c.
+        used_up c.1.0 >>= λ _. named profile (length s.types) names >>= λ known. signed_enough c.1.1 s.fields.signs >>= λ _. value_names c.0 s.fields.set_names s.fields.enum_names >>= λ values. Ok (made s known key c.0 values))
+    by_field Strict None = simp bind_assoc
+    by_field Server None = simp bind_assoc
+    by_field Strict (Some field) = simp bind_assoc
+    by_field Server (Some field) = simp bind_assoc
+
+-- ---- the two profiles
+
+-- where a map has names, both give the same
+pub same_by_names : (s : Sections) → is_some s.fields.names ≡ true → map_of_by Server s ≡ map_of_by Strict s
+unfolding map_of_by column_names
+same_by_names s e = by_field s.fields.names e
+  where
+    by_field : (field : Option (List ℕ)) → is_some field ≡ true
+        → (column_names (length s.types) field >>= λ names. key_in (length s.types) s.fields.key s.fields.prefix_key >>= λ key. columns_at s.types s.metadata (unwrap_or s.fields.signs []) 0 >>= λ c.
+        used_up c.1.0 >>= λ _. named Server (length s.types) names >>= λ known. signed_enough c.1.1 s.fields.signs >>= λ _. value_names c.0 s.fields.set_names s.fields.enum_names >>= λ values. Ok (made s known key c.0 values))
+        ≡ (column_names (length s.types) field >>= λ names. key_in (length s.types) s.fields.key s.fields.prefix_key >>= λ key. columns_at s.types s.metadata (unwrap_or s.fields.signs []) 0 >>= λ c.
+        used_up c.1.0 >>= λ _. named Strict (length s.types) names >>= λ known. signed_enough c.1.1 s.fields.signs >>= λ _. value_names c.0 s.fields.set_names s.fields.enum_names >>= λ values. Ok (made s known key c.0 values))
+    by_field None h = absurd cc
+    by_field (Some field) h = simp bind_assoc
+
+-- a map that the strict profile gives has names
+strict_has_names : (s : Sections) (map : Map) → map_of_by Strict s ≡ Ok map → is_some s.fields.names ≡ true
+unfolding map_of_by column_names
+strict_has_names s map e = by_field s.fields.names e
   where
     by_field : (field : Option (List ℕ))
-        → (names_in (length s.types) field >>= λ names. key_in (length s.types) s.fields.key s.fields.prefix_key >>= λ key.
-        (columns_at s.types s.metadata (unwrap_or s.fields.signs []) 0 >>= λ c. columns_stand c.1.0 field (unwrap_or s.fields.signs []) c.1.1 >>= λ _. Ok c.0) >>= λ columns. value_names columns s.fields.set_names s.fields.enum_names >>= λ values. Ok (made s names key columns values))
-        ≡ (column_names (length s.types) field >>= λ names. key_in (length s.types) s.fields.key s.fields.prefix_key >>= λ key. columns_at s.types s.metadata (unwrap_or s.fields.signs []) 0 >>= λ c.
-        used_up c.1.0 >>= λ _. named names >>= λ known. signed_enough c.1.1 s.fields.signs >>= λ _. value_names c.0 s.fields.set_names s.fields.enum_names >>= λ values. Ok (made s known key c.0 values))
-    by_field None = simp bind_assoc
-    by_field (Some field) = simp bind_assoc
+        → (column_names (length s.types) field >>= λ names. key_in (length s.types) s.fields.key s.fields.prefix_key >>= λ key. columns_at s.types s.metadata (unwrap_or s.fields.signs []) 0 >>= λ c.
+        used_up c.1.0 >>= λ _. named Strict (length s.types) names >>= λ known. signed_enough c.1.1 s.fields.signs >>= λ _. value_names c.0 s.fields.set_names s.fields.enum_names >>= λ values. Ok (made s known key c.0 values)) ≡ Ok map
+        → is_some field ≡ true
+    by_field (Some field) h = refl
+    by_field None h = bind_then (key_in (length s.types) s.fields.key s.fields.prefix_key) _ map h (λ key e1 k1. bind_then (columns_at s.types s.metadata (unwrap_or s.fields.signs []) 0) _ map k1 (λ c e2 k2.
+        bind_then (used_up c.1.0) _ map k2 (λ u e3 k3. absurd cc)))
+
+-- each profile's maps are the server's
+pub as_server : (profile : Profile) (s : Sections) (map : Map) → map_of_by profile s ≡ Ok map → map_of_by Server s ≡ Ok map
+as_server Strict s map e = same_by_names s (strict_has_names s map e) ∙ e
+as_server Server s map e = e
+
+-- the sections of a map are those that it was read from
+sections_kept : (profile : Profile) (s : Sections) (map : Map) → map_of_by profile s ≡ Ok map → map.sections ≡ s
+unfolding map_of_by
+sections_kept profile s map e =
+    bind_then (column_names (length s.types) s.fields.names) _ map e (λ names e1 k1. bind_then (key_in (length s.types) s.fields.key s.fields.prefix_key) _ map k1 (λ key e2 k2.
+    bind_then (columns_at s.types s.metadata (unwrap_or s.fields.signs []) 0) _ map k2 (λ c e3 k3. bind_then (used_up c.1.0) _ map k3 (λ u e4 k4.
+    bind_then (named profile (length s.types) names) _ map k4 (λ known e5 k5. bind_then (signed_enough c.1.1 s.fields.signs) _ map k5 (λ g e6 k6.
+    bind_then (value_names c.0 s.fields.set_names s.fields.enum_names) _ map k6 (λ values e7 k7. sym (ap (λ (m : Map). m.sections) (ok_same (made s known key c.0 values) map k7)))))))))
+
+-- the same of a body
+pub server_at : (profile : Profile) (body : List ℕ) (map : Map) → map_at_by profile body ≡ Ok map → map_at_by Server body ≡ Ok map
+unfolding map_at_by
+server_at profile body map e =
+    bind_then (sections_at body) (map_of_by profile) map e (λ s e1 k1. bind_known (sections_at body) (map_of_by Server) s (Ok map) e1 (as_server profile s map k1))
+
+pub strict_at : (body : List ℕ) (map : Map) → map_at_by Server body ≡ Ok map → has_own_names map ≡ true → map_at_by Strict body ≡ Ok map
+unfolding map_at_by
+strict_at body map e own =
+    bind_then (sections_at body) (map_of_by Server) map e (λ s e1 k1.
+    let named : is_some s.fields.names ≡ true = rw (← sections_kept Server s map k1) own in
+    bind_known (sections_at body) (map_of_by Strict) s (Ok map) e1 (sym (same_by_names s named) ∙ k1))

@@ -1,8 +1,9 @@
 -- What a table map owns, seen as what it says.
 use Rattle.std.specs.Prelude.{◌≡◌, map, Ok}
+use Rattle.binlog_profile.specs.declared.profile.Profile.TheVariants.{Server}
 use Rattle.std.specs.String.{string_bytes}
 use Rattle.binlog_table.specs.declared.table_map.TableMap.TheInside.{Inside}
-use Rattle.binlog_table.specs.Map.{Map, map_at, sections_at, sections_or}
+use Rattle.binlog_table.specs.Map.{Map, map_at_by, sections_at, sections_or, has_own_names}
 use Rattle.binlog_table.specs.ListsShown.{AreFit}
 use Rattle.binlog_table.specs.ValueNamesShown.{names_view}
 
@@ -18,6 +19,7 @@ map_view m = record {
   sections = sections_or (sections_at m.body.items);
 }
 
--- The lists fit one another, and the body that is kept spells the map.
+-- The lists fit one another, and the body that is kept spells the map by the server's profile, and by the strict one, too, where it has
+-- the names of its columns.
 abbrev pub IsKept : Inside → Type 0
-IsKept m = AreFit m.lists × (map_at m.body.items ≡ Ok (map_view m))
+IsKept m = AreFit m.lists × (map_at_by Server m.body.items ≡ Ok (map_view m)) × (m.named ≡ has_own_names (map_view m))

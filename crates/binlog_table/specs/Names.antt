@@ -1,7 +1,9 @@
 -- Lists of strings, column names, the key, and the names of ENUM and SET columns.
-use Rattle.std.specs.Prelude.{ℕ, zero, suc, Bool, true, false, not, ◌&&◌, ◌||◌, List, [], ◌∷◌, ◌++◌, length, Option, Some, None, Result, Ok, Err, unwrap_or, nat_lt, ◌==◌, if◌then◌else◌}
+use Rattle.std.specs.Prelude.{ℕ, zero, suc, ◌+◌, codes, decimal, Bool, true, false, not, ◌&&◌, ◌||◌, List, [], ◌∷◌, ◌++◌, length, Option, Some, None, Result, Ok, Err, unwrap_or, nat_lt, ◌==◌, if◌then◌else◌}
 use Rattle.std.specs.Str.{bytes_eq}
 use Rattle.std.specs.List.{list_any}
+use Rattle.binlog_profile.specs.declared.profile.Profile.{Profile}
+use Rattle.binlog_profile.specs.declared.profile.Profile.TheVariants.{Strict, Server}
 use Rattle.binlog_table.specs.declared.fault.MapFault.{MapFault}
 use Rattle.binlog_table.specs.declared.fault.MapFault.TheVariants.{BadMap, NoColumnNames}
 use Rattle.binlog_table.specs.declared.column.Column.{Column}
@@ -38,13 +40,29 @@ unfoldable pub column_names : ℕ → Option (List ℕ) → Result (Option (List
 column_names count None = Ok None
 column_names count (Some bytes) = names_at count bytes >>= λ r. used_up r.1 >>= λ _. distinct_names r.0 >>= λ names. Ok (Some names)
 
-abbrev pub named : Option (List (List ℕ)) → Result (List (List ℕ)) MapFault
-named None = Err NoColumnNames
-named (Some names) = Ok names
+-- a column by its number, as mysqlbinlog writes it: `@1` for the first
+abbrev pub number_name : ℕ → List ℕ
+number_name number = codes "@" ++ decimal number
 
--- the same, where no field is no names
-abbrev pub names_in : ℕ → Option (List ℕ) → Result (List (List ℕ)) MapFault
-names_in count field = column_names count field >>= λ names. Ok (unwrap_or names [])
+-- so many columns by their numbers, from a number on
+abbrev pub number_names : ℕ → ℕ → List (List ℕ)
+number_names number zero = []
+number_names number (suc n) = number_name number ∷ number_names (number + 1) n
+
+-- Where a map has no names of columns, the strict profile refuses it, and the server's has the columns by their numbers.
+abbrev pub named : Profile → ℕ → Option (List (List ℕ)) → Result (List (List ℕ)) MapFault
+named profile count (Some names) = Ok names
+named Strict count None = Err NoColumnNames
+named Server count None = Ok (number_names 1 count)
+
+-- the same, where no names are no fault yet
+abbrev pub names_or_none : Profile → ℕ → Option (List (List ℕ)) → List (List ℕ)
+names_or_none profile count (Some names) = names
+names_or_none Strict count None = []
+names_or_none Server count None = number_names 1 count
+
+abbrev pub names_in : Profile → ℕ → Option (List ℕ) → Result (List (List ℕ)) MapFault
+names_in profile count field = column_names count field >>= λ names. Ok (names_or_none profile count names)
 
 -- ---- the key
 

@@ -3,13 +3,14 @@ ghost use Rattle.std.specs.Prelude.{◌≡◌, ◌≤◌, ◌<◌, ◌^◌, ◌&
 ghost use Rattle.binlog_table.specs.MapReads.{bytes_if};
 ghost use Rattle.binlog_table.specs.MapResult.{Gives, GivesExactly};
 ghost use Rattle.binlog_table.specs.Columns.{is_numeric, high_bit, next_numeric, columns_at};
-ghost use Rattle.binlog_table.specs.Map.{columns_in, columns_stand};
+ghost use Rattle.binlog_table.specs.Map.{are_named, columns_in, columns_stand};
 ghost use Rattle.binlog_table.specs.SectionsShown.{sections_view};
 
 use crate::column::Column;
 use crate::fault::{MapFault, given};
 use crate::layout::layout_at;
 use crate::sections::Sections;
+use binlog_profile::Profile;
 use std::alloc::Global;
 
 /// Whether a type has a bit of signedness. YEAR has none.
@@ -74,18 +75,19 @@ pub(crate) fn columns_of<'a>(
 
 /// Whether columns stand as they were read: no metadata is left, they have names, and each numeric one has a bit.
 fn columns_stand(
+    profile: Profile,
     left: &[u8],
     names: Option<&[u8]>,
     signs: &[u8],
     numeric: usize,
 ) -> Result<(), MapFault>
-    ensures stand { GivesExactly (λ _. numeric) result (columns_stand left.now (bytes_if names.entry) signs.now numeric) }
-    ensures named { IfOk result (λ _. is_some names.entry ≡ true) }
+    ensures stand { GivesExactly (λ _. numeric) result (columns_stand profile left.now (bytes_if names.entry) signs.now numeric) }
+    ensures named { IfOk result (λ _. are_named profile (bytes_if names.entry) ≡ true) }
 {
     if !left.is_empty() {
         return Err(MapFault::BadMap);
     }
-    if names.is_none() {
+    if profile == Profile::Strict && names.is_none() {
         return Err(MapFault::NoColumnNames);
     }
     if signs.len() < numeric.div_ceil(8) {
@@ -95,10 +97,14 @@ fn columns_stand(
 }
 
 /// The columns of a body's sections.
-pub(crate) fn columns_in(alloc: Global, sections: &Sections<'_>) -> Result<Vec<Column>, MapFault>
-    ensures columns { Gives (λ v. v.items) result (columns_in (sections_view sections.now)) }
+pub(crate) fn columns_in(
+    alloc: Global,
+    profile: Profile,
+    sections: &Sections<'_>,
+) -> Result<Vec<Column>, MapFault>
+    ensures columns { Gives (λ v. v.items) result (columns_in profile (sections_view sections.now)) }
     ensures count { IfOk result (λ v. vec_len v ≡ length sections.now.types.now) }
-    ensures named { IfOk result (λ _. is_some sections.now.fields.names ≡ true) }
+    ensures named { IfOk result (λ _. are_named profile (bytes_if sections.now.fields.names) ≡ true) }
 {
     let fields = &sections.fields;
     let signs = fields.signs.unwrap_or(&[]);
@@ -108,6 +114,6 @@ pub(crate) fn columns_in(alloc: Global, sections: &Sections<'_>) -> Result<Vec<C
         sections.metadata,
         signs
     ));
-    given!(columns_stand(left, fields.names, signs, numeric));
+    given!(columns_stand(profile, left, fields.names, signs, numeric));
     Ok(columns)
 }

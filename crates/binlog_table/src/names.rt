@@ -1,13 +1,15 @@
 //! The names of columns, and the columns in the order of their names.
-ghost use Rattle.std.specs.Prelude.{◌≡◌, ◌≤◌, ◌<◌, ◌+◌, ◌-◌, true, false, ℕ, List, length, map, option_map, is_some, IfOk, vec_len};
+ghost use Rattle.std.specs.Prelude.{◌≡◌, ◌≤◌, ◌<◌, ◌+◌, ◌-◌, true, false, ℕ, List, Ok, length, map, option_map, is_some, IfOk, vec_len};
+ghost use Rattle.binlog_table.specs.Map.{are_named};
 ghost use Rattle.binlog_table.specs.MapReads.{bytes_if, RepeatsAt, RepeatsNotAt, RepeatsNowhere, AreRepeated};
 ghost use Rattle.std.specs.String.{string_bytes};
 ghost use Rattle.binlog_table.specs.MapResult.{Gives};
-ghost use Rattle.binlog_table.specs.Names.{names_at, column_names, names_in, distinct_names, are_distinct, used_up};
+ghost use Rattle.binlog_table.specs.Names.{names_at, column_names, names_in, number_name, number_names, distinct_names, are_distinct, used_up};
 ghost use Rattle.binlog_table.specs.NameOrder.{IsNameOrder, AreNumbered, AreSorted, name_of, name_in, column_in};
 
 use crate::fault::{MapFault, given};
 use crate::fields::{string_at, text_of};
+use binlog_profile::Profile;
 use std::alloc::{AllocError, Global};
 
 /// The names of columns, and the columns in the order of their names.
@@ -105,22 +107,60 @@ fn name_order(alloc: Global, names: &[String]) -> Result<Vec<usize>, MapFault>
     Ok(sorted_columns(alloc, &sorted)?)
 }
 
-/// The distinct names of so many columns, of which there are none where there is no such field.
+/// A column by its number.
+fn number_name(alloc: Global, number: usize) -> Result<String, AllocError>
+    ensures { IfOk result (λ name. string_bytes name ≡ number_name number) }
+{
+    let mut buffer = itoa::Buffer::new();
+    let mut name = String::from_str(alloc, "@")?;
+    name.push_str(buffer.format(number))?;
+    Ok(name)
+}
+
+/// So many columns by their numbers, from 1 on.
+fn number_names(alloc: Global, count: usize) -> Result<Vec<String>, AllocError>
+    ensures names { IfOk result (λ names. map string_bytes names.items ≡ number_names 1 count) }
+    ensures count { IfOk result (λ names. vec_len names ≡ count) }
+{
+    let mut names = Vec::with_capacity(alloc, count)?;
+    for column in 0..count {
+        names.push(number_name(alloc, column + 1)?)?;
+    }
+    Ok(names)
+}
+
+/// The names of so many columns that have none: their numbers.
+fn numbered_columns(alloc: Global, count: usize) -> Result<ColumnNames, MapFault>
+    ensures names { Gives (λ n. map string_bytes n.names.items) result (Ok (number_names 1 count)) }
+    ensures count { IfOk result (λ n. vec_len n.names ≡ count) }
+    ensures order { IfOk result (λ n. IsNameOrder (map string_bytes n.names.items) n.order.items) }
+{
+    let names = number_names(alloc, count)?;
+    let order = given!(name_order(alloc, &names));
+    Ok(ColumnNames { names, order })
+}
+
+/// The distinct names of so many columns. Where there is no such field, there are none by the strict profile, and their numbers by the
+/// server's.
 #[tactic(auto, unfolding(crate::specs::Names::column_names))]
 pub(crate) fn column_names(
     alloc: Global,
+    profile: Profile,
     count: usize,
     field: Option<&[u8]>,
 ) -> Result<ColumnNames, MapFault>
-    ensures names { Gives (λ n. map string_bytes n.names.items) result (names_in count (bytes_if field.entry)) }
-    ensures count { IfOk result (λ n. is_some field.entry ≡ true → vec_len n.names ≡ count) }
+    ensures names { Gives (λ n. map string_bytes n.names.items) result (names_in profile count (bytes_if field.entry)) }
+    ensures count { IfOk result (λ n. are_named profile (bytes_if field.entry) ≡ true → vec_len n.names ≡ count) }
     ensures order { IfOk result (λ n. IsNameOrder (map string_bytes n.names.items) n.order.items) }
 {
     let Some(bytes) = field else {
-        return Ok(ColumnNames {
-            names: Vec::new(alloc),
-            order: Vec::new(alloc),
-        });
+        return match profile {
+            Profile::Strict => Ok(ColumnNames {
+                names: Vec::new(alloc),
+                order: Vec::new(alloc),
+            }),
+            Profile::Server => numbered_columns(alloc, count),
+        };
     };
     let (names, rest) = given!(names_of(alloc, count, bytes));
     if !rest.is_empty() {

@@ -24,14 +24,15 @@ use Rattle.binlogfeed.specs.Statuses.{EndsRun, IsStatus, judgement_of, open_stat
 use Rattle.binlogfeed.specs.declared.fault.RunFault.{RunFault}
 use Rattle.binlogfeed.specs.declared.fault.RunFault.TheVariants.{DuplicateFile, Token, Log, OutOfMemory}
 use Rattle.binlogfeed.specs.declared.words.Task.{Task}
+use Rattle.binlog_frame.specs.Logs.{Contents}
 
 -- the files kept their names, hold what they are supposed to, and had no failure before
-pub ends_over : (task : Task) (old_names names old_contents contents : List (List ℕ)) (old_failures failures : ℕ) (honest : Bool)
+pub ends_over : (task : Task) (old_names names : List (List ℕ)) (old_contents contents : Contents) (old_failures failures : ℕ) (honest : Bool)
     (old new : Option (List ℕ)) (status : ℕ) → names ≡ old_names → old_contents ≡ contents → old_failures ≡ 0
     → EndsRun old_names old_failures failures honest (judgement_of task old_names old_contents) (output_of task old_names old_contents) old new status
     → EndsRun names 0 failures honest (judgement_of task names contents) (output_of task names contents) old new status
 ends_over task old_names names old_contents contents old_failures failures honest old new status same held fresh h =
-    subst₂ (λ (names contents : List (List ℕ)). EndsRun names 0 failures honest (judgement_of task names contents) (output_of task names contents) old new status) (sym same) held (rw fresh at h)
+    subst₂ (λ (names : List (List ℕ)) (contents : Contents). EndsRun names 0 failures honest (judgement_of task names contents) (output_of task names contents) old new status) (sym same) held (rw fresh at h)
 
 pub run_is_status : (answer : Result ℕ RunFault) → IsStatus (run_status_of answer)
 run_is_status (Ok count) = inl refl
@@ -71,7 +72,7 @@ follow_is_status (Err (NotBegun fault)) = run_is_status (Err fault)
 follow_is_status (Err (Refused fault)) = refusal_is_status fault
 follow_is_status (Err (Ended fault)) = run_is_status (Err fault)
 
-task_is_status : {R F : Type 0} (task : Task) (paths : List Text) (contents : List (List ℕ)) (used : Used R F) (old new : Option (List ℕ)) (status : ℕ) → EndsTask task paths contents used old new status → IsStatus status
+task_is_status : {R F : Type 0} (task : Task) (paths : List Text) (contents : Contents) (used : Used R F) (old new : Option (List ℕ)) (status : ℕ) → EndsTask task paths contents used old new status → IsStatus status
 task_is_status task paths contents (Files logs) old new status h = h.is_status
 task_is_status task paths contents (Looks looks) old new status h = absurd h
 
@@ -80,7 +81,7 @@ following_is_status follows (Files logs) status h = absurd h
 following_is_status follows (Looks looks) status (ending, made, e) = subst IsStatus (sym e) (follow_is_status ending)
 
 order_is_status : {R F : Type 0} (order : Order) (supply : List (List (List ℕ))) (input : Option (List ℕ)) (used : Used R F) (old new : Option (List ℕ)) (status : ℕ) → EndsOrder order supply input used old new status → IsStatus status
-order_is_status (Follow filter start style files) supply input used old new status h = following_is_status _ used status h
+order_is_status (Follow filter start style profile files) supply input used old new status h = following_is_status _ used status h
 order_is_status other supply input used old new status h = task_is_status _ _ _ used old new status h
 
 pub ended_is_status : {R F : Type 0} (answer : Result Order WordsFault) (supply : List (List (List ℕ))) (input : Option (List ℕ)) (used : Used R F) (old new : Option (List ℕ)) (status : ℕ)

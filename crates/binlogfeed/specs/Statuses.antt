@@ -12,6 +12,7 @@ use Rattle.binlogfeed.specs.Runs.{Output, AnswersIfBegun, ReadsFailed, units_out
 use Rattle.binlogfeed.specs.declared.fault.RunFault.{RunFault}
 use Rattle.binlogfeed.specs.declared.words.Task.{Task}
 use Rattle.binlogfeed.specs.declared.words.Task.TheVariants.{Transactions, Read, History}
+use Rattle.binlog_frame.specs.Logs.{Contents}
 
 -- a run that comes to the end of the files is 0
 abbrev pub run_status_of : Result ℕ RunFault → ℕ
@@ -19,13 +20,13 @@ run_status_of (Ok count) = 0
 run_status_of (Err fault) = status_of fault
 
 -- what a task has to write of files with these names and contents
-abbrev pub output_of : Task → List (List ℕ) → List (List ℕ) → Output
+abbrev pub output_of : Task → List (List ℕ) → Contents → Output
 output_of Transactions names contents = units_output names contents
 output_of (Read filter start style) names contents = begun_output_as style names contents filter start
 output_of (History schema table key style) names contents = history_output_as style names contents schema.now table.now (string_bytes key)
 
 -- how the start of a task is judged over them
-abbrev pub judgement_of : Task → List (List ℕ) → List (List ℕ) → Judgement
+abbrev pub judgement_of : Task → List (List ℕ) → Contents → Judgement
 judgement_of Transactions names contents = Fits
 judgement_of (Read filter start style) names contents = judge_start (files_of names contents) start
 judgement_of (History schema table key style) names contents = Fits

@@ -20,6 +20,8 @@ use Rattle.binlogfeed.specs.declared.words.Order.TheVariants.{Follow, Once}
 use Rattle.binlogfeed.specs.declared.words.Task.TheVariants.{Transactions, Read, History}
 use Rattle.binlogfeed.specs.declared.words_fault.WordsFault.{WordsFault}
 use Rattle.binlogfeed.specs.declared.words_fault.WordsFault.TheVariants.{Help, CommandLine, EventName, Set, Token, Key, OutOfMemory}
+use Rattle.binlog_profile.specs.declared.profile.Profile.{Profile}
+use Rattle.binlog_profile.specs.declared.profile.Profile.TheVariants.{Server, Strict}
 
 -- one file or more
 abbrev pub file_rule : Rule
@@ -59,14 +61,14 @@ transactions_app = with_rule (new_app (codes "transactions")) file_rule
 
 abbrev pub read_app : App
 read_app = with_rule
-    (with_flag (with_flag (with_option (with_option (with_option (with_option (with_option (with_option (with_option (new_app (codes "read"))
+    (with_option (with_flag (with_flag (with_option (with_option (with_option (with_option (with_option (with_option (with_option (new_app (codes "read"))
     (codes "only-events")) (codes "only-tables")) (codes "ignored-tables")) (codes "only-schemas")) (codes "ignored-schemas"))
-    (codes "auto-position")) (codes "from")) (codes "full")) (codes "follow"))
+    (codes "auto-position")) (codes "from")) (codes "full")) (codes "follow")) (codes "profile"))
     optional_file_rule
 
 abbrev pub history_app : App
 history_app = with_rule
-    (with_flag (with_required (with_required (with_required (new_app (codes "history")) (codes "schema")) (codes "table")) (codes "key")) (codes "full"))
+    (with_option (with_flag (with_required (with_required (with_required (new_app (codes "history")) (codes "schema")) (codes "table")) (codes "key")) (codes "full")) (codes "profile"))
     file_rule
 
 abbrev pub program_app : App
@@ -92,6 +94,17 @@ style_of text = if is_true_text text then Full else Plain
 abbrev pub style_given : List Row → Style
 style_given rows = style_of (first_of (codes "full") rows)
 
+-- The profile that a text names: the strict one where there is none.
+abbrev pub profile_named : Text → Option Profile
+profile_named text = if bytes_eq text (codes "strict") then Some Strict else if bytes_eq text (codes "server") then Some Server else None
+
+abbrev pub profile_of : Option Text → Option Profile
+profile_of None = Some Strict
+profile_of (Some text) = profile_named text
+
+abbrev pub profile_given : List Row → Option Profile
+profile_given rows = profile_of (first_of (codes "profile") rows)
+
 -- files are followed where the flag is given
 abbrev pub is_followed : List Row → Bool
 is_followed rows = is_true_text (first_of (codes "follow") rows)
@@ -101,18 +114,18 @@ follows_given matches = is_followed (rows_given matches)
 
 -- the subcommand that the words name, with the values that they give it
 abbrev pub IsOrder : Order → Option (Text × List Row) → Type 0
-IsOrder (Once Transactions files) found =
-    (rows : List Row) × (found ≡ Some (codes "transactions", rows)) × (texts files.items ≡ files_given rows)
-IsOrder (Once (Read filter start style) files) found =
+IsOrder (Once Transactions profile files) found =
+    (rows : List Row) × (found ≡ Some (codes "transactions", rows)) × (profile ≡ Strict) × (texts files.items ≡ files_given rows)
+IsOrder (Once (Read filter start style) profile files) found =
     (rows : List Row) × (found ≡ Some (codes "read", rows)) × (is_followed rows ≡ false)
-    × IsFilterOf rows filter × IsStart (token_text rows) start × (style ≡ style_given rows) × (texts files.items ≡ files_given rows) × (texts files.items ≢ [])
-IsOrder (Follow filter start style files) found =
+    × IsFilterOf rows filter × IsStart (token_text rows) start × (style ≡ style_given rows) × (profile_given rows ≡ Some profile) × (texts files.items ≡ files_given rows) × (texts files.items ≢ [])
+IsOrder (Follow filter start style profile files) found =
     (rows : List Row) × (found ≡ Some (codes "read", rows)) × (is_followed rows ≡ true)
-    × IsFilterOf rows filter × IsStart (token_text rows) start × (style ≡ style_given rows) × (texts files.items ≡ files_given rows)
-IsOrder (Once (History schema table key style) files) found =
+    × IsFilterOf rows filter × IsStart (token_text rows) start × (style ≡ style_given rows) × (profile_given rows ≡ Some profile) × (texts files.items ≡ files_given rows)
+IsOrder (Once (History schema table key style) profile files) found =
     (rows : List Row) × (found ≡ Some (codes "history", rows))
     × (schema.now ≡ value_given (codes "schema") rows) × (table.now ≡ value_given (codes "table") rows)
-    × IsKeyText style (value_given (codes "key") rows) (string_bytes key) × (style ≡ style_given rows) × (texts files.items ≡ files_given rows)
+    × IsKeyText style (value_given (codes "key") rows) (string_bytes key) × (style ≡ style_given rows) × (profile_given rows ≡ Some profile) × (texts files.items ≡ files_given rows)
 
 -- the words name no subcommand that the program has
 abbrev pub NamesNone : Option (Text × List Row) → Type 0
@@ -122,6 +135,10 @@ NamesNone found =
 -- the words name the subcommand `read`, and no files; these aren't needed where files are followed
 abbrev pub LacksFiles : Option (Text × List Row) → Type 0
 LacksFiles found = (rows : List Row) × (found ≡ Some (codes "read", rows)) × (is_followed rows ≡ false) × (files_given rows ≡ [])
+
+-- the words name a subcommand, and a profile that is none
+abbrev pub NamesNoProfile : Option (Text × List Row) → Type 0
+NamesNoProfile found = (name : Text) × (rows : List Row) × (found ≡ Some (name, rows)) × (profile_given rows ≡ None)
 
 -- the words name the subcommand `read`, whose options have this fault
 abbrev pub HasOptionFault : Option (Text × List Row) → WordsFault → Type 0
@@ -140,7 +157,7 @@ HasKeyFault found fault = (rows : List Row) × (found ≡ Some (codes "history",
 abbrev pub AnswersFound : Option (Text × List Row) → Result Order WordsFault → Type 0
 AnswersFound found (Ok order) = IsOrder order found
 AnswersFound found (Err (Help error)) = ⊥
-AnswersFound found (Err (CommandLine said)) = NamesNone found ⊎ LacksFiles found
+AnswersFound found (Err (CommandLine said)) = NamesNone found ⊎ (LacksFiles found ⊎ NamesNoProfile found)
 AnswersFound found (Err (EventName word)) = HasOptionFault found (EventName word)
 AnswersFound found (Err (Set at)) = HasOptionFault found (Set at)
 AnswersFound found (Err Token) = HasTokenFault found Token
@@ -169,7 +186,7 @@ HasMistake kinds = (mistake : ErrorKind) × IsAmong mistake kinds × (mistake �
 abbrev pub AnswersParse : Kinds → Option (Text × List Row) → Result Order WordsFault → Type 0
 AnswersParse faults found (Ok order) = (faults ≡ []) × IsOrder order found
 AnswersParse faults found (Err (Help error)) = IsAmong kind.DisplayHelp faults × (kind_of error ≡ kind.DisplayHelp)
-AnswersParse faults found (Err (CommandLine said)) = HasMistake faults ⊎ ((faults ≡ []) × (NamesNone found ⊎ LacksFiles found))
+AnswersParse faults found (Err (CommandLine said)) = HasMistake faults ⊎ ((faults ≡ []) × (NamesNone found ⊎ (LacksFiles found ⊎ NamesNoProfile found)))
 AnswersParse faults found (Err (EventName word)) = (faults ≡ []) × HasOptionFault found (EventName word)
 AnswersParse faults found (Err (Set at)) = (faults ≡ []) × HasOptionFault found (Set at)
 AnswersParse faults found (Err Token) = (faults ≡ []) × HasTokenFault found Token

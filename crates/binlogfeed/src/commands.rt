@@ -115,7 +115,9 @@ Examples:
   binlogfeed read --from 3406.1@binlog.000001 binlog.000001 binlog.000002
   while sleep 1; do ls -v /var/lib/mysql/binlog.0*; echo; done | binlogfeed read --follow";
 
-const READ_OPTIONS: [OptionWords; 9] = [
+const PROFILE_HELP: &str = "What is taken in: `strict`, or `server`, what servers write by default, too";
+
+const READ_OPTIONS: [OptionWords; 10] = [
     OptionWords {
         name: "only-events",
         value: "LIST",
@@ -179,6 +181,13 @@ const READ_OPTIONS: [OptionWords; 9] = [
         is_required: false,
         is_flag: true,
     },
+    OptionWords {
+        name: "profile",
+        value: "NAME",
+        help: PROFILE_HELP,
+        is_required: false,
+        is_flag: false,
+    },
 ];
 
 const READ: SubcommandWords = SubcommandWords {
@@ -207,7 +216,7 @@ Examples, with a key of one column, of two, and one of bytes that aren't text:
   binlogfeed history --schema shop --table line --key '[7,2]' binlog.000001
   binlogfeed history --schema shop --table device --key '[{\"base64\":\"/+4=\"}]' binlog.000001";
 
-const HISTORY_OPTIONS: [OptionWords; 4] = [
+const HISTORY_OPTIONS: [OptionWords; 5] = [
     OptionWords {
         name: "schema",
         value: "NAME",
@@ -235,6 +244,13 @@ const HISTORY_OPTIONS: [OptionWords; 4] = [
         help: "Full lines: with the sign and the character set that the server declared, types and key",
         is_required: false,
         is_flag: true,
+    },
+    OptionWords {
+        name: "profile",
+        value: "NAME",
+        help: PROFILE_HELP,
+        is_required: false,
+        is_flag: false,
     },
 ];
 

@@ -3,7 +3,7 @@ ghost use Rattle.std.specs.Prelude.{◌≡◌, ◌≢◌, [], IfOk, codes, true,
 ghost use Rattle.clap.specs.Words.{subcommand_rows_of};
 ghost use Rattle.binlogfeed.specs.Options.{rows_given};
 ghost use Rattle.binlogfeed.specs.KeyWords.{value_given};
-ghost use Rattle.binlogfeed.specs.Words.{IsParserFault, AnswersFound, AnswersTaken, AnswersWords, texts, files_given, follows_given, is_true_text, style_given, style_of};
+ghost use Rattle.binlogfeed.specs.Words.{IsParserFault, AnswersFound, AnswersTaken, AnswersWords, texts, files_given, follows_given, is_true_text, profile_given, profile_of, style_given, style_of};
 
 use crate::commands::program;
 use crate::key_words::key_of;
@@ -12,6 +12,7 @@ use crate::start_words::start_given;
 use crate::words_fault::WordsFault;
 use binlog_feed::Start;
 use binlog_json::Style;
+use binlog_profile::Profile;
 use binlog_select::Filter;
 use clap::error::ErrorKind;
 use clap::{ArgMatches, Error};
@@ -23,6 +24,7 @@ pub enum Order<'a> {
     /// A task, over these files.
     Once {
         task: Task<'a>,
+        profile: Profile,
         files: Vec<&'a str>,
     },
     /// A line for each row change of files that grow, of these first: behind the start, if it passes the filter.
@@ -30,6 +32,7 @@ pub enum Order<'a> {
         filter: Filter,
         start: Start,
         style: Style,
+        profile: Profile,
         files: Vec<&'a str>,
     },
 }
@@ -103,7 +106,12 @@ fn transactions<'a>(alloc: Global, matches: &ArgMatches<'a>) -> Result<Order<'a>
 {
     let files = files(alloc, matches)?;
     let task = Task::Transactions;
-    Ok(Order::Once { task, files })
+    let profile = Profile::Strict;
+    Ok(Order::Once {
+        task,
+        profile,
+        files,
+    })
 }
 
 fn read<'a>(alloc: Global, matches: &ArgMatches<'a>) -> Result<Order<'a>, WordsFault>
@@ -113,6 +121,9 @@ fn read<'a>(alloc: Global, matches: &ArgMatches<'a>) -> Result<Order<'a>, WordsF
     if lacks_files(&files, matches) {
         return Err(WordsFault::CommandLine(None));
     }
+    let Some(profile) = profile_given(matches) else {
+        return Err(WordsFault::CommandLine(None));
+    };
     let filter = filter_given(alloc, matches)?;
     let start = start_given(alloc, text_given(matches, "from"))?;
     let style = style_given(matches);
@@ -121,6 +132,7 @@ fn read<'a>(alloc: Global, matches: &ArgMatches<'a>) -> Result<Order<'a>, WordsF
             filter,
             start,
             style,
+            profile,
             files,
         })
     } else {
@@ -129,7 +141,11 @@ fn read<'a>(alloc: Global, matches: &ArgMatches<'a>) -> Result<Order<'a>, WordsF
             start,
             style,
         };
-        Ok(Order::Once { task, files })
+        Ok(Order::Once {
+            task,
+            profile,
+            files,
+        })
     }
 }
 
@@ -144,6 +160,9 @@ fn lacks_files(files: &[&str], matches: &ArgMatches<'_>) -> bool
 fn history<'a>(alloc: Global, matches: &ArgMatches<'a>) -> Result<Order<'a>, WordsFault>
     ensures { AnswersFound (Some (codes "history", rows_given matches.now)) result }
 {
+    let Some(profile) = profile_given(matches) else {
+        return Err(WordsFault::CommandLine(None));
+    };
     let style = style_given(matches);
     let key = key_of(alloc, style, value_of(matches, "key"))?;
     let files = files(alloc, matches)?;
@@ -153,7 +172,11 @@ fn history<'a>(alloc: Global, matches: &ArgMatches<'a>) -> Result<Order<'a>, Wor
         key,
         style,
     };
-    Ok(Order::Once { task, files })
+    Ok(Order::Once {
+        task,
+        profile,
+        files,
+    })
 }
 
 /// The style of lines: full ones where the flag is given.
@@ -170,6 +193,30 @@ fn style_of(text: Option<&str>) -> Style
         Style::Full
     } else {
         Style::Plain
+    }
+}
+
+/// The profile by which the files are read; none where the words name one that there isn't.
+fn profile_given(matches: &ArgMatches<'_>) -> Option<Profile>
+    ensures { result ≡ profile_given (rows_given matches.now) }
+{
+    profile_of(text_given(matches, "profile"))
+}
+
+fn profile_of(text: Option<&str>) -> Option<Profile>
+    ensures { result ≡ profile_of (option_map (λ text. text.now) text.entry) }
+{
+    match text {
+        None => Some(Profile::Strict),
+        Some(text) => {
+            if text == "strict" {
+                Some(Profile::Strict)
+            } else if text == "server" {
+                Some(Profile::Server)
+            } else {
+                None
+            }
+        }
     }
 }
 

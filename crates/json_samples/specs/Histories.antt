@@ -9,6 +9,7 @@ use Rattle.binlog_json.specs.declared.style.Style.TheVariants.{Plain, Full}
 use Rattle.binlog_json.specs.Keys.{history_as}
 use Rattle.json_samples.specs.Bytes.{hex, utf8}
 use Rattle.json_samples.specs.Lines.{source, keyed_body}
+use Rattle.binlog_profile.specs.declared.profile.Profile.TheVariants.{Strict}
 
 -- ---- a file
 
@@ -45,7 +46,7 @@ rows_event =
 
 abbrev pub files : List LogFile
 files =
-    record { name = codes "binlog.000001"; bytes = front ++ gtid_event ++ begin_event ++ event_of 19 keyed_body ++ rows_event ++ xid_event } ∷ []
+    record { profile = Strict; name = codes "binlog.000001"; bytes = front ++ gtid_event ++ begin_event ++ event_of 19 keyed_body ++ rows_event ++ xid_event } ∷ []
 
 -- ---- histories
 

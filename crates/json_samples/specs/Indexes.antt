@@ -12,6 +12,7 @@ use Rattle.binlog_json.specs.Index.{Places, no_places, filled, PassesAll, HoldsH
 use Rattle.json_samples.specs.Bytes.{utf8}
 use Rattle.json_samples.specs.Histories.{front, gtid_event, begin_event, event_of, rows_event, xid_event, files}
 use Rattle.json_samples.specs.Lines.{keyed_body, year_change}
+use Rattle.binlog_profile.specs.declared.profile.Profile.TheVariants.{Strict}
 
 -- ---- files
 
@@ -24,11 +25,11 @@ transaction = gtid_event ++ begin_event ++ event_of 19 keyed_body ++ rows_event 
 
 -- the file of one transaction, at 126, and later with the same one behind it, at 377
 abbrev pub grown : List LogFile
-grown = record { name = codes "binlog.000001"; bytes = front ++ transaction ++ transaction } ∷ []
+grown = record { profile = Strict; name = codes "binlog.000001"; bytes = front ++ transaction ++ transaction } ∷ []
 
 -- behind a file that is gone later
 abbrev pub two_files : List LogFile
-two_files = record { name = codes "binlog.000000"; bytes = front ++ transaction } ∷ files
+two_files = record { profile = Strict; name = codes "binlog.000000"; bytes = front ++ transaction } ∷ files
 
 abbrev pub place : ℕ → ℕ → Token
 place position count = record { position = position; count = count; file = codes "binlog.000001" }

@@ -8,5 +8,5 @@ use Rattle.binlog_table.proofs.names.column_names.Goals as goal
 no_names : IsNameOrder [] []
 no_names = record { each = IsPermutation-refl []; ascending = sorted_from_all_adjacent nat_list_cmp_total [] [] (λ k lt. absurd (omega arith)) }
 
-pub returns-in_default-clause-order : goal.returns-in_default-clause-order
-returns-in_default-clause-order c = rw (c.new.ensures.items, c.new-in_default.ensures.items) no_names
+pub returns-in-Strict-clause-order : goal.returns-in-Strict-clause-order
+returns-in-Strict-clause-order c = rw (c.new-in-Strict.ensures.items, c.new.ensures.items) no_names

@@ -1,5 +1,5 @@
 use Rattle.std.proofs.Common.{List, ℕ, refl, sym, subst, ◌∙◌}
-use Rattle.binlog_frame.specs.FileLogs.{names_of, contents_of, is_honest, failures_of}
+use Rattle.binlog_frame.specs.FileLogs.{names_of, held_of, is_honest, failures_of}
 use Rattle.binlog_frame.specs.Files.{AreLastParts}
 use Rattle.binlogfeed.specs.Words.{texts}
 use Rattle.binlogfeed.proofs.OverFiles.{ends_over, run_is_status, unopened_is_status}
@@ -14,7 +14,7 @@ returns-in-Ok g c =
     record {
       names = subst (λ (names : List (List ℕ)). AreLastParts (texts c.args.paths.now) names) (sym ran.source.same_names) c.in-Ok.ensures.names;
       held = ran.source.same_contents ∙ c.in-Ok.ensures.contents;
-      ends = ends_over c.args.task (names_of opened) (names_of logs) (contents_of opened) g.contents (failures_of opened) (failures_of logs) (is_honest logs)
+      ends = ends_over c.args.task (names_of opened) (names_of logs) (held_of opened) (record { profile = c.args.profile; files = g.contents }) (failures_of opened) (failures_of logs) (is_honest logs)
           (g.W.Write.contents c.args.out.now) (g.W.Write.contents c.run_task-logs.new.out) c.status_after-status.result
           ran.source.same_names c.in-Ok.ensures.contents c.in-Ok.ensures.fresh.1
           (answer, ran.answers, rw ran.source.same_names at ran.named, ran.failed, c.status_after-status.ensures);

@@ -1,4 +1,4 @@
-use Rattle.std.proofs.Common.{Some, codes, subst}
+use Rattle.std.proofs.Common.{Some, codes, subst, inr, refl, sym, ◌∙◌}
 use Rattle.clap.specs.Words.{Text, found_of, rows_of}
 use Rattle.binlog_json.specs.declared.style.Style.{Style}
 use Rattle.binlogfeed.specs.KeyWords.{IsKeyFault, value_given}
@@ -16,3 +16,6 @@ returns-in_err-key c =
 pub returns-in_err-files : goal.returns-in_err-files
 returns-in_err-files c =
     failed (Some (codes "history", rows_of (found_of c.args.matches.now))) OutOfMemory c.from_residual-in_err-files.result tt c.from_residual-in_err-files.ensures.1
+
+pub returns-in_default : goal.returns-in_default
+returns-in_default c = inr (inr (codes "history", rows_of (found_of c.args.matches.now), refl, sym c.profile_given.ensures ∙ c.in_default.is))

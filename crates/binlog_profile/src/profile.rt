@@ -1,0 +1,10 @@
+//! By which profile a list of log files is read.
+
+/// What of a log is taken in, and what is a fault.
+#[derive(Clone, Copy, Debug, PartialEq, Eq)]
+pub enum Profile {
+    /// Only what says all that a line needs: a table map without the names of its columns is a fault.
+    Strict,
+    /// What servers write by default, too: columns without names are numbered, `@1`, `@2` and so on.
+    Server,
+}
