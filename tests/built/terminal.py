@@ -253,7 +253,7 @@ LOGS = (
         "the transaction took a part of itself back, and had changed a table without transactions (MyISAM): keep such tables out of it\n",
     ),
     ("placeless", "371: OutOfPlace(16)", DAMAGED),
-    ("unnamed", "253: NoColumnNames", "the names of the columns aren't in the log: set binlog_row_metadata=FULL, " + NEW_FILE),
+    ("unnamed", "253: NoColumnNames", "the names of the columns aren't in the log: read it with --profile server, or set binlog_row_metadata=FULL, " + NEW_FILE),
     (
         "type7",
         "253: TypeOutOfProfile(7)",

@@ -28,5 +28,6 @@ pub mod CellCounts
 pub mod Cursor
 pub mod DecimalDigitLists
 pub mod MapSteps
+pub mod ProfileMaps
 pub mod MapListReadings
 pub mod ValueNameReadings

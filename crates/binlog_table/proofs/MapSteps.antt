@@ -44,7 +44,7 @@ same_by_names s e = by_field s.fields.names e
     by_field (Some field) h = simp bind_assoc
 
 -- a map that the strict profile gives has names
-strict_has_names : (s : Sections) (map : Map) → map_of_by Strict s ≡ Ok map → is_some s.fields.names ≡ true
+pub strict_has_names : (s : Sections) (map : Map) → map_of_by Strict s ≡ Ok map → is_some s.fields.names ≡ true
 unfolding map_of_by column_names
 strict_has_names s map e = by_field s.fields.names e
   where
@@ -62,7 +62,7 @@ as_server Strict s map e = same_by_names s (strict_has_names s map e) ∙ e
 as_server Server s map e = e
 
 -- the sections of a map are those that it was read from
-sections_kept : (profile : Profile) (s : Sections) (map : Map) → map_of_by profile s ≡ Ok map → map.sections ≡ s
+pub sections_kept : (profile : Profile) (s : Sections) (map : Map) → map_of_by profile s ≡ Ok map → map.sections ≡ s
 unfolding map_of_by
 sections_kept profile s map e =
     bind_then (column_names (length s.types) s.fields.names) _ map e (λ names e1 k1. bind_then (key_in (length s.types) s.fields.key s.fields.prefix_key) _ map k1 (λ key e2 k2.

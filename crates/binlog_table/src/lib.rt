@@ -37,8 +37,8 @@ pub use digits::Digits;
 pub use fault::{BadRows, MapFault, PlacedRowFault};
 pub use fields::Fields;
 pub use laws::{
-    images_are_read, map_bodies_have_one_reading, map_fields_are_read, rows_are_read,
-    rows_bodies_have_one_reading, spellings_are_apart, value_names_are_read,
+    images_are_read, map_bodies_have_one_reading, map_fields_are_read, profiles_read_maps,
+    rows_are_read, rows_bodies_have_one_reading, spellings_are_apart, value_names_are_read,
 };
 pub use packed::packed_at;
 pub use placed_rows::{RowPlaces, next_placed_row};

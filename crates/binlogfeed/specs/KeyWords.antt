@@ -11,7 +11,7 @@ use Rattle.clap.specs.Words.{Row, Text, first_of}
 use Rattle.binlog_json.specs.declared.style.Style.{Style}
 use Rattle.binlog_json.specs.declared.style.Style.TheVariants.{Plain, Full}
 use Rattle.binlogfeed.specs.declared.words_fault.WordsFault.{WordsFault}
-use Rattle.binlogfeed.specs.declared.words_fault.WordsFault.TheVariants.{Help, CommandLine, EventName, Set, Token, Key, OutOfMemory}
+use Rattle.binlogfeed.specs.declared.words_fault.WordsFault.TheVariants.{Help, CommandLine, EventName, Set, Token, Key, ProfileName, OutOfMemory}
 
 -- the value that was given to an option; the parser refuses words that don't give a required one
 abbrev pub value_given : Text → List Row → Text
@@ -72,6 +72,7 @@ IsKeyFault style text (EventName word) = ⊥
 IsKeyFault style text (Set at) = ⊥
 IsKeyFault style text Token = ⊥
 IsKeyFault style text (CommandLine said) = ⊥
+IsKeyFault style text ProfileName = ⊥
 IsKeyFault style text (Help error) = ⊥
 
 -- the key, or the fault, of each text that is read as a value

@@ -11,7 +11,7 @@ use Rattle.binlog_select.specs.declared.filter.Filter.{Filter}
 use Rattle.binlog_select.specs.declared.kind.ChangeKind.{ChangeKind}
 use Rattle.binlog_json.specs.Line.{kind_text}
 use Rattle.binlogfeed.specs.declared.words_fault.WordsFault.{WordsFault}
-use Rattle.binlogfeed.specs.declared.words_fault.WordsFault.TheVariants.{Help, CommandLine, EventName, Set, Token, Key, OutOfMemory}
+use Rattle.binlogfeed.specs.declared.words_fault.WordsFault.TheVariants.{Help, CommandLine, EventName, Set, Token, Key, ProfileName, OutOfMemory}
 
 -- the words of a list, which are parted at its commas: an empty text is a list of one empty word
 abbrev pub words_in : Text → List Text
@@ -74,6 +74,7 @@ IsEventFault given OutOfMemory = Unit {0}
 IsEventFault given (Set at) = ⊥
 IsEventFault given Token = ⊥
 IsEventFault given Key = ⊥
+IsEventFault given ProfileName = ⊥
 IsEventFault given (CommandLine said) = ⊥
 IsEventFault given (Help error) = ⊥
 
@@ -84,6 +85,7 @@ IsSetFault given OutOfMemory = Unit {0}
 IsSetFault given (EventName word) = ⊥
 IsSetFault given Token = ⊥
 IsSetFault given Key = ⊥
+IsSetFault given ProfileName = ⊥
 IsSetFault given (CommandLine said) = ⊥
 IsSetFault given (Help error) = ⊥
 
@@ -99,5 +101,6 @@ AnswersOptions rows (Err (Set at)) = HasKinds rows × IsSetFault (set_text rows)
 AnswersOptions rows (Err OutOfMemory) = Unit {0}
 AnswersOptions rows (Err Token) = ⊥
 AnswersOptions rows (Err Key) = ⊥
+AnswersOptions rows (Err ProfileName) = ⊥
 AnswersOptions rows (Err (CommandLine said)) = ⊥
 AnswersOptions rows (Err (Help error)) = ⊥

@@ -5,7 +5,7 @@ use Rattle.binlog_select.specs.Token.{IsTokenText}
 use Rattle.binlog_feed.specs.declared.start.Start.{Start}
 use Rattle.binlog_feed.specs.declared.start.Start.TheVariants.{Beginning, After}
 use Rattle.binlogfeed.specs.declared.words_fault.WordsFault.{WordsFault}
-use Rattle.binlogfeed.specs.declared.words_fault.WordsFault.TheVariants.{Help, CommandLine, EventName, Set, Token, Key, OutOfMemory}
+use Rattle.binlogfeed.specs.declared.words_fault.WordsFault.TheVariants.{Help, CommandLine, EventName, Set, Token, Key, ProfileName, OutOfMemory}
 
 abbrev pub token_text : List Row → Option Text
 token_text = first_of (codes "from")
@@ -28,5 +28,6 @@ IsTokenFault given OutOfMemory = Unit {0}
 IsTokenFault given (EventName word) = ⊥
 IsTokenFault given (Set at) = ⊥
 IsTokenFault given Key = ⊥
+IsTokenFault given ProfileName = ⊥
 IsTokenFault given (CommandLine said) = ⊥
 IsTokenFault given (Help error) = ⊥

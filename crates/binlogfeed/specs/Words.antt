@@ -19,7 +19,7 @@ use Rattle.binlogfeed.specs.declared.words.Order.{Order}
 use Rattle.binlogfeed.specs.declared.words.Order.TheVariants.{Follow, Once}
 use Rattle.binlogfeed.specs.declared.words.Task.TheVariants.{Transactions, Read, History}
 use Rattle.binlogfeed.specs.declared.words_fault.WordsFault.{WordsFault}
-use Rattle.binlogfeed.specs.declared.words_fault.WordsFault.TheVariants.{Help, CommandLine, EventName, Set, Token, Key, OutOfMemory}
+use Rattle.binlogfeed.specs.declared.words_fault.WordsFault.TheVariants.{Help, CommandLine, EventName, Set, Token, Key, ProfileName, OutOfMemory}
 use Rattle.binlog_profile.specs.declared.profile.Profile.{Profile}
 use Rattle.binlog_profile.specs.declared.profile.Profile.TheVariants.{Server, Strict}
 
@@ -57,7 +57,7 @@ abbrev pub with_required : App → Text → App
 with_required app name = with_rule app (required_rule name)
 
 abbrev pub transactions_app : App
-transactions_app = with_rule (new_app (codes "transactions")) file_rule
+transactions_app = with_rule (with_option (new_app (codes "transactions")) (codes "profile")) file_rule
 
 abbrev pub read_app : App
 read_app = with_rule
@@ -94,7 +94,7 @@ style_of text = if is_true_text text then Full else Plain
 abbrev pub style_given : List Row → Style
 style_given rows = style_of (first_of (codes "full") rows)
 
--- The profile that a text names: the strict one where there is none.
+-- the profile that a text names, the strict one where no text is given
 abbrev pub profile_named : Text → Option Profile
 profile_named text = if bytes_eq text (codes "strict") then Some Strict else if bytes_eq text (codes "server") then Some Server else None
 
@@ -115,7 +115,7 @@ follows_given matches = is_followed (rows_given matches)
 -- the subcommand that the words name, with the values that they give it
 abbrev pub IsOrder : Order → Option (Text × List Row) → Type 0
 IsOrder (Once Transactions profile files) found =
-    (rows : List Row) × (found ≡ Some (codes "transactions", rows)) × (profile ≡ Strict) × (texts files.items ≡ files_given rows)
+    (rows : List Row) × (found ≡ Some (codes "transactions", rows)) × (profile_given rows ≡ Some profile) × (texts files.items ≡ files_given rows)
 IsOrder (Once (Read filter start style) profile files) found =
     (rows : List Row) × (found ≡ Some (codes "read", rows)) × (is_followed rows ≡ false)
     × IsFilterOf rows filter × IsStart (token_text rows) start × (style ≡ style_given rows) × (profile_given rows ≡ Some profile) × (texts files.items ≡ files_given rows) × (texts files.items ≢ [])
@@ -136,7 +136,7 @@ NamesNone found =
 abbrev pub LacksFiles : Option (Text × List Row) → Type 0
 LacksFiles found = (rows : List Row) × (found ≡ Some (codes "read", rows)) × (is_followed rows ≡ false) × (files_given rows ≡ [])
 
--- the words name a subcommand, and a profile that is none
+-- the words name a subcommand, and a profile that there isn't
 abbrev pub NamesNoProfile : Option (Text × List Row) → Type 0
 NamesNoProfile found = (name : Text) × (rows : List Row) × (found ≡ Some (name, rows)) × (profile_given rows ≡ None)
 
@@ -157,11 +157,12 @@ HasKeyFault found fault = (rows : List Row) × (found ≡ Some (codes "history",
 abbrev pub AnswersFound : Option (Text × List Row) → Result Order WordsFault → Type 0
 AnswersFound found (Ok order) = IsOrder order found
 AnswersFound found (Err (Help error)) = ⊥
-AnswersFound found (Err (CommandLine said)) = NamesNone found ⊎ (LacksFiles found ⊎ NamesNoProfile found)
+AnswersFound found (Err (CommandLine said)) = NamesNone found ⊎ LacksFiles found
 AnswersFound found (Err (EventName word)) = HasOptionFault found (EventName word)
 AnswersFound found (Err (Set at)) = HasOptionFault found (Set at)
 AnswersFound found (Err Token) = HasTokenFault found Token
 AnswersFound found (Err Key) = HasKeyFault found Key
+AnswersFound found (Err ProfileName) = NamesNoProfile found
 AnswersFound found (Err OutOfMemory) = Unit {0}
 
 -- words that the parser takes come to what the subcommand does that it finds
@@ -176,6 +177,7 @@ IsParserFault given (EventName word) = ⊥
 IsParserFault given (Set at) = ⊥
 IsParserFault given Token = ⊥
 IsParserFault given Key = ⊥
+IsParserFault given ProfileName = ⊥
 IsParserFault given OutOfMemory = kind_of given ≡ kind.OutOfMemory
 
 -- a fault that is no call for help
@@ -186,11 +188,12 @@ HasMistake kinds = (mistake : ErrorKind) × IsAmong mistake kinds × (mistake �
 abbrev pub AnswersParse : Kinds → Option (Text × List Row) → Result Order WordsFault → Type 0
 AnswersParse faults found (Ok order) = (faults ≡ []) × IsOrder order found
 AnswersParse faults found (Err (Help error)) = IsAmong kind.DisplayHelp faults × (kind_of error ≡ kind.DisplayHelp)
-AnswersParse faults found (Err (CommandLine said)) = HasMistake faults ⊎ ((faults ≡ []) × (NamesNone found ⊎ (LacksFiles found ⊎ NamesNoProfile found)))
+AnswersParse faults found (Err (CommandLine said)) = HasMistake faults ⊎ ((faults ≡ []) × (NamesNone found ⊎ LacksFiles found))
 AnswersParse faults found (Err (EventName word)) = (faults ≡ []) × HasOptionFault found (EventName word)
 AnswersParse faults found (Err (Set at)) = (faults ≡ []) × HasOptionFault found (Set at)
 AnswersParse faults found (Err Token) = (faults ≡ []) × HasTokenFault found Token
 AnswersParse faults found (Err Key) = (faults ≡ []) × HasKeyFault found Key
+AnswersParse faults found (Err ProfileName) = (faults ≡ []) × NamesNoProfile found
 AnswersParse faults found (Err OutOfMemory) = Unit {0}
 
 abbrev pub AnswersWords : List Text → Result Order WordsFault → Type 0
@@ -202,6 +205,7 @@ words_status_of (CommandLine said) = 2
 words_status_of (EventName word) = 2
 words_status_of (Set at) = 2
 words_status_of Key = 2
+words_status_of ProfileName = 2
 words_status_of Token = 3
 words_status_of OutOfMemory = 5
 
@@ -213,4 +217,5 @@ words_text (EventName word) = codes "binlogfeed: bad --only-events: " ++ string_
 words_text (Set at) = codes "binlogfeed: bad --auto-position: element " ++ decimal at
 words_text Token = codes "binlogfeed: token refused: BadToken"
 words_text Key = codes "binlogfeed: bad --key"
+words_text ProfileName = codes "binlogfeed: bad --profile"
 words_text OutOfMemory = codes "binlogfeed: out of memory"

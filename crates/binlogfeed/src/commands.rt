@@ -53,11 +53,22 @@ end of the last, in bytes from the file's start; the GTID, or `-`; how it ends
 Example:
   binlogfeed transactions /var/lib/mysql/binlog.000001 /var/lib/mysql/binlog.000002";
 
+/// What is taken in, which each subcommand can be told.
+const PROFILE_OPTION: OptionWords = OptionWords {
+    name: "profile",
+    value: "NAME",
+    help: "What is taken in: strict, the default, or server, which takes tables without column names, too",
+    is_required: false,
+    is_flag: false,
+};
+
+const TRANSACTIONS_OPTIONS: [OptionWords; 1] = [PROFILE_OPTION];
+
 const TRANSACTIONS: SubcommandWords = SubcommandWords {
     name: "transactions",
     about: TRANSACTIONS_ABOUT,
     after_help: TRANSACTIONS_AFTER,
-    options: &[],
+    options: &TRANSACTIONS_OPTIONS,
     requires_files: true,
 };
 
@@ -87,6 +98,10 @@ that can't be read is {\"base64\":\"..\",\"charset\":\"..\"}. Two members are ad
   key            the names of the primary key's columns
   types          the type of each column, as `varchar latin1` or `int unsigned`
 
+With --profile server a log is taken in as servers write it by default: where a table has no
+column names in the log (binlog_row_metadata=MINIMAL), its columns are @1, @2 and so on, it
+has no key, and ENUM and SET are numbers. Without it such a table ends the run.
+
 The changes stand in the order of the log. Those of a transaction that was rolled back, or
 that isn't whole at the end of its file, are left out.
 
@@ -113,9 +128,8 @@ Examples:
   binlogfeed read --only-events insert,update binlog.000001
   binlogfeed read --auto-position 3e11fa47-71ca-11e1-9e33-c80aa9429562:1-5:7 binlog.000001
   binlogfeed read --from 3406.1@binlog.000001 binlog.000001 binlog.000002
+  binlogfeed read --full --profile server binlog.000001
   while sleep 1; do ls -v /var/lib/mysql/binlog.0*; echo; done | binlogfeed read --follow";
-
-const PROFILE_HELP: &str = "What is taken in: `strict`, or `server`, what servers write by default, too";
 
 const READ_OPTIONS: [OptionWords; 10] = [
     OptionWords {
@@ -181,13 +195,7 @@ const READ_OPTIONS: [OptionWords; 10] = [
         is_required: false,
         is_flag: true,
     },
-    OptionWords {
-        name: "profile",
-        value: "NAME",
-        help: PROFILE_HELP,
-        is_required: false,
-        is_flag: false,
-    },
+    PROFILE_OPTION,
 ];
 
 const READ: SubcommandWords = SubcommandWords {
@@ -245,13 +253,7 @@ const HISTORY_OPTIONS: [OptionWords; 5] = [
         is_required: false,
         is_flag: true,
     },
-    OptionWords {
-        name: "profile",
-        value: "NAME",
-        help: PROFILE_HELP,
-        is_required: false,
-        is_flag: false,
-    },
+    PROFILE_OPTION,
 ];
 
 const HISTORY: SubcommandWords = SubcommandWords {

@@ -104,9 +104,11 @@ fn order_of<'a>(alloc: Global, matches: &ArgMatches<'a>) -> Result<Order<'a>, Wo
 fn transactions<'a>(alloc: Global, matches: &ArgMatches<'a>) -> Result<Order<'a>, WordsFault>
     ensures { AnswersFound (Some (codes "transactions", rows_given matches.now)) result }
 {
+    let Some(profile) = profile_given(matches) else {
+        return Err(WordsFault::ProfileName);
+    };
     let files = files(alloc, matches)?;
     let task = Task::Transactions;
-    let profile = Profile::Strict;
     Ok(Order::Once {
         task,
         profile,
@@ -122,7 +124,7 @@ fn read<'a>(alloc: Global, matches: &ArgMatches<'a>) -> Result<Order<'a>, WordsF
         return Err(WordsFault::CommandLine(None));
     }
     let Some(profile) = profile_given(matches) else {
-        return Err(WordsFault::CommandLine(None));
+        return Err(WordsFault::ProfileName);
     };
     let filter = filter_given(alloc, matches)?;
     let start = start_given(alloc, text_given(matches, "from"))?;
@@ -161,7 +163,7 @@ fn history<'a>(alloc: Global, matches: &ArgMatches<'a>) -> Result<Order<'a>, Wor
     ensures { AnswersFound (Some (codes "history", rows_given matches.now)) result }
 {
     let Some(profile) = profile_given(matches) else {
-        return Err(WordsFault::CommandLine(None));
+        return Err(WordsFault::ProfileName);
     };
     let style = style_given(matches);
     let key = key_of(alloc, style, value_of(matches, "key"))?;
@@ -196,7 +198,7 @@ fn style_of(text: Option<&str>) -> Style
     }
 }
 
-/// The profile by which the files are read; none where the words name one that there isn't.
+/// The profile by which the files are read. None where the words name one that there isn't.
 fn profile_given(matches: &ArgMatches<'_>) -> Option<Profile>
     ensures { result ≡ profile_given (rows_given matches.now) }
 {

@@ -20,6 +20,8 @@ pub enum WordsFault {
     Token,
     /// The text of `--key` is no key.
     Key,
+    /// The text of `--profile` names no profile.
+    ProfileName,
     /// A growth was refused.
     OutOfMemory,
 }
@@ -51,7 +53,7 @@ pub fn words_status(fault: &WordsFault) -> u8
     match fault {
         WordsFault::Help(_) => 0,
         WordsFault::CommandLine(_) | WordsFault::EventName(_) => 2,
-        WordsFault::Set(_) | WordsFault::Key => 2,
+        WordsFault::Set(_) | WordsFault::Key | WordsFault::ProfileName => 2,
         WordsFault::Token => 3,
         WordsFault::OutOfMemory => 5,
     }
@@ -69,6 +71,7 @@ pub fn words_line(fault: &WordsFault, line: &mut String) -> Result<(), AllocErro
         WordsFault::Set(at) => write!(line, "binlogfeed: bad --auto-position: element {at}"),
         WordsFault::Token => line.push_str("binlogfeed: token refused: BadToken"),
         WordsFault::Key => line.push_str("binlogfeed: bad --key"),
+        WordsFault::ProfileName => line.push_str("binlogfeed: bad --profile"),
         WordsFault::OutOfMemory => line.push_str("binlogfeed: out of memory"),
     }
 }

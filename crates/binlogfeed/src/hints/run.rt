@@ -94,7 +94,8 @@ fn cause_in_log(what: What) -> &'static str {
         }
         What::TypeOutOfProfile(column_type) => cause_of_type(column_type),
         What::NoColumnNames => {
-            "the names of the columns aren't in the log: set binlog_row_metadata=FULL, and begin with a new file (FLUSH BINARY LOGS)"
+            "the names of the columns aren't in the log: read it with --profile server, or set binlog_row_metadata=FULL, and begin with a new \
+            file (FLUSH BINARY LOGS)"
         }
         What::SourceChanged => {
             "the file was changed while it was read: go on from the last line's token"

@@ -26,7 +26,11 @@ pub(crate) fn hint_words<R: Runtime + AllocGlobal>(
             explain(rt, words, error);
             try_help(rt, words);
         }
-        WordsFault::EventName(_) | WordsFault::Set(_) | WordsFault::Token | WordsFault::Key => {
+        WordsFault::EventName(_)
+        | WordsFault::Set(_)
+        | WordsFault::Token
+        | WordsFault::Key
+        | WordsFault::ProfileName => {
             give(rt, value_wanted(fault));
             try_help(rt, words);
         }
@@ -47,6 +51,7 @@ fn value_wanted(fault: &WordsFault) -> &'static str {
         WordsFault::Key => {
             "--key takes a JSON array of the key's values, in quotes for the shell: '[7]', or '[7,\"a\"]' for a key of two columns"
         }
+        WordsFault::ProfileName => "--profile takes strict or server",
         WordsFault::Help(_) | WordsFault::CommandLine(_) | WordsFault::OutOfMemory => "",
     }
 }

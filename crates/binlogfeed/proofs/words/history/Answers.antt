@@ -18,4 +18,4 @@ returns-in_err-files c =
     failed (Some (codes "history", rows_of (found_of c.args.matches.now))) OutOfMemory c.from_residual-in_err-files.result tt c.from_residual-in_err-files.ensures.1
 
 pub returns-in_default : goal.returns-in_default
-returns-in_default c = inr (inr (codes "history", rows_of (found_of c.args.matches.now), refl, sym c.profile_given.ensures ∙ c.in_default.is))
+returns-in_default c = (codes "history", rows_of (found_of c.args.matches.now), refl, sym c.profile_given.ensures ∙ c.in_default.is)

@@ -11,7 +11,7 @@ returns-in_err-files c = failed (Some (codes "read", rows_of (found_of c.args.ma
 pub returns-then-lacks_files : goal.returns-then-lacks_files
 returns-then-lacks_files c =
     let lacks = c.lacks_files.ensures.yes c.if-lacks_files.true in
-    inr (inl (rows_of (found_of c.args.matches.now), refl, lacks.0, sym c.in_ok-files.ensures ∙ ap texts (sym c.deref.ensures.value) ∙ lacks.1))
+    inr (rows_of (found_of c.args.matches.now), refl, lacks.0, sym c.in_ok-files.ensures ∙ ap texts (sym c.deref.ensures.value) ∙ lacks.1)
 
 pub returns-in_default : goal.returns-in_default
-returns-in_default c = inr (inr (codes "read", rows_of (found_of c.args.matches.now), refl, sym c.profile_given.ensures ∙ c.in_default.is))
+returns-in_default c = (codes "read", rows_of (found_of c.args.matches.now), refl, sym c.profile_given.ensures ∙ c.in_default.is)
