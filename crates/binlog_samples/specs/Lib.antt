@@ -11,6 +11,7 @@ pub mod Feeds
 pub mod Tokens
 pub mod Continuations
 pub mod FileLaws
+pub mod Profiles
 pub mod Following
 pub mod Frames
 pub mod Sources

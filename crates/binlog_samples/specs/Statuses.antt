@@ -59,7 +59,7 @@ abbrev pub WordsTexts : Type 0
 WordsTexts =
     (words_text (words.CommandLine None) ≡ codes "binlogfeed: command line refused") × (words_text (words.Set 1) ≡ codes "binlogfeed: bad --auto-position: element 1")
     × (words_text words.Token ≡ codes "binlogfeed: token refused: BadToken") × (words_text words.OutOfMemory ≡ codes "binlogfeed: out of memory")
-    × (words_text words.Key ≡ codes "binlogfeed: bad --key")
+    × (words_text words.Key ≡ codes "binlogfeed: bad --key") × (words_text words.ProfileName ≡ codes "binlogfeed: bad --profile")
     × ((word : String Global) → words_text (words.EventName word) ≡ codes "binlogfeed: bad --only-events: " ++ string_bytes word)
 
 abbrev pub Endings : Type 0
@@ -78,7 +78,7 @@ RunStatuses =
 abbrev pub WordsStatuses : Type 0
 WordsStatuses =
     (words_status_of (words.CommandLine None) ≡ 2) × (words_status_of (words.Set 0) ≡ 2) × ((word : String Global) → words_status_of (words.EventName word) ≡ 2)
-    × (words_status_of words.Key ≡ 2) × (words_status_of words.Token ≡ 3) × (words_status_of words.OutOfMemory ≡ 5)
+    × (words_status_of words.Key ≡ 2) × (words_status_of words.ProfileName ≡ 2) × (words_status_of words.Token ≡ 3) × (words_status_of words.OutOfMemory ≡ 5)
 
 abbrev pub OpenStatuses : Type 0
 OpenStatuses =

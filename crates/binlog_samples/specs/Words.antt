@@ -3,7 +3,9 @@ use Rattle.std.specs.Prelude.{◌≡◌, List, [], ◌∷◌, Bool, true, false,
 use Rattle.clap.specs.Words.{Text, fault_of, first_of, subcommand_of}
 use Rattle.clap.specs.declared.error.kind.ErrorKind.{ErrorKind}
 use Rattle.clap.specs.declared.error.kind.ErrorKind.TheVariants as kind
-use Rattle.binlogfeed.specs.Words.{program_app, files_given, is_followed}
+use Rattle.binlog_profile.specs.declared.profile.Profile.{Profile}
+use Rattle.binlog_profile.specs.declared.profile.Profile.TheVariants.{Strict, Server}
+use Rattle.binlogfeed.specs.Words.{program_app, files_given, is_followed, profile_given}
 
 -- ---- what is found in words
 
@@ -21,6 +23,9 @@ value_in option words = option_map (λ found. first_of option found.1) (subcomma
 
 abbrev pub followed_in : List Text → Option Bool
 followed_in words = option_map (λ found. is_followed found.1) (subcommand_of program_app words)
+
+abbrev pub profile_in : List Text → Option (Option Profile)
+profile_in words = option_map (λ found. profile_given found.1) (subcommand_of program_app words)
 
 -- ---- words
 
@@ -68,6 +73,18 @@ Following =
     (mistakes_in (codes "b" ∷ codes "read" ∷ codes "--only-events" ∷ codes "drop" ∷ []) ≡ []) × (files_in (codes "b" ∷ codes "read" ∷ []) ≡ Some [])
     × (mistakes_in (codes "b" ∷ codes "read" ∷ codes "--follow" ∷ []) ≡ []) × (files_in (codes "b" ∷ codes "read" ∷ codes "--follow" ∷ codes "x" ∷ []) ≡ Some (codes "x" ∷ []))
     × (followed_in (codes "b" ∷ codes "read" ∷ codes "--follow" ∷ []) ≡ Some true) × (followed_in (codes "b" ∷ codes "read" ∷ codes "x" ∷ []) ≡ Some false)
+
+-- the profile, behind each subcommand; the strict one where none is named, and none where there is none of that name
+abbrev pub Profiles : Type 0
+Profiles =
+    (profile_in two_paths ≡ Some (Some Strict)) × (profile_in option_between ≡ Some (Some Strict)) × (profile_in of_a_key ≡ Some (Some Strict))
+    × (profile_in (codes "b" ∷ codes "transactions" ∷ codes "--profile" ∷ codes "server" ∷ codes "x" ∷ []) ≡ Some (Some Server))
+    × (profile_in (codes "b" ∷ codes "read" ∷ codes "--profile=server" ∷ codes "x" ∷ []) ≡ Some (Some Server))
+    × (profile_in (codes "b" ∷ codes "read" ∷ codes "--profile" ∷ codes "strict" ∷ codes "x" ∷ []) ≡ Some (Some Strict))
+    × (profile_in (codes "b" ∷ codes "history" ∷ codes "--schema" ∷ codes "s" ∷ codes "--table" ∷ codes "t" ∷ codes "--key" ∷ codes "[1]" ∷ codes "--profile" ∷ codes "server" ∷ codes "x" ∷ []) ≡ Some (Some Server))
+    × (profile_in (codes "b" ∷ codes "read" ∷ codes "--profile" ∷ codes "Server" ∷ codes "x" ∷ []) ≡ Some None)
+    × (profile_in (codes "b" ∷ codes "read" ∷ codes "--profile=" ∷ codes "x" ∷ []) ≡ Some None)
+    × (mistakes_in (codes "b" ∷ codes "transactions" ∷ codes "--profile" ∷ codes "server" ∷ codes "x" ∷ []) ≡ [])
 
 abbrev pub Helps : Type 0
 Helps =

@@ -29,3 +29,4 @@ pub mod NamedShown
 pub mod Walks
 pub mod DecimalReads
 pub mod MapReads
+pub mod ProfileMaps

@@ -1,14 +1,13 @@
 //! What holds of all values, images, rows and bodies: each has one reading.
-ghost use Rattle.std.specs.Prelude.{◌≡◌, ◌≤◌, ◌↔◌, ◌⊎◌, ℕ, List, ◌++◌, length, take, drop, Option, Some, Ok, Err, Bool, true, []};
+ghost use Rattle.std.specs.Prelude.{◌≡◌, ◌≤◌, ◌↔◌, ℕ, List, ◌++◌, length, take, drop, Option, Some, Ok, Bool, []};
 ghost use Rattle.binlog_table.specs.declared.column.Column.{Column};
 ghost use Rattle.binlog_table.specs.declared.rows_head.RowsHead.{RowsHead};
 ghost use Rattle.binlog_table.specs.Value.{Content};
 ghost use Rattle.binlog_table.specs.Image.{Spells, IsImage, image_at};
 ghost use Rattle.binlog_table.specs.RowsBody.{RowsParts, IsRowsBody, rows_parts_at};
 ghost use Rattle.binlog_table.specs.Rows.{Row, AreRows, SpellsRows, rows_in, rows_of};
-ghost use Rattle.binlog_profile.specs.declared.profile.Profile.TheVariants.{Server};
-ghost use Rattle.binlog_table.specs.declared.fault.MapFault.TheVariants.{NoColumnNames};
-ghost use Rattle.binlog_table.specs.Map.{Map, Sections, sections_at, map_at, map_at_by, has_own_names};
+ghost use Rattle.binlog_table.specs.Map.{Sections, sections_at};
+ghost use Rattle.binlog_table.specs.ProfileMaps.{StrictOrAlike, StrictIsNamed, NamedIsStrict, ServerNeedsNoNames};
 ghost use Rattle.binlog_table.specs.MapBody.{IsMapBody};
 ghost use Rattle.binlog_table.specs.MapLists.{AreColumnNames, AreKeyColumns, AreNameLists, AreValueNames};
 ghost use Rattle.binlog_table.specs.Names.{column_names, key_from, value_names};
@@ -82,8 +81,8 @@ pub fn value_names_are_read()
 /// The strict profile refuses the table maps that lack the names of their columns, and reads all others as the server's does. The server's
 /// refuses none for that.
 pub fn profiles_read_maps()
-    ensures alike { (body : List ℕ) → (map_at body ≡ Err NoColumnNames) ⊎ (map_at body ≡ map_at_by Server body) }
-    ensures named { (body : List ℕ) (map : Map) → map_at body ≡ Ok map → has_own_names map ≡ true }
-    ensures strict { (body : List ℕ) (map : Map) → map_at_by Server body ≡ Ok map → has_own_names map ≡ true → map_at body ≡ Ok map }
-    ensures taken { (body : List ℕ) → map_at_by Server body ≡ Err NoColumnNames → ⊥ }
+    ensures alike { StrictOrAlike }
+    ensures named { StrictIsNamed }
+    ensures strict { NamedIsStrict }
+    ensures taken { ServerNeedsNoNames }
 {}
