@@ -12,6 +12,6 @@ loop-column-preserved c =
     record {
       count = omega (arith, c.in_ok-push.ensures.len, c.loop-column.invariant.count);
       names = rw c.in_ok-push.ensures.items (map_push string_bytes c.loop-column.names.items c.in_ok-number_name.field-0
-        ∙ ap (λ (front : List (List ℕ)). front ++ string_bytes c.in_ok-number_name.field-0 ∷ []) c.loop-column.invariant.names
-        ∙ ap (λ (last : List ℕ). number_names 1 c.loop-column.column ++ last ∷ []) name ∙ sym (number_names-more 1 c.loop-column.column));
+          ∙ ap (λ (front : List (List ℕ)). front ++ string_bytes c.in_ok-number_name.field-0 ∷ []) c.loop-column.invariant.names
+          ∙ ap (λ (last : List ℕ). number_names 1 c.loop-column.column ++ last ∷ []) name ∙ sym (number_names-more 1 c.loop-column.column));
     }
