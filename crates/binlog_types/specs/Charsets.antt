@@ -5,6 +5,7 @@ use Rattle.binlog_types.specs.declared.charsets.Charset.TheVariants as charsets
 use Rattle.binlog_types.specs.declared.charsets.Encoding.{Encoding}
 use Rattle.binlog_types.specs.declared.charsets.Encoding.TheVariants as encodings
 use Rattle.binlog_types.specs.declared.charsets.TheConstants.{COLLATIONS}
+use Rattle.binlog_types.specs.declared.character_tables.TheConstants.{ARMSCII8, CP1250, CP1251, CP1256, CP1257, CP850, CP852, CP866, DEC8, GEOSTD8, GREEK, HEBREW, HP8, KEYBCS2, KOI8R, KOI8U, LATIN1, LATIN2, LATIN5, LATIN7, MACCE, MACROMAN, SWE7, TIS620}
 
 -- the first range that has the collation
 abbrev pub charset_in : List (ℕ × ℕ × Charset) → ℕ → Option Charset
@@ -16,18 +17,45 @@ charset_in (range ∷ ranges) collation =
 unfoldable pub charset_of : ℕ → Option Charset
 charset_of collation = charset_in COLLATIONS collation
 
--- how texts are to be read: MySQL's utf8mb3 and ascii are read as UTF-8, and ucs2 as UTF-16
+-- how texts are to be read: MySQL's utf8mb3 and ascii are read as UTF-8, and ucs2 as UTF-16; others by their table, where they have one
 abbrev pub encoding_of : Charset → Encoding
 encoding_of charsets.Utf8mb4 = encodings.Utf8
 encoding_of charsets.Utf8mb3 = encodings.Utf8
 encoding_of charsets.Ascii = encodings.Utf8
-encoding_of charsets.Latin1 = encodings.Latin1
 encoding_of charsets.Utf16 = encodings.Utf16
 encoding_of charsets.Ucs2 = encodings.Utf16
 encoding_of charsets.Utf16le = encodings.Utf16le
 encoding_of charsets.Utf32 = encodings.Utf32
 encoding_of charsets.Binary = encodings.Binary
-encoding_of other = encodings.Other
+encoding_of other = encodings.ByTable other
+
+-- the code points of a set's bytes, where each of its characters has one byte
+unfoldable pub character_table : Charset → Option (List ℕ)
+character_table charsets.Armscii8 = Some ARMSCII8
+character_table charsets.Cp1250 = Some CP1250
+character_table charsets.Cp1251 = Some CP1251
+character_table charsets.Cp1256 = Some CP1256
+character_table charsets.Cp1257 = Some CP1257
+character_table charsets.Cp850 = Some CP850
+character_table charsets.Cp852 = Some CP852
+character_table charsets.Cp866 = Some CP866
+character_table charsets.Dec8 = Some DEC8
+character_table charsets.Geostd8 = Some GEOSTD8
+character_table charsets.Greek = Some GREEK
+character_table charsets.Hebrew = Some HEBREW
+character_table charsets.Hp8 = Some HP8
+character_table charsets.Keybcs2 = Some KEYBCS2
+character_table charsets.Koi8r = Some KOI8R
+character_table charsets.Koi8u = Some KOI8U
+character_table charsets.Latin1 = Some LATIN1
+character_table charsets.Latin2 = Some LATIN2
+character_table charsets.Latin5 = Some LATIN5
+character_table charsets.Latin7 = Some LATIN7
+character_table charsets.Macce = Some MACCE
+character_table charsets.Macroman = Some MACROMAN
+character_table charsets.Swe7 = Some SWE7
+character_table charsets.Tis620 = Some TIS620
+character_table other = None
 
 abbrev pub charset_name : Charset → List ℕ
 charset_name charsets.Armscii8 = codes "armscii8"

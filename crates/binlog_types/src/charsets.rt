@@ -1,6 +1,9 @@
 //! The character sets of collations, by their numbers in a table map.
-ghost use Rattle.std.specs.Prelude.{◌≡◌};
-ghost use Rattle.binlog_types.specs.Charsets.{charset_in, charset_of, charset_name, encoding_of};
+ghost use Rattle.std.specs.Prelude.{◌≡◌, ℕ, List, option_map};
+ghost use Rattle.std.specs.Borrow.{Bor};
+ghost use Rattle.binlog_types.specs.Charsets.{charset_in, charset_of, charset_name, encoding_of, character_table};
+
+use crate::character_tables as tables;
 
 /// The character sets of a MySQL 9.7.4.
 #[derive(Clone, Copy, Debug, PartialEq, Eq)]
@@ -62,8 +65,6 @@ const NAMES: [&str; 41] = [
 pub enum Encoding {
     /// As UTF-8: utf8mb4, utf8mb3 and ascii.
     Utf8,
-    /// As MySQL's latin1: Windows-1252, with control characters in its gaps.
-    Latin1,
     /// As UTF-16, the higher byte of a unit first: utf16 and ucs2.
     Utf16,
     /// As UTF-16, the lower byte of a unit first.
@@ -72,8 +73,8 @@ pub enum Encoding {
     Utf32,
     /// They are no text.
     Binary,
-    /// In a way that only the character set's name tells.
-    Other,
+    /// By the character set's table of characters, where it has one.
+    ByTable(Charset),
 }
 
 /// The collations from a number to another one, and their character set.
@@ -203,12 +204,46 @@ pub fn encoding_of(charset: Charset) -> Encoding
 {
     match charset {
         Charset::Utf8mb4 | Charset::Utf8mb3 | Charset::Ascii => Encoding::Utf8,
-        Charset::Latin1 => Encoding::Latin1,
         Charset::Utf16 | Charset::Ucs2 => Encoding::Utf16,
         Charset::Utf16le => Encoding::Utf16le,
         Charset::Utf32 => Encoding::Utf32,
         Charset::Binary => Encoding::Binary,
-        _ => Encoding::Other,
+        other => Encoding::ByTable(other),
+    }
+}
+
+/// The code point of each byte, in a character set whose characters have one byte each. It is 0xD800, which is no character, where the
+/// set has none.
+#[tactic(auto, unfolding(crate::specs::Charsets::character_table))]
+pub fn character_table(charset: Charset) -> Option<&'static [u16; 256]>
+    ensures { option_map (λ (table : Bor (List ℕ)). table.now) result ≡ character_table charset }
+{
+    match charset {
+        Charset::Armscii8 => Some(&tables::ARMSCII8),
+        Charset::Cp1250 => Some(&tables::CP1250),
+        Charset::Cp1251 => Some(&tables::CP1251),
+        Charset::Cp1256 => Some(&tables::CP1256),
+        Charset::Cp1257 => Some(&tables::CP1257),
+        Charset::Cp850 => Some(&tables::CP850),
+        Charset::Cp852 => Some(&tables::CP852),
+        Charset::Cp866 => Some(&tables::CP866),
+        Charset::Dec8 => Some(&tables::DEC8),
+        Charset::Geostd8 => Some(&tables::GEOSTD8),
+        Charset::Greek => Some(&tables::GREEK),
+        Charset::Hebrew => Some(&tables::HEBREW),
+        Charset::Hp8 => Some(&tables::HP8),
+        Charset::Keybcs2 => Some(&tables::KEYBCS2),
+        Charset::Koi8r => Some(&tables::KOI8R),
+        Charset::Koi8u => Some(&tables::KOI8U),
+        Charset::Latin1 => Some(&tables::LATIN1),
+        Charset::Latin2 => Some(&tables::LATIN2),
+        Charset::Latin5 => Some(&tables::LATIN5),
+        Charset::Latin7 => Some(&tables::LATIN7),
+        Charset::Macce => Some(&tables::MACCE),
+        Charset::Macroman => Some(&tables::MACROMAN),
+        Charset::Swe7 => Some(&tables::SWE7),
+        Charset::Tis620 => Some(&tables::TIS620),
+        _ => None,
     }
 }
 
