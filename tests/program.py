@@ -15,7 +15,7 @@ from typing import NamedTuple
 sys.dont_write_bytecode = True
 
 from built import (  # noqa: E402
-    collations, costs, faults, floats, following, full_lines, help_text, json_documents, library_page, rare_paths, refusals, rows,
+    charsets, collations, costs, faults, floats, following, full_lines, help_text, json_documents, library_page, rare_paths, refusals, rows,
     server_documents, server_logs, system, terminal, tokens, truth, words, wrapper,
 )  # fmt: skip
 from built.check import Check  # noqa: E402
@@ -24,7 +24,7 @@ from least_counts import lacking  # noqa: E402
 TOP = Path(__file__).resolve().parent.parent
 PROGRAMS = [TOP / "crates/program/out/program", TOP / "crates/program/out/program.by-rattle"]
 PARTS = (
-    system, rare_paths, rows, words, faults, help_text, terminal, server_logs, tokens, truth, collations, full_lines, floats,
+    system, rare_paths, rows, words, faults, help_text, terminal, server_logs, tokens, truth, collations, charsets, full_lines, floats,
     json_documents, server_documents, refusals, following, costs,
 )  # fmt: skip
 

@@ -6,6 +6,7 @@ from pathlib import Path
 from typing import NamedTuple
 
 import logs
+from built.charsets import characters
 from built.check import Check, Wanted, differs, run
 from logs import CHARSETS, USUAL_CHARSET, VARCHAR, field, log_of, packed, put, rows, table_map, transaction
 
@@ -17,7 +18,7 @@ UNKNOWN = (0, 17, 400, 65_544, 70_000, 2**24 + 8, 2**32 + 8)
 # The bytes of each column, and the text that they are in the character sets whose texts are strings. In UTF-16 they are two characters.
 BYTES = b"\0\0\0a"
 TEXTS = {
-    "utf8mb4": "\0\0\0a", "utf8mb3": "\0\0\0a", "ascii": "\0\0\0a", "latin1": "\0\0\0a",
+    **dict.fromkeys(("utf8mb4", "utf8mb3", "ascii", *characters()), "\0\0\0a"),
     "utf16": "\0a", "ucs2": "\0a", "utf16le": "\0\u6100", "utf32": "a",
 }  # fmt: skip
 CODED = "AAAAYQ=="

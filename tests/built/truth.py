@@ -13,6 +13,7 @@ from functools import cache, partial
 from pathlib import Path
 from typing import NamedTuple
 
+from built.charsets import characters
 from built.check import Check, Wanted, differs, run
 from built.server_logs import logs_of
 
@@ -25,11 +26,8 @@ NAMED = 20
 SHOWN = 120
 
 # The character sets whose texts are strings, and Python's codecs for those whose bytes are told.
-STRINGS = ("utf8mb4", "utf8mb3", "ascii", "latin1", "utf16", "utf16le", "utf32", "ucs2")
-CODECS = {
-    "big5": "big5", "cp1251": "cp1251", "euckr": "euc-kr", "gbk": "gbk", "greek": "iso8859-7", "koi8r": "koi8-r",
-    "latin2": "iso8859-2", "sjis": "shift_jis",
-}  # fmt: skip
+STRINGS = ("utf8mb4", "utf8mb3", "ascii", "utf16", "utf16le", "utf32", "ucs2", *characters())
+CODECS = {"big5": "big5", "euckr": "euc-kr", "gbk": "gbk", "sjis": "shift_jis"}
 
 # The types whose texts have the size that a statement declares.
 SIZED = ("decimal", "bit", "binary", "varbinary", "time", "datetime", "timestamp")

@@ -1,9 +1,10 @@
 -- Texts that are read piece by piece: what was read so far and what is left are the whole.
-use Rattle.std.proofs.Common.{◌≡◌, ℕ, ◌<◌, ◌≤◌, List, [], ◌∷◌, ◌++◌, length, drop, get_or, ◌==◌, Bool, true, false, Option, Some, None, option_map, append_assoc, append-nil, refl, ap, sym, subst, ◌∙◌, arith}
+use Rattle.std.proofs.Common.{◌≡◌, ℕ, ◌+◌, ◌<◌, ◌≤◌, List, [], ◌∷◌, ◌++◌, length, drop, get_or, ◌==◌, Bool, true, false, Option, Some, None, option_map, append_assoc, append-nil, refl, ap, sym, subst, ◌∙◌, arith}
 use Rattle.std.specs.Char.{encode_utf8, IsScalar}
 use Rattle.std.proofs.lemmas.Bool.{false_from_ne_true}
+use Rattle.std.proofs.lemmas.List.{at_drop_more, at_drop_all}
 use lib.Utf8.{scalar}
-use Rattle.binlog_json.specs.Encodings.{unit_in, units_of, utf32_code, utf32_text}
+use Rattle.binlog_json.specs.Encodings.{text_by, unit_in, units_of, utf32_code, utf32_text}
 use Rattle.binlog_json.specs.Reading.{IsRead}
 use Rattle.binlog_json.specs.declared.encodings.ByteOrder.{ByteOrder}
 
@@ -40,6 +41,28 @@ unfolding units_of
 units_done order front [] total whole few is e = subst (λ (b : Bool). IsRead [] front total b) (sym is) (all_read [] front total e)
 units_done order front (x ∷ []) total whole few is e = subst (λ (b : Bool). IsRead [] front total b) (sym is) (none_read [] front total e)
 units_done order front (x ∷ y ∷ rest) total whole few is e = absurd (omega arith)
+
+-- ---- characters of one byte
+
+pub text_by_more : (table front bytes : List ℕ) (i code : ℕ) (total : Option (List ℕ)) → i < length bytes → IsScalar (get_or table (get_or bytes i 0) 0) → code ≡ get_or table (get_or bytes i 0) 0
+    → behind front (text_by table (drop i bytes)) ≡ total → behind (front ++ encode_utf8 code) (text_by table (drop (i + 1) bytes)) ≡ total
+unfolding text_by
+text_by_more table front bytes i code total below scalar is e =
+    let first = at_drop_more (λ (bs : List ℕ). behind front (text_by table bs)) bytes i 0 below in
+    ap (λ (n : ℕ). behind (front ++ encode_utf8 n) (text_by table (drop (i + 1) bytes))) is
+    ∙ behind_more front (encode_utf8 (get_or table (get_or bytes i 0) 0)) (text_by table (drop (i + 1) bytes)) ∙ (rw scalar at (sym first ∙ e))
+
+pub text_by_none : (table old new bytes : List ℕ) (i : ℕ) (total : Option (List ℕ)) → i < length bytes → ¬ (IsScalar (get_or table (get_or bytes i 0) 0)) → behind new (text_by table (drop i bytes)) ≡ behind old total
+    → IsRead old new total false
+unfolding text_by
+text_by_none table old new bytes i total below not e =
+    let first = at_drop_more (λ (bs : List ℕ). behind new (text_by table bs)) bytes i 0 below in
+    let no : scalar (get_or table (get_or bytes i 0) 0) ≡ false = false_from_ne_true (scalar (get_or table (get_or bytes i 0) 0)) not in
+    none_read old new total (rw no at (sym first ∙ e))
+
+pub text_by_done : (table old new bytes : List ℕ) (i : ℕ) (total : Option (List ℕ)) → length bytes ≤ i → behind new (text_by table (drop i bytes)) ≡ behind old total → IsRead old new total true
+unfolding text_by
+text_by_done table old new bytes i total past e = all_read old new total (sym (at_drop_all (λ (bs : List ℕ). behind new (text_by table bs)) bytes i past) ∙ e)
 
 -- ---- characters of four bytes
 

@@ -1,32 +1,24 @@
 -- Texts by the encoding of their character set, as UTF-8.
--- MySQL's source: strings/ctype-latin1.cc, strings/ctype-ucs2.cc and strings/ctype-utf8.cc.
-use Rattle.std.specs.Prelude.{ℕ, ◌+◌, ◌*◌, List, [], ◌∷◌, ◌++◌, map, Option, Some, None, option_map, option_and_then, ◌==◌, if◌then◌else◌}
+-- MySQL's source: strings/ctype-simple.cc, strings/ctype-ucs2.cc and strings/ctype-utf8.cc.
+use Rattle.std.specs.Prelude.{ℕ, ◌+◌, ◌*◌, List, [], ◌∷◌, ◌++◌, map, get_or, Option, Some, None, option_map, option_and_then, if◌then◌else◌}
 use Rattle.std.specs.Borrow.{Bor}
-use Rattle.std.specs.List.{flat_map}
 use Rattle.std.specs.Char.{encode_utf8}
 use Rattle.std.specs.Char.Utf16.{utf16_lossy_chars, has_unpaired_surrogate}
 use Rattle.std.specs.Str.{encode_utf8_all, is_utf8}
 use lib.Utf8.{scalar}
+use Rattle.binlog_types.specs.Charsets.{character_table}
 use Rattle.binlog_types.specs.declared.charsets.Encoding.{Encoding}
-use Rattle.binlog_types.specs.declared.charsets.Encoding.TheVariants.{Utf8, Latin1, Utf16, Utf16le, Utf32, Binary, Other}
+use Rattle.binlog_types.specs.declared.charsets.Encoding.TheVariants.{Utf8, Utf16, Utf16le, Utf32, Binary, ByTable}
 use Rattle.binlog_json.specs.declared.encodings.ByteOrder.{ByteOrder}
 use Rattle.binlog_json.specs.declared.encodings.ByteOrder.TheVariants.{HighFirst, LowFirst}
 
--- ---- latin1
+-- ---- one byte for each character
 
--- MySQL's latin1 is Windows-1252, whose five gaps are control characters
-abbrev pub latin1_code : ℕ → ℕ
-latin1_code b =
-    if b == 0x80 then 0x20AC else (if b == 0x82 then 0x201A else (if b == 0x83 then 0x0192 else (if b == 0x84 then 0x201E else
-    (if b == 0x85 then 0x2026 else (if b == 0x86 then 0x2020 else (if b == 0x87 then 0x2021 else (if b == 0x88 then 0x02C6 else
-    (if b == 0x89 then 0x2030 else (if b == 0x8A then 0x0160 else (if b == 0x8B then 0x2039 else (if b == 0x8C then 0x0152 else
-    (if b == 0x8E then 0x017D else (if b == 0x91 then 0x2018 else (if b == 0x92 then 0x2019 else (if b == 0x93 then 0x201C else
-    (if b == 0x94 then 0x201D else (if b == 0x95 then 0x2022 else (if b == 0x96 then 0x2013 else (if b == 0x97 then 0x2014 else
-    (if b == 0x98 then 0x02DC else (if b == 0x99 then 0x2122 else (if b == 0x9A then 0x0161 else (if b == 0x9B then 0x203A else
-    (if b == 0x9C then 0x0153 else (if b == 0x9E then 0x017E else (if b == 0x9F then 0x0178 else b))))))))))))))))))))))))))
-
-abbrev pub latin1_text : List ℕ → List ℕ
-latin1_text bytes = flat_map (λ b. encode_utf8 (latin1_code b)) bytes
+-- the characters of bytes, by the code points that a table has at their places, where each is a character's
+unfoldable pub text_by : List ℕ → List ℕ → Option (List ℕ)
+text_by table [] = Some []
+text_by table (byte ∷ bytes) =
+    if scalar (get_or table byte 0) then option_map (λ text. encode_utf8 (get_or table byte 0) ++ text) (text_by table bytes) else None
 
 -- ---- UTF-16
 
@@ -65,12 +57,11 @@ utf32_text other = None
 -- the text of bytes in an encoding, where they are one
 abbrev pub decoded : Encoding → List ℕ → Option (List ℕ)
 decoded Utf8 bytes = if is_utf8 bytes then Some bytes else None
-decoded Latin1 bytes = Some (latin1_text bytes)
 decoded Utf16 bytes = utf16_in HighFirst bytes
 decoded Utf16le bytes = utf16_in LowFirst bytes
 decoded Utf32 bytes = utf32_text bytes
 decoded Binary bytes = None
-decoded Other bytes = None
+decoded (ByTable charset) bytes = option_and_then (λ table. text_by table bytes) (character_table charset)
 
 -- the texts of all, where each is one
 abbrev pub all_decoded : Encoding → List (List ℕ) → Option (List (List ℕ))

@@ -1,10 +1,9 @@
 //! Texts in the encodings of character sets, as UTF-8.
-ghost use Rattle.std.specs.Prelude.{◌≡◌, [], OnOk, IfOk};
-ghost use Rattle.binlog_json.specs.Encodings.{latin1_code, latin1_text, unit_in, units_of, utf16_in, utf32_code, utf32_text, decoded};
+ghost use Rattle.std.specs.Prelude.{◌≡◌, [], IfOk};
+ghost use Rattle.binlog_json.specs.Encodings.{text_by, unit_in, units_of, utf16_in, utf32_code, utf32_text, decoded};
 ghost use Rattle.binlog_json.specs.Reading.{IsRead, HasRead};
-ghost use Rattle.binlog_select.specs.Text.{GrowsBy};
 
-use binlog_types::Encoding;
+use binlog_types::{Encoding, character_table};
 use std::alloc::{AllocError, Global};
 
 /// Reads texts. It keeps its units for the next one; a text in UTF-16 takes memory of its own.
@@ -40,15 +39,14 @@ impl Decoder {
     {
         match encoding {
             Encoding::Utf8 => append_utf8(text, bytes),
-            Encoding::Latin1 => {
-                append_latin1(text, bytes)?;
-                Ok(true)
-            }
             Encoding::Utf16 => self.append_utf16(text, ByteOrder::HighFirst, bytes),
             Encoding::Utf16le => self.append_utf16(text, ByteOrder::LowFirst, bytes),
             Encoding::Utf32 => append_utf32(text, bytes),
             Encoding::Binary => Ok(false),
-            Encoding::Other => Ok(false),
+            Encoding::ByTable(charset) => match character_table(charset) {
+                None => Ok(false),
+                Some(table) => append_by(table, text, bytes),
+            },
         }
     }
 
@@ -130,48 +128,15 @@ fn append_utf32(text: &mut String, bytes: &[u8]) -> Result<bool, AllocError>
     Ok(rest.is_empty())
 }
 
-/// The character of a byte.
-fn latin1_char(byte: u8) -> char
-    ensures { result ≡ latin1_code byte }
-{
-    match byte {
-        0x80 => '\u{20AC}',
-        0x82 => '\u{201A}',
-        0x83 => '\u{0192}',
-        0x84 => '\u{201E}',
-        0x85 => '\u{2026}',
-        0x86 => '\u{2020}',
-        0x87 => '\u{2021}',
-        0x88 => '\u{02C6}',
-        0x89 => '\u{2030}',
-        0x8A => '\u{0160}',
-        0x8B => '\u{2039}',
-        0x8C => '\u{0152}',
-        0x8E => '\u{017D}',
-        0x91 => '\u{2018}',
-        0x92 => '\u{2019}',
-        0x93 => '\u{201C}',
-        0x94 => '\u{201D}',
-        0x95 => '\u{2022}',
-        0x96 => '\u{2013}',
-        0x97 => '\u{2014}',
-        0x98 => '\u{02DC}',
-        0x99 => '\u{2122}',
-        0x9A => '\u{0161}',
-        0x9B => '\u{203A}',
-        0x9C => '\u{0153}',
-        0x9E => '\u{017E}',
-        0x9F => '\u{0178}',
-        _ => char::from(byte),
-    }
-}
-
-/// Appends the characters of bytes to a text.
-fn append_latin1(text: &mut String, bytes: &[u8]) -> Result<(), AllocError>
-    ensures { OnOk result (GrowsBy text.old text.new (latin1_text bytes.now)) }
+/// Appends the characters of bytes, by the code points that a table has at their places.
+fn append_by(table: &[u16; 256], text: &mut String, bytes: &[u8]) -> Result<bool, AllocError>
+    ensures { IfOk result (HasRead text.old text.new (text_by table.now bytes.now)) }
 {
     for byte in bytes {
-        text.push(latin1_char(*byte))?;
+        match char::from_u32(u32::from(table[usize::from(*byte)])) {
+            None => return Ok(false),
+            Some(read) => text.push(read)?,
+        }
     }
-    Ok(())
+    Ok(true)
 }

@@ -70,7 +70,7 @@ fn comma_in(encoding: Encoding) -> &'static [u8]
         Encoding::Utf16 => b"\0,",
         Encoding::Utf16le => b",\0",
         Encoding::Utf32 => b"\0\0\0,",
-        Encoding::Utf8 | Encoding::Latin1 | Encoding::Binary | Encoding::Other => b",",
+        Encoding::Utf8 | Encoding::Binary | Encoding::ByTable(_) => b",",
     }
 }
 

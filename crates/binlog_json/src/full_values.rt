@@ -107,11 +107,10 @@ pub(crate) fn is_binary(encoding: Encoding) -> bool
     match encoding {
         Encoding::Binary => true,
         Encoding::Utf8
-        | Encoding::Latin1
         | Encoding::Utf16
         | Encoding::Utf16le
         | Encoding::Utf32
-        | Encoding::Other => false,
+        | Encoding::ByTable(_) => false,
     }
 }
 

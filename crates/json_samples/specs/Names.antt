@@ -4,7 +4,7 @@ use Rattle.std.specs.Prelude.{◌≡◌, ℕ, List, [], ◌∷◌, map, Option, 
 use Rattle.binlog_json.specs.Json.{compact_text}
 use Rattle.binlog_table.specs.Value as cell
 use Rattle.binlog_types.specs.declared.charsets.Charset.{Charset}
-use Rattle.binlog_types.specs.declared.charsets.Charset.TheVariants.{Binary, Gbk, Latin1, Ucs2, Utf16, Utf16le, Utf32, Utf8mb4}
+use Rattle.binlog_types.specs.declared.charsets.Charset.TheVariants.{Binary, Cp1250, Cp1251, Gbk, Greek, Latin1, Ucs2, Utf16, Utf16le, Utf32, Utf8mb4}
 use Rattle.binlog_json.specs.FullValues.{full_data}
 use Rattle.json_samples.specs.Bytes.{hex, utf8}
 use Rattle.json_samples.specs.Texts.{text_type}
@@ -29,6 +29,7 @@ abbrev pub Enums : Type 0
 Enums =
     EnumIs (Some Latin1) ("61" ∷ "e9" ∷ []) 0 "\"\"" × EnumIs (Some Latin1) ("61" ∷ "e9" ∷ []) 1 "\"a\"" × EnumIs (Some Latin1) ("61" ∷ "e9" ∷ []) 2 "\"é\""
     × EnumIs (Some Latin1) ("61" ∷ "e9" ∷ []) 3 "3" × EnumIs (Some Utf16) ("00 61" ∷ "d8 3d" ∷ []) 1 "\"a\""
+    × EnumIs (Some Cp1251) ("ed e5 f2" ∷ "e4 e0" ∷ []) 2 "\"да\""
 
 -- names that aren't well formed, in a character set that isn't read, of character set binary, and of none
 abbrev pub EnumBytes : Type 0
@@ -45,6 +46,7 @@ abbrev pub Sets : Type 0
 Sets =
     SetIs (Some Latin1) ("e4" ∷ "62" ∷ []) 0 "\"\"" × SetIs (Some Latin1) ("e4" ∷ "62" ∷ []) 1 "\"ä\"" × SetIs (Some Latin1) ("e4" ∷ "62" ∷ []) 2 "\"b\""
     × SetIs (Some Latin1) ("e4" ∷ "62" ∷ []) 3 "\"ä,b\"" × SetIs (Some Latin1) ("e4" ∷ "62" ∷ []) 4 "4" × SetIs (Some Latin1) ("e4" ∷ "62" ∷ []) 7 "7"
+    × SetIs (Some Greek) ("e1" ∷ "e2" ∷ []) 3 "\"α,β\""
 
 -- a comma of one byte in the string, whatever the names' one has
 abbrev pub WideSets : Type 0
@@ -53,7 +55,7 @@ WideSets =
     × SetIs (Some Ucs2) ("00 61" ∷ "00 62" ∷ []) 3 "\"a,b\"" × SetIs (Some Utf16le) ("61 00" ∷ "62 00" ∷ []) 3 "\"a,b\""
     × SetIs (Some Utf32) ("00 00 00 61" ∷ "00 00 00 62" ∷ []) 3 "\"a,b\""
 
--- of two names one is a high surrogate: the bytes of both, where its bit is set, with a comma of the character set between them
+-- of two names one is no text: the bytes of both, where its bit is set, with a comma of the character set between them
 abbrev pub MalformedSets : Type 0
 MalformedSets =
     SetIs (Some Utf16) ("00 61" ∷ "d8 3d" ∷ []) 1 "\"a\"" × SetIs (Some Utf16) ("00 61" ∷ "d8 3d" ∷ []) 2 "{\"base64\":\"2D0=\",\"charset\":\"utf16\"}"
@@ -61,7 +63,7 @@ MalformedSets =
     × SetIs (Some Ucs2) ("00 61" ∷ "d8 3d" ∷ []) 3 "{\"base64\":\"AGEALNg9\",\"charset\":\"ucs2\"}"
     × SetIs (Some Utf16le) ("61 00" ∷ "3d d8" ∷ []) 3 "{\"base64\":\"YQAsAD3Y\",\"charset\":\"utf16le\"}"
     × SetIs (Some Utf32) ("00 00 00 61" ∷ "00 00 d8 00" ∷ []) 3 "{\"base64\":\"AAAAYQAAACwAANgA\",\"charset\":\"utf32\"}"
-    × SetIs (Some Utf8mb4) ("61" ∷ "e9" ∷ []) 3 "{\"base64\":\"YSzp\",\"charset\":\"utf8mb4\"}"
+    × SetIs (Some Cp1250) ("61" ∷ "81" ∷ []) 3 "{\"base64\":\"YSyB\",\"charset\":\"cp1250\"}" × SetIs (Some Utf8mb4) ("61" ∷ "e9" ∷ []) 3 "{\"base64\":\"YSzp\",\"charset\":\"utf8mb4\"}"
 
 -- a character set that isn't read, of which no name is a string; binary and none, also for no members
 abbrev pub SetBytes : Type 0

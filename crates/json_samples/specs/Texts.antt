@@ -5,7 +5,7 @@ use Rattle.binlog_json.specs.Json.{string}
 use Rattle.binlog_json.specs.Json.{compact_text}
 use Rattle.binlog_table.specs.Value as cell
 use Rattle.binlog_types.specs.declared.charsets.Charset.{Charset}
-use Rattle.binlog_types.specs.declared.charsets.Charset.TheVariants.{Ascii, Binary, Gbk, Latin1, Ucs2, Utf16, Utf16le, Utf32, Utf8mb3, Utf8mb4}
+use Rattle.binlog_types.specs.declared.charsets.Charset.TheVariants.{Ascii, Binary, Cp1250, Cp1251, Cp850, Gbk, Greek, Hebrew, Koi8r, Latin1, Latin2, Macroman, Swe7, Tis620, Ucs2, Utf16, Utf16le, Utf32, Utf8mb3, Utf8mb4}
 use Rattle.binlog_types.specs.declared.column_type.ColumnType.{ColumnType}
 use Rattle.binlog_json.specs.FullValues.{full_data}
 use Rattle.json_samples.specs.Bytes.{hex, utf8}
@@ -38,6 +38,23 @@ abbrev pub Windows1252 : Type 0
 Windows1252 =
     Reads Latin1 "80 82 83 84 85 86 87 88 89 8a 8b 8c 8e" "€‚ƒ„…†‡ˆ‰Š‹ŒŽ" × Reads Latin1 "91 92 93 94 95 96 97 98 99 9a 9b 9c 9e 9f" "‘’“”•–—˜™š›œžŸ"
     × Reads Latin1 "81 8d 8f 90 9d" "\u{81}\u{8d}\u{8f}\u{90}\u{9d}"
+
+-- ---- other sets of one byte for each character
+
+-- the same word in two sets; letters of other scripts; swe7 has letters at the places of brackets and braces
+abbrev pub OneByteTexts : Type 0
+OneByteTexts =
+    Reads Cp1251 "cf f0 e8 e2 e5 f2" "Привет" × Reads Koi8r "f0 d2 c9 d7 c5 d4" "Привет" × Reads Greek "" "" × Reads Greek "61 e1 e2 f9" "aαβω"
+    × Reads Hebrew "f9 ec e5 ed" "\u{5e9}\u{5dc}\u{5d5}\u{5dd}" × Reads Tis620 "a1 e3 df" "กใ฿" × Reads Latin2 "b1 b6 bf" "ąśż" × Reads Cp1250 "80 9c 9f" "€śź" × Reads Cp850 "82 e1 c4" "éß─"
+    × Reads Macroman "8e ca ff" "é\u{a0}ˇ" × Reads Swe7 "41 5b 5c 5d 7b 7c 7d" "AÄÖÅäöå" × WritesValue (text_type 252 2 (Some Swe7)) "22 60" "\"\\\"é\""
+
+-- a byte without a character, alone, behind a letter and between two; swe7 has none for 7f
+abbrev pub NoOneByteTexts : Type 0
+NoOneByteTexts =
+    Keeps Cp1250 "81" "{\"base64\":\"gQ==\",\"charset\":\"cp1250\"}" × Keeps Cp1250 "61 81 62" "{\"base64\":\"YYFi\",\"charset\":\"cp1250\"}"
+    × Keeps Greek "e1 ff" "{\"base64\":\"4f8=\",\"charset\":\"greek\"}" × Keeps Hebrew "a1" "{\"base64\":\"oQ==\",\"charset\":\"hebrew\"}"
+    × Keeps Tis620 "a1 db" "{\"base64\":\"ods=\",\"charset\":\"tis620\"}" × Keeps Swe7 "7f" "{\"base64\":\"fw==\",\"charset\":\"swe7\"}"
+    × Keeps Swe7 "80" "{\"base64\":\"gA==\",\"charset\":\"swe7\"}"
 
 -- ---- UTF-8
 

@@ -1,6 +1,6 @@
 //! The definitions of values in full lines.
 ghost use Rattle.json_samples.specs.Integers.{Tiny, Small, Medium, Long, LongLong};
-ghost use Rattle.json_samples.specs.Texts.{Latin1Texts, Windows1252, Utf8Texts, NoUtf8, Utf16Texts, NoUtf16, Utf32Texts, NoUtf32, OtherCharsets, Binaries, NoCharset};
+ghost use Rattle.json_samples.specs.Texts.{Latin1Texts, Windows1252, OneByteTexts, NoOneByteTexts, Utf8Texts, NoUtf8, Utf16Texts, NoUtf16, Utf32Texts, NoUtf32, OtherCharsets, Binaries, NoCharset};
 ghost use Rattle.json_samples.specs.Names.{Unnamed, Enums, EnumBytes, Sets, WideSets, MalformedSets, SetBytes};
 ghost use Rattle.json_samples.specs.Others.{Times, Decimals, Floats, NoNumbers, Documents, NoDocuments, RawValues};
 
@@ -14,6 +14,8 @@ pub fn sample_full_values()
     ensures long_long { LongLong }
     ensures latin1_texts { Latin1Texts }
     ensures windows_1252 { Windows1252 }
+    ensures one_byte_texts { OneByteTexts }
+    ensures no_one_byte_texts { NoOneByteTexts }
     ensures utf8_texts { Utf8Texts }
     ensures no_utf8 { NoUtf8 }
     ensures utf16_texts { Utf16Texts }
