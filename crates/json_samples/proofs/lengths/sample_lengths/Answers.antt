@@ -4,8 +4,8 @@ use Rattle.std.specs.Str.{IsUtf8, is_utf8}
 use Rattle.std.proofs.lemmas.Str.{IsUtf8-nil, IsUtf8-append, IsUtf8-from_is_utf8, is_utf8-from_IsUtf8}
 use Rattle.binlog_json.specs.Json.{string}
 use Rattle.binlog_types.specs.declared.charsets.Charset.TheVariants.{Latin1, Utf8mb4}
-use Rattle.binlog_types.specs.declared.character_tables.TheConstants.{LATIN1}
-use Rattle.binlog_json.specs.Encodings.{text_by}
+use Rattle.binlog_types.specs.declared.charsets.Encoding.TheVariants.{ByTable}
+use Rattle.binlog_json.specs.Encodings.{decoded}
 use Rattle.binlog_json.specs.FullValues.{text_or_bytes}
 use Rattle.binlog_json.specs.Values.{encoded_data}
 use Rattle.std.specs.Prelude.{codes, None}
@@ -22,7 +22,7 @@ are_text : (n : ℕ) → IsUtf8 (letters n)
 are_text zero = IsUtf8-nil
 are_text (suc n) = IsUtf8-append (0xc3 ∷ 0xa9 ∷ []) (letters n) (IsUtf8-from_is_utf8 (0xc3 ∷ 0xa9 ∷ []) one_letter) (are_text n)
 
-from_latin1 : (n : ℕ) → text_by LATIN1 (replicate n 0xe9) ≡ Some (letters n)
+from_latin1 : (n : ℕ) → decoded (ByTable Latin1) (replicate n 0xe9) ≡ Some (letters n)
 unfolding on_types on_values
 from_latin1 zero = refl
 from_latin1 (suc n) = ap (λ (text : Option (List ℕ)). option_map (λ rest. 0xc3 ∷ 0xa9 ∷ rest) text) (from_latin1 n)
