@@ -24,3 +24,4 @@ pub mod FullLines
 pub mod Charsets
 pub mod TypeLists
 pub mod RawTexts
+pub mod JsonNulls

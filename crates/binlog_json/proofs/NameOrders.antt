@@ -54,16 +54,25 @@ turn_at true false k l d e ms same = refl
 turn_at false true k l d e ms same = refl
 turn_at false false k l d e ms same = put_turn k l d e ms same
 
-turn : (f : ℕ → Data) (image : RowImage) (order : List ℕ) → IsNameOrder image.table.names order → (ms : Members) (x y : ℕ) → In x order → In y order
-    → put_column_by f image (put_column_by f image ms x) y ≡ put_column_by f image (put_column_by f image ms y) x
-turn f image order is ms x y i j =
-    turn_at (is_absent (cell_in image x)) (is_absent (cell_in image y)) (name_of image.table.names x) (name_of image.table.names y) (f x) (f y) ms
-    (λ e. ap f (same_name image.table.names order x y is.ascending i j e))
+-- members with the column's, unless it is left out
+abbrev pub put_by : (ℕ → Bool) → (ℕ → Data) → List (List ℕ) → Members → ℕ → Members
+put_by left_out f names ms column = cond (left_out column) ms (put (name_of names column) (f column) ms)
+
+-- the members of these columns, in their order
+abbrev pub list_by : (ℕ → Bool) → (ℕ → Data) → List (List ℕ) → List ℕ → Members
+list_by left_out f names [] = no_members
+list_by left_out f names (column ∷ columns) = cond (left_out column) (list_by left_out f names columns) (member (name_of names column) (f column) (list_by left_out f names columns))
+
+turn : (left_out : ℕ → Bool) (f : ℕ → Data) (names : List (List ℕ)) (order : List ℕ) → IsNameOrder names order → (ms : Members) (x y : ℕ) → In x order → In y order
+    → put_by left_out f names (put_by left_out f names ms x) y ≡ put_by left_out f names (put_by left_out f names ms y) x
+turn left_out f names order is ms x y i j =
+    turn_at (left_out x) (left_out y) (name_of names x) (name_of names y) (f x) (f y) ms (λ e. ap f (same_name names order x y is.ascending i j e))
 
 -- put in the order of the names, the columns give the same members
-members-ordered : (f : ℕ → Data) (image : RowImage) (order : List ℕ) → IsNameOrder image.table.names order → members_by f image ≡ fold (put_column_by f image) no_members order
-members-ordered f image order is =
-    same_fold (put_column_by f image) (λ x. In x order) (turn f image order is) (range_with_len 0 (length image.table.names)) order no_members is.each (all_in order order (λ x i. i))
+members-ordered : (left_out : ℕ → Bool) (f : ℕ → Data) (names : List (List ℕ)) (order : List ℕ) → IsNameOrder names order
+    → fold (put_by left_out f names) no_members (range_with_len 0 (length names)) ≡ fold (put_by left_out f names) no_members order
+members-ordered left_out f names order is =
+    same_fold (put_by left_out f names) (λ x. In x order) (turn left_out f names order is) (range_with_len 0 (length names)) order no_members is.each (all_in order order (λ x i. i))
 
 -- ---- put in the order of their names, members stand in that order
 
@@ -102,29 +111,41 @@ joined_none : (ms : Members) → joined ms no_members ≡ ms
 joined_none no_members = refl
 joined_none (member k d ms) = ap (member k d) (joined_none ms)
 
-put_all_at : (f : ℕ → Data) (b : Bool) (image : RowImage) (c : ℕ) (cs : List ℕ) (ms : Members)
-    → ((ns : Members) → AreAbove image.table.names cs ns → fold (put_column_by f image) ns cs ≡ joined ns (listed_by f image cs)) → AreAbove image.table.names (c ∷ cs) ms
-    → AllByRecursion (λ y. slice_cmp nat_cmp (name_of image.table.names c) y ≡ Less) (map (name_of image.table.names) cs)
-    → fold (put_column_by f image) (cond b ms (put (name_of image.table.names c) (f c) ms)) cs
-    ≡ joined ms (cond b (listed_by f image cs) (member (name_of image.table.names c) (f c) (listed_by f image cs)))
-put_all_at f true image c cs ms rest h above = rest ms h.1
-put_all_at f false image c cs ms rest h above =
-    let k = name_of image.table.names c in
+put_all_at : (left_out : ℕ → Bool) (f : ℕ → Data) (b : Bool) (names : List (List ℕ)) (c : ℕ) (cs : List ℕ) (ms : Members)
+    → ((ns : Members) → AreAbove names cs ns → fold (put_by left_out f names) ns cs ≡ joined ns (list_by left_out f names cs)) → AreAbove names (c ∷ cs) ms
+    → AllByRecursion (λ y. slice_cmp nat_cmp (name_of names c) y ≡ Less) (map (name_of names) cs)
+    → fold (put_by left_out f names) (cond b ms (put (name_of names c) (f c) ms)) cs
+    ≡ joined ms (cond b (list_by left_out f names cs) (member (name_of names c) (f c) (list_by left_out f names cs)))
+put_all_at left_out f true names c cs ms rest h above = rest ms h.1
+put_all_at left_out f false names c cs ms rest h above =
+    let k = name_of names c in
     let d = f c in
     rw (put_last k d ms h.0)
-    (rest (joined ms (member k d no_members)) (are_above_joined image.table.names cs k d ms h.1 above) ∙ joined_twice ms k d (listed_by f image cs))
+    (rest (joined ms (member k d no_members)) (are_above_joined names cs k d ms h.1 above) ∙ joined_twice ms k d (list_by left_out f names cs))
 
-put_all : (f : ℕ → Data) (image : RowImage) (cs : List ℕ) (ms : Members) → Ascend image.table.names cs → AreAbove image.table.names cs ms
-    → fold (put_column_by f image) ms cs ≡ joined ms (listed_by f image cs)
+put_all : (left_out : ℕ → Bool) (f : ℕ → Data) (names : List (List ℕ)) (cs : List ℕ) (ms : Members) → Ascend names cs → AreAbove names cs ms
+    → fold (put_by left_out f names) ms cs ≡ joined ms (list_by left_out f names cs)
 unfolding IsStrictlySortedBy
-put_all f image [] ms order h = sym (joined_none ms)
-put_all f image (c ∷ cs) ms order h = put_all_at f (is_absent (cell_in image c)) image c cs ms (λ ns above. put_all f image cs ns order.1 above) h order.0
+put_all left_out f names [] ms order h = sym (joined_none ms)
+put_all left_out f names (c ∷ cs) ms order h = put_all_at left_out f (left_out c) names c cs ms (λ ns above. put_all left_out f names cs ns order.1 above) h order.0
 
 none_above : (names : List (List ℕ)) (cs : List ℕ) → AreAbove names cs no_members
 none_above names [] = tt
 none_above names (c ∷ cs) = (tt, none_above names cs)
 
--- an image has the members of its present columns, in the order of their names, whatever their values are
+-- the columns that aren't left out give members in the order of their names, whatever their values are
+pub names-listed : (left_out : ℕ → Bool) (f : ℕ → Data) (names : List (List ℕ)) (order : List ℕ) → IsNameOrder names order
+    → fold (put_by left_out f names) no_members (range_with_len 0 (length names)) ≡ list_by left_out f names order
+names-listed left_out f names order is =
+    members-ordered left_out f names order is ∙ put_all left_out f names order no_members is.ascending (none_above names order)
+
+abbrev absent_in : RowImage → ℕ → Bool
+absent_in image column = is_absent (cell_in image column)
+
+listed_is : (f : ℕ → Data) (image : RowImage) (columns : List ℕ) → list_by (absent_in image) f image.table.names columns ≡ listed_by f image columns
+listed_is f image [] = refl
+listed_is f image (c ∷ cs) = ap (λ (ms : Members). cond (is_absent (cell_in image c)) ms (member (name_of image.table.names c) (f c) ms)) (listed_is f image cs)
+
+-- an image has the members of its present columns, in the order of their names
 pub members-listed : (f : ℕ → Data) (image : RowImage) (order : List ℕ) → IsNameOrder image.table.names order → members_by f image ≡ listed_by f image order
-members-listed f image order is =
-    members-ordered f image order is ∙ put_all f image order no_members is.ascending (none_above image.table.names order)
+members-listed f image order is = names-listed (absent_in image) f image.table.names order is ∙ listed_is f image order

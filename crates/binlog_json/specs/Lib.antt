@@ -19,5 +19,6 @@ pub mod Reading
 pub mod FullValues
 pub mod NamedValues
 pub mod TypeTexts
+pub mod JsonNulls
 pub mod FullLine
 pub mod FullWritten

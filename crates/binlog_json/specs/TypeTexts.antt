@@ -1,15 +1,14 @@
 -- The texts of columns' types, as a server's own statements name them.
-use Rattle.std.specs.Prelude.{ℕ, List, [], ◌∷◌, ◌++◌, replicate, length, Bool, ◌==◌, ◌||◌, ◌&&◌, not, Option, Some, None, decimal, codes, if◌then◌else◌}
+use Rattle.std.specs.Prelude.{ℕ, List, [], ◌∷◌, ◌++◌, length, Bool, ◌==◌, ◌||◌, ◌&&◌, not, Option, Some, None, decimal, codes, if◌then◌else◌}
+use Rattle.std.specs.List.{range_with_len}
 use Rattle.std.specs.Option.{option_map_or}
-use Rattle.binlog_json.specs.Json.{Data, string, object}
+use Rattle.binlog_json.specs.Json.{Data, Members, string, object, member, no_members}
 use Rattle.binlog_table.specs.Map.{Map}
-use Rattle.binlog_table.specs.RowImage.{RowImage}
-use Rattle.binlog_table.specs.Value.{null}
+use Rattle.binlog_table.specs.NameOrder.{name_of}
 use Rattle.binlog_types.specs.Charsets.{charset_name, encoding_of}
 use Rattle.binlog_types.specs.ColumnTypes.{is_named}
 use Rattle.binlog_types.specs.declared.column_type.ColumnType.{ColumnType}
 use Rattle.binlog_types.specs.declared.charsets.Charset.{Charset}
-use Rattle.binlog_json.specs.Images.{members_by}
 use Rattle.binlog_json.specs.FullValues.{type_in, is_binary}
 
 -- a blank and the character set, where there is one that is known
@@ -71,13 +70,14 @@ type_text t =
     (if t.code == 246 then codes "decimal(" ++ (decimal t.size ++ (44 ∷ (decimal t.scale ++ (41 ∷ sign_of t.unsigned)))) else
     (if has_charset t.code then charset_type t else other_name t))
 
--- an image that has every column
-abbrev pub every_column : Map → RowImage
-every_column table = record { table = table; cells = replicate (length table.names) null }
-
 abbrev pub type_of_column : Map → ℕ → Data
 type_of_column table column = string (type_text (type_in table column))
 
--- the types of all columns, in byte order of their names
+-- the types of these columns, in this order
+abbrev pub types_of_columns : Map → List ℕ → Members
+types_of_columns table [] = no_members
+types_of_columns table (column ∷ columns) = member (name_of table.names column) (type_of_column table column) (types_of_columns table columns)
+
+-- the types of all columns, in the order in which the table has them
 abbrev pub types_data : Map → Data
-types_data table = object (members_by (type_of_column table) (every_column table))
+types_data table = object (types_of_columns table (range_with_len 0 (length table.names)))

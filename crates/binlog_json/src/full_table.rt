@@ -1,17 +1,18 @@
 //! What full lines need of a table: its columns' types and the names of its key, kept from line to line by the body of the table's map.
-ghost use Rattle.std.specs.Prelude.{◌≡◌, ℕ, true, Ok, OnOk, IfOk};
+ghost use Rattle.std.specs.Prelude.{◌≡◌, ◌<◌, length, true, Ok, OnOk};
 ghost use Rattle.std.proofs.Props.{props};
 ghost use Rattle.binlog_table.specs.Map.{Map, map_at_by};
 ghost use Rattle.binlog_profile.specs.declared.profile.Profile.TheVariants.{Server};
 ghost use Rattle.binlog_types.specs.ColumnTypes.{types_of};
-ghost use Rattle.binlog_json.specs.FullWritten.{key_part, key_text, type_column_text};
-ghost use Rattle.binlog_json.specs.TypeTexts.{types_data, every_column};
-ghost use Rattle.binlog_json.specs.Written.{TellsLater};
+ghost use Rattle.binlog_json.specs.FullWritten.{key_part, key_text, type_member};
+ghost use Rattle.binlog_json.specs.JsonNulls.{has_documents};
+ghost use Rattle.binlog_json.specs.TypeTexts.{types_data};
 ghost use Rattle.binlog_json.specs.LineBytes.{line_bytes};
 ghost use Rattle.binlog_json.specs.Growth.{Gains, Prints};
 
 use crate::append::{Quoter, append_comma};
 use crate::full_image::type_at;
+use crate::full_values::is_json;
 use crate::lines::Line;
 use crate::type_texts::append_type;
 use crate::values::append_member_name;
@@ -29,16 +30,20 @@ pub(crate) struct FullTable {
     are_known: bool,
     body: Vec<u8>,
     pub(crate) types: Vec<ColumnType>,
+    /// Whether one of them is JSON.
+    pub(crate) has_json: bool,
     /// The members `key` and `types`.
     pub(crate) key: Line,
     ghost typed: { are_known ≡ true → (map : Map) → map_at_by Server body.items ≡ Ok map → types.items ≡ types_of map.sections } by { Prim.hlevel props },
     ghost keyed: { are_known ≡ true → (map : Map) → map_at_by Server body.items ≡ Ok map → line_bytes key ≡ key_part map } by { Prim.hlevel props },
+    ghost documented: { are_known ≡ true → has_json ≡ has_documents types.items },
 }
 
 impl FullTable {
     ghost use Rattle.std.specs.Prelude.{◌≡◌, true, Ok, OnOk};
     ghost use Rattle.binlog_types.specs.ColumnTypes.{types_of};
     ghost use Rattle.binlog_json.specs.FullWritten.{key_part};
+    ghost use Rattle.binlog_json.specs.JsonNulls.{has_documents};
     ghost use Rattle.binlog_json.specs.LineBytes.{line_bytes};
 
     fn new(alloc: Global) -> FullTable {
@@ -46,6 +51,7 @@ impl FullTable {
             are_known: false,
             body: Vec::new(alloc),
             types: Vec::new(alloc),
+            has_json: false,
             key: Line::new(alloc),
         }
     }
@@ -61,12 +67,14 @@ impl FullTable {
     ) -> Result<(), AllocError>
         ensures types { OnOk result (self.new.types.items ≡ types_of map.now.sections) }
         ensures key { OnOk result (line_bytes self.new.key ≡ key_part map.now) }
+        ensures documents { OnOk result (self.new.has_json ≡ has_documents self.new.types.items) }
     {
         if self.are_known && map.spells(&self.body) {
             return Ok(());
         }
         self.are_known = false;
         self.types = types_of(alloc, map)?;
+        self.has_json = has_documents(&self.types);
         write_declared(&mut self.key, quoter, scratch, map, &self.types)?;
         self.body.clear();
         self.body.extend_from_slice(map.body())?;
@@ -91,7 +99,14 @@ fn write_declared(
     append_types(text, quoter, scratch, map, types)
 }
 
-/// Appends the types of all columns as an object.
+/// Whether one of these types is JSON.
+fn has_documents(types: &[ColumnType]) -> bool
+    ensures { result ≡ has_documents types.now }
+{
+    types.iter().any(|column_type| is_json(column_type.code))
+}
+
+/// Appends the types of all columns as an object, in the order of the table.
 fn append_types(
     out: &mut Line,
     quoter: &mut Quoter,
@@ -104,8 +119,10 @@ fn append_types(
 {
     out.push_str("{")?;
     let mut later = false;
-    for column in map.name_order() {
-        later = append_column_type(out, quoter, scratch, map, types, *column, later)?;
+    for column in 0..map.column_count() {
+        append_comma(out, later)?;
+        append_column_type(out, quoter, scratch, map, types, column)?;
+        later = true;
     }
     out.push_str("}")?;
     Ok(())
@@ -119,22 +136,16 @@ fn append_column_type(
     map: &TableMap,
     types: &[ColumnType],
     column: usize,
-    later: bool,
-) -> Result<bool, AllocError>
-    requires { types.now ≡ types_of map.now.sections }
-    ensures text { OnOk result (Gains out.old out.new (type_column_text later map.now column)) }
-    ensures later { IfOk result (TellsLater later (every_column map.now) column) }
+) -> Result<(), AllocError>
+    requires column { column < length map.now.columns }
+    requires types { types.now ≡ types_of map.now.sections }
+    ensures { OnOk result (Gains out.old out.new (type_member map.now column)) }
 {
-    if column >= map.column_count() {
-        return Ok(later);
-    }
-    append_comma(out, later)?;
     append_member_name(out, quoter, map.column_name(column))?;
     scratch.clear();
     let column_type = type_at(types, column);
     append_type(scratch, &column_type)?;
-    quoter.append(out, scratch.as_str())?;
-    Ok(true)
+    quoter.append(out, scratch.as_str())
 }
 
 /// Writes the member with the names of a key's columns in place of another.

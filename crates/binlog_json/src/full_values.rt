@@ -229,7 +229,7 @@ fn is_float(code: u8) -> bool
 }
 
 /// Whether it is the number of JSON.
-fn is_json(code: u8) -> bool
+pub(crate) fn is_json(code: u8) -> bool
     ensures { result ≡ is_json code }
 {
     code == 245

@@ -13,6 +13,7 @@ mod full_writer;
 mod gtid;
 mod image;
 mod index_laws;
+mod json_nulls;
 mod key;
 mod key_finder;
 mod key_index;

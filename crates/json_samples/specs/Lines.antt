@@ -1,7 +1,8 @@
 -- Lines of a change, plain and full, and the table maps that they need.
 use Prim.Native.String.{String}
 use Rattle.std.specs.Prelude.{◌≡◌, ℕ, pos, negsuc, List, [], ◌∷◌, Option, Some, None, Result, Ok, Err, codes}
-use Rattle.binlog_select.specs.declared.kind.ChangeKind.TheVariants.{Insert, Update}
+use Rattle.binlog_select.specs.declared.kind.ChangeKind.{ChangeKind}
+use Rattle.binlog_select.specs.declared.kind.ChangeKind.TheVariants.{Insert, Update, Delete}
 use Rattle.binlog_table.specs.Map.{Map, map_at, no_sections}
 use Rattle.binlog_table.specs.Rows.{Row}
 use Rattle.binlog_table.specs.Value.{Content}
@@ -50,7 +51,7 @@ year_change = record {
 abbrev pub LineWithYear : Type 0
 LineWithYear =
     Writes Full year_change
-    "{\"after\":{\"a\":4000000000,\"b\":4000000000,\"c\":-5,\"d\":200,\"y\":\"2024\"},\"before\":null,\"gtid\":\"c0c3abb2-e992-11f1-b861-02fc00000001:3\",\"key\":[],\"types\":{\"a\":\"int unsigned\",\"b\":\"int unsigned\",\"c\":\"bigint\",\"d\":\"tinyint unsigned\",\"y\":\"year\"},\"kind\":\"insert\",\"schema\":\"full\",\"table\":\"y\",\"timestamp\":1795695202,\"token\":\"573.1@binlog.000001\"}"
+    "{\"after\":{\"a\":4000000000,\"b\":4000000000,\"c\":-5,\"d\":200,\"y\":\"2024\"},\"before\":null,\"gtid\":\"c0c3abb2-e992-11f1-b861-02fc00000001:3\",\"key\":[],\"types\":{\"a\":\"int unsigned\",\"y\":\"year\",\"b\":\"int unsigned\",\"c\":\"bigint\",\"d\":\"tinyint unsigned\"},\"kind\":\"insert\",\"schema\":\"full\",\"table\":\"y\",\"timestamp\":1795695202,\"token\":\"573.1@binlog.000001\"}"
     × Writes Plain year_change
     "{\"after\":{\"a\":4000000000,\"b\":4000000000,\"c\":18446744073709551611,\"d\":-56,\"y\":\"2024\"},\"before\":null,\"gtid\":\"c0c3abb2-e992-11f1-b861-02fc00000001:3\",\"kind\":\"insert\",\"schema\":\"full\",\"table\":\"y\",\"timestamp\":1795695202,\"token\":\"573.1@binlog.000001\"}"
 
@@ -74,7 +75,7 @@ charsets_change = record {
 abbrev pub LineWithCharsets : Type 0
 LineWithCharsets =
     Writes Full charsets_change
-    "{\"after\":{\"a\":\"a\",\"b\":{\"base64\":\"AP8AAA==\"},\"bl\":{\"base64\":\"w6k=\"},\"g\":{\"base64\":\"1tA=\",\"charset\":\"gbk\"},\"id\":2,\"l\":\"é €\",\"tx\":\"Ã©\",\"u16\":\"é€\",\"u3\":\"é\",\"u8\":\"😀é\",\"vb\":{\"base64\":\"AP8A\"}},\"before\":null,\"gtid\":\"c0c3abb2-e992-11f1-b861-02fc00000001:5\",\"key\":[\"id\"],\"types\":{\"a\":\"varchar ascii\",\"b\":\"binary(4)\",\"bl\":\"blob\",\"g\":\"varchar gbk\",\"id\":\"int unsigned\",\"l\":\"varchar latin1\",\"tx\":\"text latin1\",\"u16\":\"varchar utf16\",\"u3\":\"varchar utf8mb3\",\"u8\":\"varchar utf8mb4\",\"vb\":\"varbinary(10)\"},\"kind\":\"insert\",\"schema\":\"full\",\"table\":\"t\",\"timestamp\":1795695203,\"token\":\"1367.2@binlog.000001\"}"
+    "{\"after\":{\"a\":\"a\",\"b\":{\"base64\":\"AP8AAA==\"},\"bl\":{\"base64\":\"w6k=\"},\"g\":{\"base64\":\"1tA=\",\"charset\":\"gbk\"},\"id\":2,\"l\":\"é €\",\"tx\":\"Ã©\",\"u16\":\"é€\",\"u3\":\"é\",\"u8\":\"😀é\",\"vb\":{\"base64\":\"AP8A\"}},\"before\":null,\"gtid\":\"c0c3abb2-e992-11f1-b861-02fc00000001:5\",\"key\":[\"id\"],\"types\":{\"id\":\"int unsigned\",\"l\":\"varchar latin1\",\"g\":\"varchar gbk\",\"u16\":\"varchar utf16\",\"u8\":\"varchar utf8mb4\",\"u3\":\"varchar utf8mb3\",\"a\":\"varchar ascii\",\"b\":\"binary(4)\",\"vb\":\"varbinary(10)\",\"bl\":\"blob\",\"tx\":\"text latin1\"},\"kind\":\"insert\",\"schema\":\"full\",\"table\":\"t\",\"timestamp\":1795695203,\"token\":\"1367.2@binlog.000001\"}"
     × Writes Plain charsets_change
     "{\"after\":{\"a\":\"a\",\"b\":{\"base64\":\"AP8=\"},\"bl\":\"é\",\"g\":{\"base64\":\"1tA=\"},\"id\":2,\"l\":{\"base64\":\"6SCA\"},\"tx\":\"é\",\"u16\":{\"base64\":\"AOkgrA==\"},\"u3\":\"é\",\"u8\":\"😀é\",\"vb\":{\"base64\":\"AP8A\"}},\"before\":null,\"gtid\":\"c0c3abb2-e992-11f1-b861-02fc00000001:5\",\"kind\":\"insert\",\"schema\":\"full\",\"table\":\"t\",\"timestamp\":1795695203,\"token\":\"1367.2@binlog.000001\"}"
 
@@ -103,11 +104,11 @@ keyed_update =
     keyed_change (Some (year 2024 ∷ uint 4294967291 ∷ bytes (hex "e9") ∷ bytes (hex "00 ff") ∷ int (negsuc 55) ∷ []))
     (Some (year 2025 ∷ absent ∷ absent ∷ absent ∷ null ∷ []))
 
--- `types` has the columns that an image lacks
+-- `types` has the columns that an image lacks, in the order of the table
 abbrev pub LineWithKey : Type 0
 LineWithKey =
     Writes Full keyed_update
-    "{\"after\":{\"n\":null,\"y\":\"2025\"},\"before\":{\"b\":{\"base64\":\"AP8AAA==\"},\"l\":\"é\",\"n\":200,\"v\":-5,\"y\":\"2024\"},\"gtid\":null,\"key\":[\"l\",\"v\",\"b\",\"y\"],\"types\":{\"b\":\"binary(4)\",\"l\":\"varchar latin1\",\"n\":\"tinyint unsigned\",\"v\":\"int\",\"y\":\"year\"},\"kind\":\"update\",\"schema\":\"s\",\"table\":\"t\",\"timestamp\":1,\"token\":\"4.7@binlog.000002\"}"
+    "{\"after\":{\"n\":null,\"y\":\"2025\"},\"before\":{\"b\":{\"base64\":\"AP8AAA==\"},\"l\":\"é\",\"n\":200,\"v\":-5,\"y\":\"2024\"},\"gtid\":null,\"key\":[\"l\",\"v\",\"b\",\"y\"],\"types\":{\"y\":\"year\",\"v\":\"int\",\"l\":\"varchar latin1\",\"b\":\"binary(4)\",\"n\":\"tinyint unsigned\"},\"kind\":\"update\",\"schema\":\"s\",\"table\":\"t\",\"timestamp\":1,\"token\":\"4.7@binlog.000002\"}"
     × Writes Plain keyed_update
     "{\"after\":{\"n\":null,\"y\":\"2025\"},\"before\":{\"b\":{\"base64\":\"AP8=\"},\"l\":{\"base64\":\"6Q==\"},\"n\":-56,\"v\":4294967291,\"y\":\"2024\"},\"gtid\":null,\"kind\":\"update\",\"schema\":\"s\",\"table\":\"t\",\"timestamp\":1,\"token\":\"4.7@binlog.000002\"}"
     × (Writes Full keyed_update "{}" → ⊥)
@@ -138,6 +139,69 @@ document_change = record {
 abbrev pub LineWithDocument : Type 0
 LineWithDocument =
     Writes Full document_change
-    "{\"after\":{\"d\":{\"raw\":\"AAEA\"},\"id\":1},\"before\":{\"d\":{\"a\":1},\"id\":1},\"gtid\":null,\"key\":[\"id\"],\"types\":{\"d\":\"json\",\"id\":\"int\"},\"kind\":\"update\",\"schema\":\"s\",\"table\":\"t\",\"timestamp\":1,\"token\":\"4.7@binlog.000002\"}"
+    "{\"after\":{\"d\":{\"raw\":\"AAEA\"},\"id\":1},\"before\":{\"d\":{\"a\":1},\"id\":1},\"gtid\":null,\"key\":[\"id\"],\"types\":{\"id\":\"int\",\"d\":\"json\"},\"kind\":\"update\",\"schema\":\"s\",\"table\":\"t\",\"timestamp\":1,\"token\":\"4.7@binlog.000002\"}"
     × Writes Plain document_change
     "{\"after\":{\"d\":{\"raw\":\"AAEA\"},\"id\":1},\"before\":{\"d\":{\"raw\":\"AAEADAALAAEABQEAYQ==\"},\"id\":1},\"gtid\":null,\"kind\":\"update\",\"schema\":\"s\",\"table\":\"t\",\"timestamp\":1,\"token\":\"4.7@binlog.000002\"}"
+
+-- ---- JSON nulls
+
+-- b JSON, a JSON, and id INT, the key
+abbrev pub nulls_body : List ℕ
+nulls_body = body_with "03 f5 f5 03 02 04 04 03 01 01 00 04 07 01 62 01 61 02 69 64 08 01 02"
+
+abbrev pub nulls_change : List ℕ → ChangeKind → Option (List Content) → Option (List Content) → RowChange
+nulls_change body kind before after = record {
+  file = codes "binlog.000002";
+  position = 4;
+  number = 7;
+  gtid = None;
+  kind = kind;
+  timestamp = 1;
+  table = table_in body;
+  row = record { before = before; after = after };
+}
+
+abbrev pub row_of : Content → Content → Option (List Content)
+row_of b a = Some (b ∷ a ∷ int (pos 1) ∷ [])
+
+-- the type of a literal, and the literal
+abbrev pub json_null : Content
+json_null = raw (hex "04 00")
+
+abbrev pub json_true : Content
+json_true = raw (hex "04 01")
+
+-- In both images: where one column has the JSON null, the other one is NULL. The types stand in the order of the table, the members of
+-- images in that of the names.
+abbrev pub NullsInBoth : Type 0
+NullsInBoth =
+    Writes Full (nulls_change nulls_body Update (row_of json_null null) (row_of null json_null))
+    "{\"after\":{\"a\":null,\"b\":null,\"id\":1},\"before\":{\"a\":null,\"b\":null,\"id\":1},\"gtid\":null,\"json_null\":[\"after.a\",\"before.b\"],\"key\":[\"id\"],\"types\":{\"b\":\"json\",\"a\":\"json\",\"id\":\"int\"},\"kind\":\"update\",\"schema\":\"s\",\"table\":\"t\",\"timestamp\":1,\"token\":\"4.7@binlog.000002\"}"
+    × Writes Plain (nulls_change nulls_body Update (row_of json_null null) (row_of null json_null))
+    "{\"after\":{\"a\":{\"raw\":\"BAA=\"},\"b\":null,\"id\":1},\"before\":{\"a\":null,\"b\":{\"raw\":\"BAA=\"},\"id\":1},\"gtid\":null,\"kind\":\"update\",\"schema\":\"s\",\"table\":\"t\",\"timestamp\":1,\"token\":\"4.7@binlog.000002\"}"
+
+-- In the new row alone: both columns have it, of which one has no bytes. The names stand in their own order.
+abbrev pub NullsInAfter : Type 0
+NullsInAfter =
+    Writes Full (nulls_change nulls_body Insert None (row_of json_null (raw [])))
+    "{\"after\":{\"a\":null,\"b\":null,\"id\":1},\"before\":null,\"gtid\":null,\"json_null\":[\"after.a\",\"after.b\"],\"key\":[\"id\"],\"types\":{\"b\":\"json\",\"a\":\"json\",\"id\":\"int\"},\"kind\":\"insert\",\"schema\":\"s\",\"table\":\"t\",\"timestamp\":1,\"token\":\"4.7@binlog.000002\"}"
+
+-- in the old row alone; bytes behind the literal are ignored
+abbrev pub NullsInBefore : Type 0
+NullsInBefore =
+    Writes Full (nulls_change nulls_body Delete (row_of (raw (hex "04 00 01")) json_true) None)
+    "{\"after\":null,\"before\":{\"a\":true,\"b\":null,\"id\":1},\"gtid\":null,\"json_null\":[\"before.b\"],\"key\":[\"id\"],\"types\":{\"b\":\"json\",\"a\":\"json\",\"id\":\"int\"},\"kind\":\"delete\",\"schema\":\"s\",\"table\":\"t\",\"timestamp\":1,\"token\":\"4.7@binlog.000002\"}"
+
+-- In none: NULL isn't it, nor are [null], a literal that is cut, true and a column that the image lacks. The line has no such member.
+abbrev pub NoNulls : Type 0
+NoNulls =
+    Writes Full (nulls_change nulls_body Update (row_of null (raw (hex "02 01 00 07 00 04 00 00"))) (row_of (raw (hex "04")) json_true))
+    "{\"after\":{\"a\":true,\"b\":{\"raw\":\"BA==\"},\"id\":1},\"before\":{\"a\":[null],\"b\":null,\"id\":1},\"gtid\":null,\"key\":[\"id\"],\"types\":{\"b\":\"json\",\"a\":\"json\",\"id\":\"int\"},\"kind\":\"update\",\"schema\":\"s\",\"table\":\"t\",\"timestamp\":1,\"token\":\"4.7@binlog.000002\"}"
+    × Writes Full (nulls_change nulls_body Update (row_of absent json_true) (row_of absent null))
+    "{\"after\":{\"a\":null,\"id\":1},\"before\":{\"a\":true,\"id\":1},\"gtid\":null,\"key\":[\"id\"],\"types\":{\"b\":\"json\",\"a\":\"json\",\"id\":\"int\"},\"kind\":\"update\",\"schema\":\"s\",\"table\":\"t\",\"timestamp\":1,\"token\":\"4.7@binlog.000002\"}"
+
+-- a column whose name needs an escape: q" JSON
+abbrev pub NullsEscaped : Type 0
+NullsEscaped =
+    Writes Full (nulls_change (body_with "01 f5 01 04 01 04 03 02 71 22") Insert None (Some (json_null ∷ [])))
+    "{\"after\":{\"q\\\"\":null},\"before\":null,\"gtid\":null,\"json_null\":[\"after.q\\\"\"],\"key\":[],\"types\":{\"q\\\"\":\"json\"},\"kind\":\"insert\",\"schema\":\"s\",\"table\":\"t\",\"timestamp\":1,\"token\":\"4.7@binlog.000002\"}"

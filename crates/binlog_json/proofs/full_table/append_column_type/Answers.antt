@@ -1,25 +1,15 @@
-use Rattle.std.proofs.Common.{◌≡◌, ◌∙◌, ap, sym, refl, append-nil, slice_index_or, List, arith}
+use Rattle.std.proofs.Common.{◌≡◌, ◌∙◌, ap, slice_index_or, List}
 use Rattle.binlog_types.specs.declared.column_type.ColumnType.{ColumnType}
 use Rattle.binlog_types.specs.ColumnTypes.{types_of}
 use Rattle.binlog_json.specs.LineBytes.{line_bytes}
 use Rattle.binlog_json.specs.FullValues.{unknown_type}
-use Rattle.binlog_json.proofs.TypeLists.{past_columns, within_columns, type_written}
+use Rattle.binlog_json.proofs.TypeLists.{type_written}
 use Rattle.binlog_json.proofs.full_table.append_column_type.Goals as goal
-
-pub returns-then-column-column_count : goal.returns-then-column-column_count
-returns-then-column-column_count c =
-    let count = c.column_count.ensures.names in
-    rw (past_columns c.args.map.now c.args.column (omega arith)) (record { text = sym (append-nil _); later = refl })
 
 pub returns : goal.returns
 returns c =
-    let count = c.column_count.ensures.names in
-    let within = within_columns c.args.map.now c.args.column (omega arith) in
     let declared : c.type_at-column_type.result ≡ slice_index_or (types_of c.args.map.now.sections) c.args.column unknown_type =
-    c.type_at-column_type.ensures ∙ ap (λ (ts : List ColumnType). slice_index_or ts c.args.column unknown_type) c.requires in
-    record {
-      text = type_written c.args.map.now c.args.column c.args.later (line_bytes c.args.out.now) (line_bytes c.append_comma.new.out) (line_bytes c.append_member_name.new.out) (line_bytes c.append.new.out)
-          c.column_name.result.now (line_bytes c.clear.new.self) (line_bytes c.append_type.new.out) c.as_str.result.now c.type_at-column_type.result within c.column_name.ensures c.clear.ensures.bytes declared
-          c.in_ok-append_comma.ensures c.in_ok-append_member_name.ensures c.in_ok-append_type.ensures c.as_str.ensures.value c.in_ok-append.ensures;
-      later = rw within refl;
-    }
+    c.type_at-column_type.ensures ∙ ap (λ (ts : List ColumnType). slice_index_or ts c.args.column unknown_type) c.requires.types in
+    type_written c.append.result c.args.map.now c.args.column (line_bytes c.args.out.now) (line_bytes c.append_member_name.new.out) (line_bytes c.append.new.out) c.column_name.result.now (line_bytes c.clear.new.self)
+    (line_bytes c.append_type.new.out) c.as_str.result.now c.type_at-column_type.result c.column_name.ensures c.clear.ensures.bytes declared c.in_ok-append_member_name.ensures c.in_ok-append_type.ensures c.as_str.ensures.value
+    c.append.ensures

@@ -9,4 +9,5 @@ returns-then-spells c =
     record {
       types = c.args.self.now.typed c.if-self.true c.args.map.now read;
       key = c.args.self.now.keyed c.if-self.true c.args.map.now read;
+      documents = c.args.self.now.documented c.if-self.true;
     }
