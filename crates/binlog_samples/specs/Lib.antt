@@ -7,6 +7,7 @@ pub mod Rows
 pub mod Maps
 pub mod Files
 pub mod Changes
+pub mod Commits
 pub mod Feeds
 pub mod Tokens
 pub mod Continuations

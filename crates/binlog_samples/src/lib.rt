@@ -1,6 +1,7 @@
 //! The definitions at work: what they say of bytes, files, tokens and faults whose meaning is known without them. Nothing runs here.
 #![tactic(auto, unfolding(crate::proofs::OnBytes::on_bytes))]
 
+mod commits;
 mod continuations;
 mod feeds;
 mod files;
@@ -15,6 +16,7 @@ mod tokens;
 mod values;
 mod words;
 
+pub use commits::sample_commits;
 pub use continuations::sample_continuations;
 pub use feeds::sample_feeds;
 pub use files::sample_files;

@@ -39,6 +39,7 @@ numbers tail cells = record {
   position = 4;
   number = 1;
   gtid = None;
+  committed = None;
   kind = Insert;
   timestamp = 1;
   table = table_in (body_with tail);

@@ -42,6 +42,7 @@ year_change = record {
   position = 573;
   number = 1;
   gtid = Some (source, 3);
+  committed = Some 1795695202123456;
   kind = Insert;
   timestamp = 1795695202;
   table = table_in behind_year;
@@ -51,7 +52,7 @@ year_change = record {
 abbrev pub LineWithYear : Type 0
 LineWithYear =
     Writes Full year_change
-    "{\"after\":{\"a\":4000000000,\"b\":4000000000,\"c\":-5,\"d\":200,\"y\":\"2024\"},\"before\":null,\"gtid\":\"c0c3abb2-e992-11f1-b861-02fc00000001:3\",\"key\":[],\"types\":{\"a\":\"int unsigned\",\"y\":\"year\",\"b\":\"int unsigned\",\"c\":\"bigint\",\"d\":\"tinyint unsigned\"},\"kind\":\"insert\",\"schema\":\"full\",\"table\":\"y\",\"timestamp\":1795695202,\"token\":\"573.1@binlog.000001\"}"
+    "{\"after\":{\"a\":4000000000,\"b\":4000000000,\"c\":-5,\"d\":200,\"y\":\"2024\"},\"before\":null,\"committed\":1795695202123456,\"gtid\":\"c0c3abb2-e992-11f1-b861-02fc00000001:3\",\"key\":[],\"types\":{\"a\":\"int unsigned\",\"y\":\"year\",\"b\":\"int unsigned\",\"c\":\"bigint\",\"d\":\"tinyint unsigned\"},\"kind\":\"insert\",\"schema\":\"full\",\"table\":\"y\",\"timestamp\":1795695202,\"token\":\"573.1@binlog.000001\"}"
     × Writes Plain year_change
     "{\"after\":{\"a\":4000000000,\"b\":4000000000,\"c\":18446744073709551611,\"d\":-56,\"y\":\"2024\"},\"before\":null,\"gtid\":\"c0c3abb2-e992-11f1-b861-02fc00000001:3\",\"kind\":\"insert\",\"schema\":\"full\",\"table\":\"y\",\"timestamp\":1795695202,\"token\":\"573.1@binlog.000001\"}"
 
@@ -64,6 +65,7 @@ charsets_change = record {
   position = 1367;
   number = 2;
   gtid = Some (source, 5);
+  committed = None;
   kind = Insert;
   timestamp = 1795695203;
   table = table_in charsets_of_each;
@@ -91,6 +93,7 @@ keyed_change before after = record {
   position = 4;
   number = 7;
   gtid = None;
+  committed = Some 1;
   kind = Update;
   timestamp = 1;
   table = table_in keyed_body;
@@ -108,7 +111,7 @@ keyed_update =
 abbrev pub LineWithKey : Type 0
 LineWithKey =
     Writes Full keyed_update
-    "{\"after\":{\"n\":null,\"y\":\"2025\"},\"before\":{\"b\":{\"base64\":\"AP8AAA==\"},\"l\":\"é\",\"n\":200,\"v\":-5,\"y\":\"2024\"},\"gtid\":null,\"key\":[\"l\",\"v\",\"b\",\"y\"],\"types\":{\"y\":\"year\",\"v\":\"int\",\"l\":\"varchar latin1\",\"b\":\"binary(4)\",\"n\":\"tinyint unsigned\"},\"kind\":\"update\",\"schema\":\"s\",\"table\":\"t\",\"timestamp\":1,\"token\":\"4.7@binlog.000002\"}"
+    "{\"after\":{\"n\":null,\"y\":\"2025\"},\"before\":{\"b\":{\"base64\":\"AP8AAA==\"},\"l\":\"é\",\"n\":200,\"v\":-5,\"y\":\"2024\"},\"committed\":1,\"gtid\":null,\"key\":[\"l\",\"v\",\"b\",\"y\"],\"types\":{\"y\":\"year\",\"v\":\"int\",\"l\":\"varchar latin1\",\"b\":\"binary(4)\",\"n\":\"tinyint unsigned\"},\"kind\":\"update\",\"schema\":\"s\",\"table\":\"t\",\"timestamp\":1,\"token\":\"4.7@binlog.000002\"}"
     × Writes Plain keyed_update
     "{\"after\":{\"n\":null,\"y\":\"2025\"},\"before\":{\"b\":{\"base64\":\"AP8=\"},\"l\":{\"base64\":\"6Q==\"},\"n\":-56,\"v\":4294967291,\"y\":\"2024\"},\"gtid\":null,\"kind\":\"update\",\"schema\":\"s\",\"table\":\"t\",\"timestamp\":1,\"token\":\"4.7@binlog.000002\"}"
     × (Writes Full keyed_update "{}" → ⊥)
@@ -126,6 +129,7 @@ document_change = record {
   position = 4;
   number = 7;
   gtid = None;
+  committed = None;
   kind = Update;
   timestamp = 1;
   table = table_in document_body;
@@ -155,6 +159,7 @@ nulls_change body kind before after = record {
   position = 4;
   number = 7;
   gtid = None;
+  committed = None;
   kind = kind;
   timestamp = 1;
   table = table_in body;
