@@ -2,11 +2,25 @@
 from __future__ import annotations
 
 from collections.abc import Iterator
+from typing import NamedTuple
 
-from binlogfeed import Place
+from binlogfeed import JSON_NULL, Place
+from binlogfeed.columns import Tables
 from binlogfeed.lines import Change, reader_of_lines
 from binlogfeed.values import Style
 from binlogfeed.watch import Watch
+
+
+class Source(NamedTuple):
+    """A schema in a server's logs, and how they are read."""
+
+    # An index, its folder, or a pattern.
+    logs: str
+    schema: str
+    program: str = "binlogfeed"
+    profile: str = "server"
+    # The columns of tables that have no names in the log.
+    tables: Tables = {}
 
 
 class Changes:
@@ -16,12 +30,12 @@ class Changes:
     place, which also holds where the token's file is gone, and it knows where a look ends.
     """
 
-    def __init__(self, logs: str, schema: str, place: Place, program: str) -> None:
-        """The changes of logs (an index, its folder, or a pattern) behind a place."""
-        command = [program, "read", "--follow", "--full", f"--only-schemas={schema}"]
-        self._watch = Watch(logs, command, place)
-        # Values stay as the line has them, but for bytes.
-        self._taken_apart = reader_of_lines(Style(raw=True), {})
+    def __init__(self, source: Source, place: Place) -> None:
+        """The changes behind a place."""
+        options = [f"--profile={source.profile}", f"--only-schemas={source.schema}"]
+        self._watch = Watch(source.logs, [source.program, "read", "--follow", "--full", *options], place)
+        # Values stay as the line has them, but for bytes and the JSON null.
+        self._taken_apart = reader_of_lines(Style(raw=True, json_null=JSON_NULL), {}, source.tables)
 
     def look(self) -> Iterator[tuple[Change, int]]:
         """The changes that are new by now, each with the length of its line. What ended the reading early is raised."""

@@ -6,7 +6,7 @@ import json
 from collections.abc import Callable
 from typing import Any, Optional, Union
 
-from binlogfeed import floats
+from binlogfeed import JSON_NULL, floats
 from binlogfeed.charsets import CODECS, to_text
 
 # A text of the log, bytes in a character set that the program doesn't read, or a number without a name.
@@ -224,7 +224,7 @@ def array(value: str) -> str:
 
 def json_text(document: Any) -> str:
     """The text of a JSON document. A number whose digits no float holds is their text."""
-    return json.dumps(document, ensure_ascii=False, default=str)
+    return "null" if document is JSON_NULL else json.dumps(document, ensure_ascii=False, default=str)
 
 
 def or_null(convert: Callable[[Any], Any]) -> Callable[[Any], Any]:

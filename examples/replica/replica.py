@@ -26,9 +26,11 @@ sys.path.insert(0, str(Path(__file__).resolve().parents[2] / "python"))
 
 from batches import Batcher  # noqa: E402
 from binlogfeed import BinlogfeedError, LogFault, Place  # noqa: E402
+from binlogfeed.columns import Tables, tables_of  # noqa: E402
+from binlogfeed.filters import add_profile  # noqa: E402
 from binlogfeed.lines import Change  # noqa: E402
 from binlogfeed.tokens import beginning  # noqa: E402
-from changes import Changes  # noqa: E402
+from changes import Changes, Source  # noqa: E402
 from postgres import Postgres  # noqa: E402
 from sqlite import Sqlite  # noqa: E402
 from targets import AwayError, MisfitError, ReplicaError, Target, WrongWordsError  # noqa: E402
@@ -48,16 +50,15 @@ ENDS = """exit status:
 class Replica:
     """A target that is kept as a schema's tables are."""
 
-    def __init__(self, target: Target, schema: str, logs: str, program: str, commit_every: int) -> None:
+    def __init__(self, target: Target, source: Source, commit_every: int) -> None:
         """A replica of what the logs have of a schema. A transaction of the target has so many of the log's."""
         self._target = target
-        self._source = logs, schema
-        self._program = program
+        self._source = source
         self._commit_every = commit_every
         self._batcher = Batcher(target)
         self._kept = target.place()
         self._place = Place.from_text(self._kept) if self._kept else Place()
-        self._changes = Changes(logs, schema, self._place, program)
+        self._changes = Changes(source, self._place)
         # The log's transaction that is being taken, the token of its last change, and how many are whole before it.
         self._transaction: str | None = None
         self._token = ""
@@ -101,7 +102,7 @@ class Replica:
         self._keep(self._changes.place)
         if self._changes.is_empty and not self._said_none:
             self._said_none = True
-            print(f"replica: no log matches {self._source[0]} yet", file=sys.stderr, flush=True)
+            print(f"replica: no log matches {self._source.logs} yet", file=sys.stderr, flush=True)
 
     def _take(self, change: Change, size: int) -> None:
         """Takes a change, and ends the transaction before it where it is of another."""
@@ -148,7 +149,7 @@ class Replica:
         self._transaction, self._whole = None, 0
         if self._target.place() != self._kept:
             raise AwayError("another process has moved the target on: start again")
-        self._changes = Changes(*self._source, self._place, self._program)
+        self._changes = Changes(self._source, self._place)
 
 
 def opened(words: str, schema: str, unfit: str = "error") -> Target:
@@ -159,6 +160,14 @@ def opened(words: str, schema: str, unfit: str = "error") -> Target:
     if kind in ("postgres", "psql", "psycopg"):
         return Postgres(rest, "" if kind == "postgres" else kind, schema, unfit == "null")
     raise WrongWordsError(f"no target: {words}")
+
+
+def given_columns(file: str | None) -> Tables:
+    """The columns that a file gives. Without their types a number of an ENUM or a SET would stand for its name."""
+    tables = tables_of(file)
+    if not all(table.types for table in tables.values()):
+        raise WrongWordsError(f"{file} has no COLUMN_TYPE, which the replica needs")
+    return tables
 
 
 def count(word: str) -> int:
@@ -177,6 +186,9 @@ def given_words() -> argparse.Namespace:
     parser.add_argument("schema", help="the schema whose tables are kept")
     parser.add_argument("logs", help="where the logs are")
     parser.add_argument("--program", default="binlogfeed", metavar="PATH", help="the program (binlogfeed)")
+    add_profile(parser)
+    columns = "the columns of tables that have no names in the log, as information_schema.columns has them"
+    parser.add_argument("--columns", metavar="FILE", help=columns)
     parser.add_argument("--follow", action="store_true", help="go on when the logs grow, until SIGTERM")
     parser.add_argument("--interval", type=float, default=1.0, metavar="SECONDS", help="how often to look for more (1)")
     every = "commit after so many of the log's transactions (1), and behind each look"
@@ -188,9 +200,10 @@ def given_words() -> argparse.Namespace:
 
 def keep_up(given: argparse.Namespace) -> None:
     """Keeps the replica until the logs end, or for ever."""
+    source = Source(given.logs, given.schema, given.program, given.profile, given_columns(given.columns))
     target = opened(given.target, given.schema, given.unfit)
     try:
-        replica = Replica(target, given.schema, given.logs, given.program, given.commit_every)
+        replica = Replica(target, source, given.commit_every)
         try:
             replica.catch_up()
             while given.follow:

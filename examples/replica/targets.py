@@ -6,6 +6,7 @@ from operator import itemgetter
 from typing import Any, NamedTuple
 
 from batches import Batch
+from binlogfeed.columns import are_numbered
 from binlogfeed.lines import Change
 from binlogfeed.values import Column
 from fitting import Converter, UnfitError, or_null
@@ -164,6 +165,9 @@ class Target:
             changed = f"the columns of {where} have changed at {change.token}"
             raise MisfitError(f"{changed}: before, it had {listed(met)}; {lists}")
         if {column.name for column in columns} != set(shape.types):
+            if are_numbered(columns):
+                unnamed = f"the log has no names for the columns of {where} at {change.token} (binlog_row_metadata=MINIMAL)"
+                raise MisfitError(f"{unnamed}: name them by --columns; {lists}")
             raise MisfitError(f"the columns of {where} at {change.token} aren't those of the target: {lists}")
         converters = {column.name: self.converter(column.type, shape.types[column.name]) for column in columns}
         if self._unfit_is_null:

@@ -21,6 +21,7 @@ from binlogfeed.events import (
 )
 from binlogfeed.faults import (
     BinlogfeedError,
+    ColumnsMismatch,
     ConversionFailed,
     FileFault,
     LogFault,
@@ -35,18 +36,20 @@ from binlogfeed.faults import (
 from binlogfeed.logs import Log, listed
 from binlogfeed.place import Place
 from binlogfeed.reader import BinLogStreamReader
-from binlogfeed.values import Column
+from binlogfeed.values import JSON_NULL, Column
 from binlogfeed.version import VERSION as __version__
 
 __all__ = [
     "BinLogStreamReader",
     "BinlogfeedError",
     "Column",
+    "ColumnsMismatch",
     "ConversionFailed",
     "DeleteRowsEvent",
     "Event",
     "FileFault",
     "GtidEvent",
+    "JSON_NULL",
     "Log",
     "LogFault",
     "LogLost",

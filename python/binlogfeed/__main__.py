@@ -11,7 +11,7 @@ from pathlib import Path
 from typing import Any
 
 from binlogfeed.faults import BinlogfeedError
-from binlogfeed.filters import add_filters, filter_words
+from binlogfeed.filters import add_filters, add_profile, filter_words
 from binlogfeed.follow import Follower
 from binlogfeed.summary.command import add_summary
 from binlogfeed.version import VERSION
@@ -51,15 +51,14 @@ def add_follow(commands: Any) -> None:
     parser.add_argument("--status", metavar="SECONDS", type=float, help="say on standard error how far it is, so often")
     parser.add_argument("--program", metavar="PATH", default="binlogfeed", help="the program (binlogfeed)")
     parser.add_argument("--full", action="store_true", help="print full lines")
+    add_profile(parser)
     add_filters(parser)
     parser.set_defaults(run=follow)
 
 
 def follow(given: argparse.Namespace) -> None:
     """Prints lines until something ends it, or the logs end."""
-    words = filter_words(given)
-    if given.full:
-        words.insert(0, "--full")
+    words = [*(["--full"] if given.full else []), f"--profile={given.profile}", *filter_words(given)]
     follower = Follower(given.logs, given.state, words, given.program)
     stopped = threading.Event()
     if given.once:

@@ -10,7 +10,7 @@ ROWS = frozenset(ROWS_EVENTS.values())
 EVENTS = ROWS | {GtidEvent, XidEvent, RotateEvent}
 
 CONNECTION = "files are read here, and no server is connected to: give the log files, or the server's folder, as first argument"
-METADATA = "names and types come from the log itself (binlog_row_metadata=FULL), and what has none ends the reading"
+METADATA = "names and types come from the log itself (binlog_row_metadata=FULL); where it has no names, `columns` gives them"
 # The arguments of python-mysql-replication that aren't here, and what there is in their place.
 NOT_HERE = {
     "connection_settings": CONNECTION,

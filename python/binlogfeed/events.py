@@ -25,18 +25,20 @@ class Packet(NamedTuple):
 class Event:
     """Something of a committed transaction."""
 
-    __slots__ = ("timestamp", "gtid", "token")
+    __slots__ = ("timestamp", "gtid", "token", "committed")
 
     # The server's number of the event's type.
     event_type = 0
 
-    def __init__(self, timestamp: int, gtid: Optional[str], token: str) -> None:
+    def __init__(self, timestamp: int, gtid: Optional[str], token: str, committed: Optional[int] = None) -> None:
         """An event of a transaction."""
         # The time in the log, in seconds since 1970.
         self.timestamp = timestamp
         self.gtid = gtid
         # The place: a reader with `resume=token` goes on behind it.
         self.token = token
+        # When the transaction was committed, in microseconds since 1970; None where the log doesn't say it.
+        self.committed = committed
 
     @property
     def packet(self) -> Packet:
@@ -70,7 +72,7 @@ class RowsEvent(Event):
 
     def __init__(self, change: Parts) -> None:
         """The event of a change."""
-        self._form, before, after, self.timestamp, self.gtid, self.token = change
+        self._form, before, after, self.timestamp, self.gtid, self.token, self.committed = change
         self.rows: list[dict[str, Any]] = [self._row(before, after)]
 
     @staticmethod
@@ -80,7 +82,7 @@ class RowsEvent(Event):
 
     def takes(self, change: Parts) -> bool:
         """Takes a change that stands behind those of the event, where it is one more row of the same. Answers whether it is."""
-        form, before, after, timestamp, _, token = change
+        form, before, after, timestamp, _, token, _ = change
         if (
             form is not self._form
             or timestamp != self.timestamp
@@ -104,7 +106,7 @@ class RowsEvent(Event):
 
     @property
     def columns(self) -> tuple[Column, ...]:
-        """The table's columns, in the order of their names' bytes, each with its name and type."""
+        """The table's columns, in its order, each with its name and type."""
         return self._form.columns
 
     @property
@@ -273,6 +275,11 @@ class Transaction:
     def gtid(self) -> Optional[str]:
         """The transaction's GTID."""
         return self.events[0].gtid
+
+    @property
+    def committed(self) -> Optional[int]:
+        """When it was committed, in microseconds since 1970; None where the log doesn't say it."""
+        return self.events[0].committed
 
     @property
     def token(self) -> str:

@@ -1,8 +1,9 @@
-"""The program's filters, as options of this package's commands."""
+"""The program's filters and its profile, as options of this package's commands."""
 from __future__ import annotations
 
 import argparse
 
+PROFILES = ("strict", "server")
 FILTERS = ("only-events", "only-tables", "ignored-tables", "only-schemas", "ignored-schemas", "auto-position")
 
 
@@ -11,6 +12,12 @@ def add_filters(parser: argparse.ArgumentParser) -> None:
     for name in FILTERS:
         metavar = "SET" if name == "auto-position" else "LIST"
         parser.add_argument(f"--{name}", metavar=metavar, help="that of `binlogfeed read`")
+
+
+def add_profile(parser: argparse.ArgumentParser) -> None:
+    """Gives a command the profile."""
+    told = "what is taken in: strict, or server, what servers write by default, too (server)"
+    parser.add_argument("--profile", choices=PROFILES, default="server", help=told)
 
 
 def filter_words(given: argparse.Namespace) -> list[str]:

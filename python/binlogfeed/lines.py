@@ -6,7 +6,8 @@ from collections.abc import Callable, Mapping
 from decimal import Decimal
 from typing import Any, NamedTuple, Optional
 
-from binlogfeed.faults import ConversionFailed, ProgramFailed
+from binlogfeed.columns import Fitted, Tables, fitted
+from binlogfeed.faults import ColumnsMismatch, ConversionFailed, ProgramFailed
 from binlogfeed.values import Column, Convert, Reading, Style, is_document, plain, reading_of
 
 # It takes a line apart somewhat faster.
@@ -32,8 +33,9 @@ exact_value_at = json.JSONDecoder(parse_float=number).scan_once
 
 
 Image = Optional[dict[str, Any]]
-# How long that is which stands before a line's first values.
+# How long that is which stands before a line's first values. Some lines have two members more there, of other initials.
 TO_AFTER, TO_BEFORE, TO_GTID, TO_TOKEN = map(len, ('{"after":', ',"before":', ',"gtid":', ',"token":'))
+TO_COMMITTED, TO_JSON_NULL, TO_INITIAL = map(len, (',"committed":', ',"json_null":', ',"'))
 # What stands before a line's key, and behind its table. In a text of JSON a bare quote ends the text, and behind the rows nothing but
 # the key is an array. So these stand there for the last time.
 KEY, TIMESTAMP = ',"key":[', ',"timestamp":'
@@ -55,18 +57,24 @@ class Step(NamedTuple):
 class Form:
     """What many lines say alike: the table with its key and columns, and the kind of the change; with what makes Python's values."""
 
-    __slots__ = ("kind", "schema", "table", "columns", "key", "has_documents", "always", "with_bytes")
+    __slots__ = ("kind", "schema", "table", "columns", "key", "names", "has_documents", "always", "with_bytes")
 
-    def __init__(self, said: str, style: Style, convert: Mapping[str, Convert]) -> None:
-        """The form of a part of a line. `convert` has the caller's own conversions."""
+    def __init__(self, said: str, style: Style, convert: Mapping[str, Convert], tables: Tables) -> None:
+        """The form of a part of a line. `convert` has the caller's own conversions, and `tables` the columns that it gives."""
         if not said.startswith(KEY):
             raise not_full()
         members = json.loads(f"{{{said[1:]}}}")
         self.kind: str = members["kind"]
         self.schema: str = members["schema"]
         self.table: str = members["table"]
-        self.columns = tuple(Column(name, type_) for name, type_ in members["types"].items())
-        self.key: tuple[str, ...] = tuple(members["key"])
+        told = Fitted(tuple(Column(name, type_) for name, type_ in members["types"].items()), tuple(members["key"]))
+        where = f"{self.schema}.{self.table}"
+        fit = fitted(tables[where], where, told.columns, told.key) if where in tables else told
+        # In the table's order, by the names that were given where the log has none.
+        self.columns = fit.columns
+        self.key: tuple[str, ...] = fit.key
+        # The names that a line has, each with that which was given.
+        self.names = fit.names
         # Documents may have numbers that no float holds.
         self.has_documents = any(map(is_document, self.columns))
         chosen: dict[str, Convert] = {}
@@ -76,11 +84,13 @@ class Form:
         # The steps for each line, and for one that has bytes.
         self.always: list[Step] = []
         self.with_bytes: list[Step] = []
-        for column in self.columns:
+        for name, column in zip(members["types"], self.columns):
             own = chosen.get(column.name)
             reading = reading_of(column, style) if own is None else self._own(own, column)
+            if name in fit.words:
+                reading = _behind(fit.words[name], reading)
             if reading is not None:
-                step = Step(column.name, reading.convert, reading.instead)
+                step = Step(name, reading.convert, reading.instead)
                 self.with_bytes.append(step)
                 if not reading.only_bytes:
                     self.always.append(step)
@@ -98,19 +108,19 @@ class Form:
         return Reading(converted, plain, only_bytes=False)
 
 
-# A change of a row, as its line has it, with Python's values: the form, the row before and after, the timestamp, the GTID and
-# the token. There is one for each line, and a tuple is made five times as fast as an object.
-Parts = tuple[Form, Image, Image, int, Optional[str], str]
+# A change of a row, as its line has it, with Python's values: the form, the row before and after, the timestamp, the GTID, the
+# token, and the time of the commit. There is one for each line, and a tuple is made five times as fast as an object.
+Parts = tuple[Form, Image, Image, int, Optional[str], str, Optional[int]]
 
 
 class Change:
     """A change's parts by their names, for who doesn't need them so fast."""
 
-    __slots__ = ("form", "before", "after", "timestamp", "gtid", "token")
+    __slots__ = ("form", "before", "after", "timestamp", "gtid", "token", "committed")
 
     def __init__(self, parts: Parts) -> None:
         """The change of these parts."""
-        self.form, self.before, self.after, self.timestamp, self.gtid, self.token = parts
+        self.form, self.before, self.after, self.timestamp, self.gtid, self.token, self.committed = parts
 
 
 def loads_exactly(text: bytes) -> Any:
@@ -125,28 +135,34 @@ def exact_images(text: str) -> tuple[Image, Image]:
     return after, before
 
 
-def reader_of_lines(style: Style, convert: Mapping[str, Convert]) -> Callable[[bytes], Parts]:
+def reader_of_lines(style: Style, convert: Mapping[str, Convert], tables: Tables | None = None) -> Callable[[bytes], Parts]:
     """What takes a line apart, with values in this style.
 
-    `convert` has the caller's own conversions, by `table.column` or `schema.table.column`.
+    `convert` has the caller's own conversions, by `table.column` or `schema.table.column`, and `tables` the columns that it gives.
     """
     forms: dict[str, Form] = {}
+    json_null = style.json_null
 
     def new_form(said: str) -> Form:
         """The form of a part of a line that wasn't met yet."""
         if len(forms) >= MOST_FORMS:
             forms.clear()
-        form = forms[said] = Form(said, style, convert)
+        form = forms[said] = Form(said, style, convert, tables or {})
         return form
 
     def taken_apart(line: bytes) -> Parts:
         """The parts of a line's change."""
+        committed = nulls = None
         try:
             if loads is None:
                 text = line.decode()
                 after, at = value_at(text, TO_AFTER)
                 before, at = value_at(text, at + TO_BEFORE)
+                if text[at + TO_INITIAL] == "c":
+                    committed, at = value_at(text, at + TO_COMMITTED)
                 gtid, at = value_at(text, at + TO_GTID)
+                if text[at + TO_INITIAL] == "j":
+                    nulls, at = value_at(text, at + TO_JSON_NULL)
                 behind = text.rindex(TIMESTAMP)
                 timestamp, end = value_at(text, behind + len(TIMESTAMP))
                 token, _ = value_at(text, end + TO_TOKEN)
@@ -162,7 +178,8 @@ def reader_of_lines(style: Style, convert: Mapping[str, Convert]) -> Callable[[b
                 members = (loads_exactly if form.has_documents else loads)(line[:key] + line[behind:])
                 after, before, gtid = members["after"], members["before"], members["gtid"]
                 timestamp, token = members["timestamp"], members["token"]
-        except (StopIteration, ValueError, KeyError) as error:
+                committed, nulls = members.get("committed"), members.get("json_null")
+        except (StopIteration, ValueError, LookupError) as error:
             raise not_full() from error
         steps = form.always if line.find(BYTES) < 0 else form.with_bytes
         if steps:
@@ -173,14 +190,44 @@ def reader_of_lines(style: Style, convert: Mapping[str, Convert]) -> Callable[[b
             except _RefusedError as refused:
                 cause = refused.__cause__
                 raise ConversionFailed(f"binlogfeed: {refused} at {token} can't be converted: {cause}") from cause
-        return form, before, after, timestamp, gtid, token
+        if nulls and json_null is not None:
+            for place in nulls:
+                image, _, column = place.partition(".")
+                (after if image == "after" else before)[column] = json_null
+        return form, before, after, timestamp, gtid, token, committed
 
-    return taken_apart
+    return with_names(taken_apart) if tables else taken_apart
+
+
+def with_names(taken_apart: Callable[[bytes], Parts]) -> Callable[[bytes], Parts]:
+    """What takes a line apart as this does, and gives rows the names that were given for their columns."""
+
+    def named(line: bytes) -> Parts:
+        """The parts of a line's change. Its rows are in the table's order then."""
+        try:
+            form, before, after, timestamp, gtid, token, committed = taken_apart(line)
+        except ColumnsMismatch as mismatch:
+            raise mismatch.at(json.loads(b"{" + line[line.rindex(TIMESTAMP_BYTES) + 1 :])["token"]) from None
+        names = form.names
+        if names:
+            before = before and {name: before[own] for own, name in names if own in before}
+            after = after and {name: after[own] for own, name in names if own in after}
+        return form, before, after, timestamp, gtid, token, committed
+
+    return named
 
 
 def not_full() -> ProgramFailed:
     """The error of a line that is no full line."""
     return ProgramFailed("binlogfeed: the program gives no full lines")
+
+
+def _behind(words: Convert, reading: Reading | None) -> Reading:
+    """How the values of an ENUM or a SET are read that has its names given: by these, and then as a line's own names are."""
+    if reading is None:
+        return Reading(words, words)
+    convert, instead, _ = reading
+    return Reading(lambda value: convert(words(value)), lambda value: instead(words(value)))
 
 
 class _RefusedError(Exception):

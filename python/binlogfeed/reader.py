@@ -10,6 +10,7 @@ from types import TracebackType
 from typing import Any, Generic, Optional, TypeVar, Union, cast, overload
 
 from binlogfeed.arguments import asked_events, refuse_others, words
+from binlogfeed.columns import GivenColumns, tables_of
 from binlogfeed.events import ROWS_EVENTS, Event, GtidEvent, RotateEvent, RowsEvent, Transaction, XidEvent, event_of
 from binlogfeed.faults import BinlogfeedError, LogFault, TokenRefused, WordsRefused
 from binlogfeed.lines import Parts, reader_of_lines
@@ -35,7 +36,12 @@ class BinLogStreamReader(Generic[Given]):
     has them one by one:
 
     - `files`: the log files, in the order in which the server wrote them; or a server's logs, by their index, the folder that
-      has one, or a pattern. The tables need `binlog_row_metadata=FULL`.
+      has one, or a pattern.
+    - `profile`: what is taken in. `server` takes what servers write by default, too: where tables have no names of columns in the
+      log (`binlog_row_metadata=MINIMAL`), these are `@1`, `@2`, and so on. `strict` refuses such a log.
+    - `columns`: the names of columns for such tables, as `{"shop.customer": ["id", "name"]}`; or a file with a server's answer of
+      `information_schema.columns`, which also tells their types, the names of ENUM and SET values, and the key. What doesn't fit
+      the log is a ColumnsMismatch.
     - `resume`: the token of the last event that was taken. The reader gives those behind it.
     - `together`: whether rows that stand together come in one event; else each row is an event.
     - `convert`: what makes another value of a column's, by `table.column` or `schema.table.column`. It is given the value as a
@@ -44,6 +50,7 @@ class BinLogStreamReader(Generic[Given]):
       has it, or bytes. Without it a date is None then, and a text or document stays bytes.
     - `naive_timestamps`: whether a TIMESTAMP, which is in UTC, has no time zone.
     - `raw_values`: whether values stay as a full line has them, but for bytes.
+    - `json_null`: what a JSON document is that is null, such as `JSON_NULL`. Without it that is None, as NULL is.
     - `program`: the program, by its path, or by its name: that installed with this package, or else PATH's.
     - `blocking`: whether the reader waits for more at the logs' end, and goes on when they grow. It looks each `interval`
       seconds.
@@ -75,6 +82,9 @@ class BinLogStreamReader(Generic[Given]):
         on_bad_value: OnBadValue | None = ...,
         naive_timestamps: bool = ...,
         raw_values: bool = ...,
+        json_null: Any = ...,
+        columns: GivenColumns | None = ...,
+        profile: str = ...,
         program: Path = ...,
         blocking: bool = ...,
         interval: float = ...,
@@ -104,6 +114,9 @@ class BinLogStreamReader(Generic[Given]):
         on_bad_value: OnBadValue | None = ...,
         naive_timestamps: bool = ...,
         raw_values: bool = ...,
+        json_null: Any = ...,
+        columns: GivenColumns | None = ...,
+        profile: str = ...,
         program: Path = ...,
         blocking: bool = ...,
         interval: float = ...,
@@ -132,6 +145,9 @@ class BinLogStreamReader(Generic[Given]):
         on_bad_value: OnBadValue | None = None,
         naive_timestamps: bool = False,
         raw_values: bool = False,
+        json_null: Any = None,
+        columns: GivenColumns | None = None,
+        profile: str = "server",
         program: Path = "binlogfeed",
         blocking: bool = False,
         interval: float = 0.1,
@@ -142,7 +158,7 @@ class BinLogStreamReader(Generic[Given]):
         self._files = _checked_files(files)
         self._asked = asked_events(only_events, ignored_events)
         filters = words(self._asked, only_tables, ignored_tables, only_schemas, ignored_schemas, auto_position)
-        self._command = [os.fspath(program), "read", "--full", *filters]
+        self._command = [os.fspath(program), "read", "--full", f"--profile={profile}", *filters]
         self._resume = resume
         self._start = _start(resume, resume_stream, log_file, log_pos)
         self._at_logs_end = resume_stream and log_file is None
@@ -153,7 +169,8 @@ class BinLogStreamReader(Generic[Given]):
         self._together = together
         self._blocking = blocking
         self._interval = interval
-        self._taken_apart = reader_of_lines(Style(raw_values, naive_timestamps, on_bad_value), dict(convert or {}))
+        style = Style(raw_values, naive_timestamps, on_bad_value, json_null)
+        self._taken_apart = reader_of_lines(style, dict(convert or {}), tables_of(columns))
         self._run: Union[Run, Watch, None] = None
         self._steps = self._read()
         # None but the classes that were asked for come.
@@ -286,7 +303,7 @@ class BinLogStreamReader(Generic[Given]):
             for line in block.split(b"\n")[:-1]:
                 change = taken_apart(line)
                 if end is not None or skip_to is not None:
-                    *_, timestamp, _, token = change
+                    timestamp, token = change[3], change[5]
                     if end is not None and token_parts(token).position >= end:
                         self.is_past_end_log_pos = True
                         return
@@ -326,7 +343,7 @@ class BinLogStreamReader(Generic[Given]):
         try:
             for event in rows:
                 if last is not None and (event is None or not are_of_one_transaction(last.token, event.token)):
-                    yield from self._if_asked(XidEvent(last.timestamp, last.gtid, last.token))
+                    yield from self._if_asked(XidEvent(last.timestamp, last.gtid, last.token, last.committed))
                     last = None
                 if event is None:
                     yield None
@@ -336,15 +353,15 @@ class BinLogStreamReader(Generic[Given]):
                     file = token_parts(place).file
                     yield from self._if_asked(RotateEvent(event.timestamp, None, place))
                 if last is None and event.gtid is not None:
-                    yield from self._if_asked(GtidEvent(event.timestamp, event.gtid, place))
+                    yield from self._if_asked(GtidEvent(event.timestamp, event.gtid, place, event.committed))
                 yield from self._if_asked(event)
                 last = event
         except LogFault as fault:
             if last is not None and _is_behind_transactions(fault):
-                yield from self._if_asked(XidEvent(last.timestamp, last.gtid, last.token))
+                yield from self._if_asked(XidEvent(last.timestamp, last.gtid, last.token, last.committed))
             raise
         if last is not None and not self._closed:
-            yield from self._if_asked(XidEvent(last.timestamp, last.gtid, last.token))
+            yield from self._if_asked(XidEvent(last.timestamp, last.gtid, last.token, last.committed))
 
     def _if_asked(self, event: Event) -> Iterator[Event]:
         """The event, where its class is asked for."""

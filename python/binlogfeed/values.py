@@ -30,6 +30,19 @@ class Column(NamedTuple):
     type: str
 
 
+class JsonNull:
+    """The JSON null, where a reader is asked to tell it from NULL. It is false, as None is."""
+
+    def __bool__(self) -> bool:
+        """False."""
+        return False
+
+    def __repr__(self) -> str:
+        """Its name in this package."""
+        return "JSON_NULL"
+
+
+JSON_NULL = JsonNull()
 Convert = Callable[[Any], Any]
 OnBadValue = Callable[[Column, Any], Any]
 
@@ -44,6 +57,8 @@ class Style:
     naive_timestamps: bool = False
     # What gives a value in the place of one that Python has none for.
     on_bad_value: Optional[OnBadValue] = None
+    # What stands for a document that is the JSON null. None stands for NULL, too.
+    json_null: Any = None
 
 
 class Reading(NamedTuple):

@@ -7,7 +7,7 @@ import sys
 from pathlib import Path
 from typing import Any
 
-from binlogfeed.filters import add_filters, filter_words
+from binlogfeed.filters import add_filters, add_profile, filter_words
 from binlogfeed.summary.reading import logs_of, summed_up
 from binlogfeed.summary.text import EIGHTHS, as_text
 
@@ -31,13 +31,14 @@ def add_summary(commands: Any) -> None:
     parser.add_argument("logs", metavar="LOGS", nargs="+", help="the logs, or where they are")
     parser.add_argument("--html", metavar="FILE", type=Path, help="write it as a page with pictures, too")
     parser.add_argument("--program", metavar="PATH", default="binlogfeed", help="the program (binlogfeed)")
+    add_profile(parser)
     add_filters(parser)
     parser.set_defaults(run=summary)
 
 
 def summary(given: argparse.Namespace) -> None:
     """Sums logs up, and raises what ended the reading early."""
-    found = summed_up(logs_of(given.logs), filter_words(given), given.program)
+    found = summed_up(logs_of(given.logs), filter_words(given), given.program, given.profile)
     text = as_text(found, max(LEAST_WIDTH, shutil.get_terminal_size((USUAL_WIDTH, 0)).columns))
     print(_writable(text), end="", flush=True)
     if given.html is not None:

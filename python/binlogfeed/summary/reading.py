@@ -90,14 +90,16 @@ def logs_of(words: Sequence[str]) -> list[Path]:
     return logs
 
 
-def summed_up(logs: Sequence[Path], filters: Sequence[str] = (), program: str = "binlogfeed") -> Summary:
-    """What happened in these logs. Changes are those that pass the filters, transactions and GTIDs are all.
+def summed_up(
+    logs: Sequence[Path], filters: Sequence[str] = (), program: str = "binlogfeed", profile: str = "server"
+) -> Summary:
+    """What happened in these logs, as a profile takes them in. Changes are those that pass the filters, transactions and GTIDs are all.
 
     Raises what ended the reading where nothing was read.
     """
     beside = Beside(lambda: _counted_units(logs, program))
     try:
-        changes, fault = _counted_changes(logs, filters, program)
+        changes, fault = _counted_changes(logs, [f"--profile={profile}", *filters], program)
         units, status, line = beside.result()
     finally:
         beside.end()
@@ -113,16 +115,16 @@ def summed_up(logs: Sequence[Path], filters: Sequence[str] = (), program: str = 
 
 
 def _counted_changes(
-    logs: Sequence[Path], filters: Sequence[str], program: str
+    logs: Sequence[Path], options: Sequence[str], program: str
 ) -> tuple[Changes, Optional[BinlogfeedError]]:
-    """The changes of logs, and what ended the reading early."""
+    """The changes of logs by options of `read`, and what ended the reading early."""
     changes, fault = Changes(), None
     workers: list[Worker[Block]] = []
     run = None
     try:
         for _ in range(_worker_count(logs)):
             workers.append(Worker(counted_block, workers))
-        run = Reading([program, "read", *filters, "--", *map(str, logs)])
+        run = Reading([program, "read", *options, "--", *map(str, logs)])
         with Progress(run.process, logs):
             for block in _counted_blocks(run, workers, changes.sizes):
                 changes.add(block)
