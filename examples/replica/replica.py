@@ -25,7 +25,7 @@ from types import FrameType
 sys.path.insert(0, str(Path(__file__).resolve().parents[2] / "python"))
 
 from batches import Batcher  # noqa: E402
-from binlogfeed import BinlogfeedError, LogFault, Place  # noqa: E402
+from binlogfeed import BinlogfeedError, ColumnsMismatch, LogFault, Place  # noqa: E402
 from binlogfeed.columns import Tables, tables_of  # noqa: E402
 from binlogfeed.filters import add_profile  # noqa: E402
 from binlogfeed.lines import Change  # noqa: E402
@@ -95,6 +95,10 @@ class Replica:
         except LogFault as fault:
             # A log's fault stands behind whole transactions, unless the file changed while it was read.
             if self._transaction and fault.what != "SourceChanged":
+                self._commit()
+            raise
+        except ColumnsMismatch as mismatch:
+            if self._transaction and self._transaction != beginning(mismatch.token):
                 self._commit()
             raise
         if self._transaction:

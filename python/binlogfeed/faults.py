@@ -84,19 +84,20 @@ class LogsGone(BinlogfeedError):
 class ColumnsMismatch(BinlogfeedError):
     """What a log says of a table doesn't fit the columns that were given for it: `in_log` against `given`, of `column` of `table`.
 
-    `column` is None where there are more or fewer columns.
+    `column` is None where there are more or fewer columns. `token` is that of the change where it was met.
     """
 
     status = 7
 
     def __init__(self, table: str, column: str | None, in_log: str, given: str, token: str = "") -> None:
-        """A mismatch, with both sides, and with the token of the change where it was met."""
+        """A mismatch, with both sides."""
         where = f"{table if column is None else f'{table}.{column}'}{token and f' at {token}'}"
         super().__init__(f"binlogfeed: {where}: {in_log} in the log, {given} in the columns that were given")
         self.table = table
         self.column = column
         self.in_log = in_log
         self.given = given
+        self.token = token
 
     def at(self, token: str) -> ColumnsMismatch:
         """The same, with a token."""

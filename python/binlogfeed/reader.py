@@ -12,7 +12,7 @@ from typing import Any, Generic, Optional, TypeVar, Union, cast, overload
 from binlogfeed.arguments import asked_events, refuse_others, words
 from binlogfeed.columns import GivenColumns, tables_of
 from binlogfeed.events import ROWS_EVENTS, Event, GtidEvent, RotateEvent, RowsEvent, Transaction, XidEvent, event_of
-from binlogfeed.faults import BinlogfeedError, LogFault, TokenRefused, WordsRefused
+from binlogfeed.faults import BinlogfeedError, ColumnsMismatch, LogFault, TokenRefused, WordsRefused
 from binlogfeed.lines import Parts, reader_of_lines
 from binlogfeed.logs import is_place_of_logs
 from binlogfeed.place import Place
@@ -218,8 +218,8 @@ class BinLogStreamReader(Generic[Given]):
                     events = []
                 if isinstance(event, RowsEvent):
                     events.append(event)
-        except LogFault as fault:
-            if events and _is_behind_transactions(fault):
+        except (LogFault, ColumnsMismatch) as error:
+            if events and _is_behind(error, events[0].token):
                 yield Transaction(events)
             raise
         if events and self._at_end:
@@ -356,8 +356,8 @@ class BinLogStreamReader(Generic[Given]):
                     yield from self._if_asked(GtidEvent(event.timestamp, event.gtid, place, event.committed))
                 yield from self._if_asked(event)
                 last = event
-        except LogFault as fault:
-            if last is not None and _is_behind_transactions(fault):
+        except (LogFault, ColumnsMismatch) as error:
+            if last is not None and _is_behind(error, last.token):
                 yield from self._if_asked(XidEvent(last.timestamp, last.gtid, last.token, last.committed))
             raise
         if last is not None and not self._closed:
@@ -402,6 +402,8 @@ def _with_start(paths: list[pathlib.Path], start: Place) -> list[pathlib.Path]:
     return paths
 
 
-def _is_behind_transactions(fault: LogFault) -> bool:
-    """Whether a log's fault stands behind whole transactions. It does, unless the file changed while it was read."""
-    return fault.what != "SourceChanged"
+def _is_behind(error: LogFault | ColumnsMismatch, token: str) -> bool:
+    """Whether an error stands behind the whole transaction of a token. A log's fault does, unless the file changed while it was read."""
+    if isinstance(error, ColumnsMismatch):
+        return not are_of_one_transaction(error.token, token)
+    return error.what != "SourceChanged"

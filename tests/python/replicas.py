@@ -14,6 +14,7 @@ from pathlib import Path
 
 import psql
 import replica
+from binlogfeed import JSON_NULL
 from support import BANK, PROGRAM, SHOP, TOP, FolderTest, bank_rows
 
 REPLICA = TOP / "examples/replica/replica.py"
@@ -101,7 +102,9 @@ def full_line(number, table, before, after, types, key=("id",)):
     """A full line of a change: the one with a number, which tells its transaction and its place there, as in (3, 1)."""
     transaction, place = number
     kind = "insert" if before is None else "delete" if after is None else "update"
-    told = {"after": after, "before": before, "gtid": None, "key": list(key), "types": dict(sorted(types.items()))}
+    nulls = [f"{name}.{column}" for name, row in (("after", after), ("before", before)) for column in row or () if row[column] is JSON_NULL]
+    after, before = ({column: None if it is JSON_NULL else it for column, it in row.items()} if row else row for row in (after, before))
+    told = {"after": after, "before": before, "gtid": None, **({"json_null": nulls} if nulls else {}), "key": list(key), "types": types}
     token = f"{100 * transaction}.{place}@binlog.000001"
     told.update({"kind": kind, "schema": "made", "table": table, "timestamp": 1700000000, "token": token})
     return json.dumps(told, ensure_ascii=False, separators=(",", ":"))

@@ -3,7 +3,7 @@ import json
 import subprocess
 from unittest import TestCase, mock, skipUnless
 
-from binlogfeed import ProgramFailed, lines
+from binlogfeed import JSON_NULL, ProgramFailed, lines
 from binlogfeed.lines import Change, reader_of_lines
 from binlogfeed.values import Style
 from support import BANK, PROGRAM, SHOP
@@ -11,14 +11,20 @@ from test_reader import LINE
 
 RAW = Style(raw=True)
 # A row whose columns are named as a line's members are, with values that look like what stands between these.
-NAMES = ("after", "before", "gtid", "key", "kind", "schema", "table", "timestamp", "token", "types")
-TRICKS = ('"', "\\", ',"key":[', '],"types":{', ',"timestamp":7', '","token":"9.9@f"}', '{"base64":""}', "\u2028\n", "\U0001f600", "")
+NAMES = ("after", "before", "committed", "gtid", "json_null", "key", "kind", "schema", "table", "timestamp", "token", "types")
+TRICKS = (
+    *('"', "\\", ',"committed":7,"gtid":null', ',"key":[', '],"types":{', ',"timestamp":7', '","token":"9.9@f"}', '{"base64":""}'),
+    *("\u2028\n", ',"json_null":["after.gtid"]', "\U0001f600", ""),
+)
 
 
-def tricky(token):
+def tricky(token, committed=None, nulls=None):
     """A line with such rows and columns, in UTF-8 as the program writes it."""
     row = dict(zip(NAMES, TRICKS))
-    members = {"after": row, "before": {**row, "key": None}, "gtid": "a-b:1", "key": ["key", ',"timestamp":'], "types": {}}
+    members = {"after": row, "before": {**row, "key": None}}
+    members |= {} if committed is None else {"committed": committed}
+    members |= {"gtid": "a-b:1"} | ({} if nulls is None else {"json_null": nulls})
+    members |= {"key": ["key", ',"timestamp":'], "types": {}}
     members["types"] = {name: "varchar utf8mb4" for name in NAMES}
     members |= {"kind": "update", "schema": ',"timestamp":', "table": '"', "timestamp": 5, "token": token}
     return json.dumps(members, ensure_ascii=False, separators=(",", ":")).encode()
@@ -40,7 +46,27 @@ class Taken:
                 self.assertEqual(getattr(change, name), members[name])
             for name in ("kind", "schema", "table"):
                 self.assertEqual(getattr(change.form, name), members[name])
-            self.assertEqual((list(change.form.key), dict(change.form.columns)), (members["key"], members["types"]))
+            self.assertEqual((list(change.form.key), list(change.form.columns)), (members["key"], list(members["types"].items())))
+
+    def test_commit_times(self):
+        """Lines have them or not, those of one table, too."""
+        taken_apart = reader_of_lines(RAW, {})
+        for nulls in (None, ["after.key"], ["before.,\"key\":["]):
+            for committed in (None, 1795332186123456, 0, 1):
+                change = Change(taken_apart(tricky("4.1@f", committed, nulls)))
+                self.assertEqual((change.committed, change.gtid, change.token), (committed, "a-b:1", "4.1@f"))
+
+    def test_json_nulls(self):
+        """Columns may be called as members are, and have points in their names."""
+        row = '{"id":1,"a":null,"x.y":null}'
+        for image in ("after", "before"):
+            line = (LINE % "4.1@f").replace('"after":{"id":1},"before":null', f'"after":{row},"before":{row}')
+            line = line.replace('"types":{"id":"int"}', '"types":{"id":"int","a":"json","x.y":"json"}').replace('"insert"', '"update"')
+            line = line.replace(',"key"', f',"json_null":["{image}.x.y"],"key"').encode()
+            for style, wanted in ((Style(json_null=JSON_NULL), JSON_NULL), (Style(raw=True, json_null=7), 7), (Style(), None)):
+                change = Change(reader_of_lines(style, {"t.x.y": str})(line))
+                self.assertEqual(getattr(change, image), {"id": 1, "a": None, "x.y": wanted})
+                self.assertEqual(getattr(change, "before" if image == "after" else "after"), {"id": 1, "a": None, "x.y": None})
 
     def test_bytes(self):
         """A row without bytes and one with them, of one table."""

@@ -12,11 +12,13 @@ from decimal import Decimal
 
 import logs
 from binlogfeed import (
+    JSON_NULL,
     BinLogStreamReader,
     BinlogfeedError,
     ConversionFailed,
     DeleteRowsEvent,
     FileFault,
+    GtidEvent,
     LogFault,
     LogsGone,
     OutOfMemory,
@@ -27,6 +29,7 @@ from binlogfeed import (
     UpdateRowsEvent,
     WordsRefused,
     WriteRowsEvent,
+    XidEvent,
     floats,
 )
 from binlogfeed.watch import Watch
@@ -115,6 +118,35 @@ class Events(FolderTest):
         finally:
             tracemalloc.stop()
         self.assertLess(peak, 1_000_000)
+
+
+class Members(FolderTest):
+    """Members that some lines have, and others don't."""
+
+    def events(self, members, row, **options):
+        """The events of two lines with these members, which are text behind a GTID, and such a row."""
+        line = (LINE % "4.%d@f").replace('"after":{"id":1}', f'"after":{row}').replace('"gtid":null', members)
+        line = line.replace('"types":{"id":"int"}', '"types":{"id":"int","doc":"json"}')
+        return list(BinLogStreamReader("f", program=self.stub(f"cat {self.put('lines', (line % 1 + chr(10) + line % 2 + chr(10)).encode())}"), **options))
+
+    def test_commit_times(self):
+        for members, wanted in (('"committed":1795332186123456,"gtid":"a:1"', 1795332186123456), ('"gtid":"a:1"', None)):
+            events = self.events(members, '{"id":1}', only_events=[WriteRowsEvent, GtidEvent, XidEvent])
+            self.assertEqual([(type(event), event.committed) for event in events], [(it, wanted) for it in (GtidEvent, WriteRowsEvent, XidEvent)])
+            self.assertEqual(len(events[1].rows), 2)
+            (transaction,) = BinLogStreamReader("f", program=str(self.folder / "stub")).transactions()
+            self.assertEqual(transaction.committed, wanted)
+
+    def test_json_nulls(self):
+        """Without an argument they are None, as in python-mysql-replication."""
+        members = '"gtid":null,"json_null":["after.doc"]'
+        for options, wanted in (({}, None), ({"json_null": JSON_NULL}, JSON_NULL), ({"json_null": "null", "raw_values": True}, "null")):
+            (event,) = self.events(members, '{"doc":null,"id":1}', **options)
+            self.assertEqual([row["values"] for row in event.rows], [{"doc": wanted, "id": 1}] * 2)
+        (event,) = self.events('"gtid":null', '{"doc":null,"id":1}', json_null=JSON_NULL)
+        self.assertIsNone(event.rows[0]["values"]["doc"])
+        self.assertFalse(JSON_NULL)
+        self.assertEqual(repr(JSON_NULL), "JSON_NULL")
 
 
 class Together(FolderTest):

@@ -12,6 +12,7 @@ from unittest import mock
 import fitting
 import postgres
 import replica
+from binlogfeed import JSON_NULL
 from built.truth import TRUTH, declared_types, server_truth
 from replicas import HAS_POSTGRES, LinesTest, PostgresServer, SqliteFiles, ended, full_line, python_with_psycopg
 
@@ -234,7 +235,8 @@ class Columns(LinesTest):
         """What is right is put in at once, and not taken back to be put in one by one."""
         lines, table, wanted = self.all_lines()
         target = self.server.made(table)
-        given = argparse.Namespace(target=target, schema="made", **self.told(lines), follow=False, commit_every=9, unfit="error")
+        options = {"profile": "server", "columns": None, "follow": False, "commit_every": 9, "unfit": "error"}
+        given = argparse.Namespace(target=target, schema="made", **self.told(lines), **options)
         with mock.patch.object(postgres.Postgres, "rollback", side_effect=AssertionError):
             replica.keep_up(given)
         self.assertEqual(self.rows(target), wanted)
@@ -254,6 +256,18 @@ class Columns(LinesTest):
                 self.assertEqual(self.rows(target), [])
                 self.assertEqual(ended(target, "made", "--unfit", "null", **told), (0, ""))
                 self.assertEqual(self.rows(target), [{"id": 1, "v": None}, {"id": 2, "v": None}])
+
+    def test_json_null(self):
+        """The JSON null is a document, and no NULL: by one row, and by many."""
+        rows = [{"id": n, "d": JSON_NULL if n % 2 else None} for n in range(1, 80)]
+        types = {"id": "int", "d": "json"}
+        lines = [full_line((1, 1), "t", None, {"id": 0, "d": JSON_NULL}, types)]
+        lines += [full_line((2, row["id"]), "t", None, row, types) for row in rows]
+        for kind in ("jsonb", "json", "text"):
+            target = self.server.made(f"CREATE TABLE t (id integer PRIMARY KEY, d {kind})")
+            self.assertEqual(ended(target, "made", **self.told(lines)), (0, ""))
+            found = self.server.asked(target, "SELECT coalesce(d::text, 'NULL') FROM t ORDER BY id")
+            self.assertEqual(found, ["null", *["null" if row["d"] is JSON_NULL else "NULL" for row in rows]])
 
     def test_refused_by_the_server(self):
         """What PostgreSQL itself refuses ends the run, also with --unfit null: the server has no NULL for it."""
@@ -281,6 +295,20 @@ class Fitting(LinesTest):
             target = files.made("CREATE TABLE t (id INTEGER PRIMARY KEY, v TEXT)")
             self.assertEqual(ended(target, "made", **told), (0, ""))
             self.assertEqual(files.asked(target, "SELECT v FROM t"), [{"v": str(value)}])
+
+    def test_json_nulls(self):
+        """The JSON null is a document, and no NULL; so where an update goes from one to the other."""
+        types = {"id": "int", "d": "json"}
+        rows = [{"id": 1, "d": JSON_NULL}, {"id": 2, "d": None}, {"id": 3, "d": {"a": None}}]
+        lines = [full_line((1, row["id"]), "t", None, row, types) for row in rows]
+        lines += [full_line((2, 1), "t", {"id": 3, "d": {"a": None}}, {"id": 3, "d": JSON_NULL}, types)]
+        lines += [full_line((3, 1), "t", None, {"id": 4, "d": JSON_NULL}, types), full_line((3, 2), "t", {"id": 4, "d": JSON_NULL}, {"id": 4, "d": None}, types)]
+        wanted = [{"id": 1, "d": "null"}, {"id": 2, "d": None}, {"id": 3, "d": "null"}, {"id": 4, "d": None}]
+        files = SqliteFiles()
+        self.addCleanup(files.stop)
+        target = files.made("CREATE TABLE t (id INTEGER PRIMARY KEY, d TEXT)")
+        self.assertEqual(ended(target, "made", **self.told(lines)), (0, ""))
+        self.assertEqual(files.asked(target, "SELECT * FROM t ORDER BY id"), wanted)
 
     def test_affinity(self):
         """As SQLite itself says it."""
