@@ -1,7 +1,7 @@
 """Python's codecs for MySQL's character sets.
 
-A full line has text in Unicode and in latin1 as a string. It has other text as bytes, with the name of the set. Of some sets Python
-has no codec: armscii8, dec8, geostd8, hp8, keybcs2 and swe7.
+A full line has text as a string where the program reads its character set. It has other text as bytes, with the name of the set. Of
+some sets Python has no codec: armscii8, dec8, geostd8, hp8, keybcs2 and swe7.
 """
 from __future__ import annotations
 

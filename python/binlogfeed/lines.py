@@ -33,9 +33,12 @@ exact_value_at = json.JSONDecoder(parse_float=number).scan_once
 
 
 Image = Optional[dict[str, Any]]
-# How long that is which stands before a line's first values. Some lines have two members more there, of other initials.
+# How long that is which stands before a line's first values, and before two that some lines have.
 TO_AFTER, TO_BEFORE, TO_GTID, TO_TOKEN = map(len, ('{"after":', ',"before":', ',"gtid":', ',"token":'))
-TO_COMMITTED, TO_JSON_NULL, TO_INITIAL = map(len, (',"committed":', ',"json_null":', ',"'))
+JSON_NULL = ',"json_null":'
+TO_COMMITTED, TO_JSON_NULL, TO_INITIAL = map(len, (',"committed":', JSON_NULL, ',"'))
+# How many members each line has, without those of its form.
+ALWAYS = 5
 # What stands before a line's key, and behind its table. In a text of JSON a bare quote ends the text, and behind the rows nothing but
 # the key is an array. So these stand there for the last time.
 KEY, TIMESTAMP = ',"key":[', ',"timestamp":'
@@ -161,13 +164,18 @@ def reader_of_lines(style: Style, convert: Mapping[str, Convert], tables: Tables
                 if text[at + TO_INITIAL] == "c":
                     committed, at = value_at(text, at + TO_COMMITTED)
                 gtid, at = value_at(text, at + TO_GTID)
-                if text[at + TO_INITIAL] == "j":
-                    nulls, at = value_at(text, at + TO_JSON_NULL)
                 behind = text.rindex(TIMESTAMP)
                 timestamp, end = value_at(text, behind + len(TIMESTAMP))
-                token, _ = value_at(text, end + TO_TOKEN)
+                token = text[end + TO_TOKEN + 1 : -2]
+                if "\\" in token:
+                    token, _ = value_at(text, end + TO_TOKEN)
                 said = text[at:behind]
-                form = forms.get(said) or new_form(said)
+                form = forms.get(said)
+                if form is None:
+                    if said.startswith(JSON_NULL):
+                        nulls, at = value_at(text, at + TO_JSON_NULL)
+                        said = text[at:behind]
+                    form = forms.get(said) or new_form(said)
                 if form.has_documents:
                     after, before = exact_images(text)
             else:
@@ -178,10 +186,11 @@ def reader_of_lines(style: Style, convert: Mapping[str, Convert], tables: Tables
                 members = (loads_exactly if form.has_documents else loads)(line[:key] + line[behind:])
                 after, before, gtid = members["after"], members["before"], members["gtid"]
                 timestamp, token = members["timestamp"], members["token"]
-                committed, nulls = members.get("committed"), members.get("json_null")
+                if len(members) > ALWAYS:
+                    committed, nulls = members.get("committed"), members.get("json_null")
         except (StopIteration, ValueError, LookupError) as error:
             raise not_full() from error
-        steps = form.always if line.find(BYTES) < 0 else form.with_bytes
+        steps = form.with_bytes if BYTES in line else form.always
         if steps:
             try:
                 for values in (before, after):
