@@ -125,11 +125,11 @@ def fitted(given: Table, table: str, columns: tuple[Column, ...], key: tuple[str
         raise ColumnsMismatch(table, None, _counted([column.type for column in columns]), _counted(given.names))
     has_names = not are_numbered(columns)
     names = tuple(column.name for column in columns) if has_names else given.names
-    for column, other in zip(sorted(names), sorted(given.names)):
+    for own, other in zip(sorted(names), sorted(given.names)):
         # The order may be another: the log's names are those of its own columns.
-        if column != other:
+        if own != other:
             in_log = f"the columns {', '.join(names)}"
-            raise ColumnsMismatch(table, min(column, other), in_log, f"the columns {', '.join(given.names)}")
+            raise ColumnsMismatch(table, min(own, other), in_log, f"the columns {', '.join(given.names)}")
     types = dict(zip(given.names, given.types))
     for name, column in zip(names, columns):
         if name in types and not is_type(column.type, types[name]):
