@@ -143,14 +143,15 @@ def reader_of_lines(style: Style, convert: Mapping[str, Convert], tables: Tables
 
     `convert` has the caller's own conversions, by `table.column` or `schema.table.column`, and `tables` the columns that it gives.
     """
-    forms: dict[str, Form] = {}
+    forms: dict[str | bytes, Form] = {}
     json_null = style.json_null
 
-    def new_form(said: str) -> Form:
+    def new_form(said: str | bytes) -> Form:
         """The form of a part of a line that wasn't met yet."""
         if len(forms) >= MOST_FORMS:
             forms.clear()
-        form = forms[said] = Form(said, style, convert, tables or {})
+        text = said if isinstance(said, str) else said.decode()
+        form = forms[said] = Form(text, style, convert, tables or {})
         return form
 
     def taken_apart(line: bytes) -> Parts:
@@ -181,8 +182,7 @@ def reader_of_lines(style: Style, convert: Mapping[str, Convert], tables: Tables
             else:
                 behind = line.rindex(TIMESTAMP_BYTES)
                 key = line.rindex(KEY_BYTES, 0, behind)
-                said = line[key:behind].decode()
-                form = forms.get(said) or new_form(said)
+                form = forms.get(line[key:behind]) or new_form(line[key:behind])
                 members = (loads_exactly if form.has_documents else loads)(line[:key] + line[behind:])
                 after, before, gtid = members["after"], members["before"], members["gtid"]
                 timestamp, token = members["timestamp"], members["token"]
@@ -190,7 +190,7 @@ def reader_of_lines(style: Style, convert: Mapping[str, Convert], tables: Tables
                     committed, nulls = members.get("committed"), members.get("json_null")
         except (StopIteration, ValueError, LookupError) as error:
             raise not_full() from error
-        steps = form.with_bytes if BYTES in line else form.always
+        steps = form.always if line.find(BYTES) < 0 else form.with_bytes
         if steps:
             try:
                 for values in (before, after):
