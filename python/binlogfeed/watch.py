@@ -103,7 +103,8 @@ class Watch:
     def skip(self) -> None:
         """Passes over what is whole in the logs by now: the looks give what comes later alone."""
         for last in self._found(only_last=True):
-            self._skipping = Run([self._command[0], "transactions", "--", last.path])
+            profile = [word for word in self._command if os.fspath(word).startswith("--profile=")]
+            self._skipping = Run([self._command[0], "transactions", *profile, "--", last.path])
             if self._closed:  # by another thread, which saw no run yet
                 self._skipping.end()
             end = _last_end(self._skipping.blocks())

@@ -23,6 +23,11 @@ WORDS = {5: {2: "b"}, 6: {3: "x,y"}}
 KEYS = {"t": ("id",), "n": (), "gi": ("my_row_id",), "geo": ("id",)}
 # What mysqlbinlog doesn't print, since it gives up at a GEOMETRY: the points that the statements put in, as the server tells them.
 POINTS = {1: None, 2: bytes.fromhex("000000000101000000000000000000F03F0000000000000040")}
+# The commit's time in each GTID event, as its seven bytes stand in the log behind the logical clock, by the GTID's number.
+COMMITTED = {
+    3: "44a42b8bd76006", 4: "bca92b8bd76006", 5: "96b92b8bd76006", 7: "7d672c8bd76006", 9: "18042d8bd76006", 11: "1b902d8bd76006",
+    12: "f09d2d8bd76006",
+}  # fmt: skip
 UNSIGNED = ["INT", "LONGINT"]
 SIGNED = {("gi", 2), ("geo", 1)}
 # The replica's tables, by the names of the server's and by the numbers of the columns.
@@ -109,6 +114,11 @@ class Minimal(FolderTest):
         events = self.events()
         self.judged(events, lambda table, row: {f"@{number}": value for number, value in row.items()})
         self.assertEqual({event.primary_key for event in events}, {""})
+
+    def test_commit_times(self):
+        for event in self.events():
+            told = bytes.fromhex(COMMITTED[int(event.gtid.rpartition(":")[2])])
+            self.assertEqual(event.committed, int.from_bytes(told, "little"))
 
     def test_strict(self):
         with self.assertRaises(LogFault) as caught:

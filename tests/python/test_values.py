@@ -287,5 +287,7 @@ class Lines(FolderTest):
         events = {event.table: event for event in BinLogStreamReader(SHOP, program=PROGRAM)}
         self.assertEqual(events["line"].primary_key, ("purchase", "nr"))
         self.assertEqual((events["product"].primary_key, events["product"].key), ("sku", ("sku",)))
-        self.assertEqual(events["product"].columns[0], Column("price", "decimal(8,2)"))
+        # In the table's order.
+        self.assertEqual([column.name for column in events["product"].columns], ["sku", "title", "price", "tags", "weight"])
+        self.assertEqual(events["product"].columns[2], Column("price", "decimal(8,2)"))
         self.assertEqual(dict(events["purchase"].columns)["paid"], "timestamp")

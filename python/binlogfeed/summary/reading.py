@@ -97,9 +97,10 @@ def summed_up(
 
     Raises what ended the reading where nothing was read.
     """
-    beside = Beside(lambda: _counted_units(logs, program))
+    by = f"--profile={profile}"
+    beside = Beside(lambda: _counted_units(logs, program, by))
     try:
-        changes, fault = _counted_changes(logs, [f"--profile={profile}", *filters], program)
+        changes, fault = _counted_changes(logs, [by, *filters], program)
         units, status, line = beside.result()
     finally:
         beside.end()
@@ -107,7 +108,7 @@ def summed_up(
         fault = told(line, status)
     elif fault is not None and line != fault.line:
         # The other run didn't see it: it looks at no row.
-        units, _, _ = _counted_units(logs, program, _limit(fault, changes))
+        units, _, _ = _counted_units(logs, program, by, _limit(fault, changes))
     if fault is not None and not isinstance(fault, LogFault) and not (changes.total or units.endings):
         raise fault
     size = sum(log.stat().st_size for log in logs if log.exists())
@@ -168,10 +169,10 @@ def _counted_blocks(run: Reading, workers: Sequence[Worker[Block]], sizes: Sizes
         raise fault
 
 
-def _counted_units(logs: Sequence[Path], program: str, limit: Optional[Limit] = None) -> tuple[Units, int, str]:
-    """The transactions of logs up to a limit, and the status and the line of what ended the reading early."""
+def _counted_units(logs: Sequence[Path], program: str, by: str, limit: Optional[Limit] = None) -> tuple[Units, int, str]:
+    """The transactions of logs by a profile up to a limit, and the status and the line of what ended the reading early."""
     units, order = Units(), {log.name: number for number, log in enumerate(logs)}
-    run = Reading([program, "transactions", "--", *map(str, logs)])
+    run = Reading([program, "transactions", by, "--", *map(str, logs)])
     try:
         for lines in run.large_blocks():
             if limit is not None and limit.file in order:
