@@ -1,0 +1,231 @@
+"""The profile of servers: a real log whose table maps have no names of columns, and logs that both profiles read alike."""
+from __future__ import annotations
+
+import base64
+import json
+import re
+from functools import partial
+from pathlib import Path
+
+from built.check import Check, Outcome, Wanted, differs, run, said
+from built.growing import Driver
+from built.server_logs import BANK, SHOP, logs_of
+
+MINIMAL = Path(__file__).resolve().parents[1] / "minimal"
+[LOG] = logs_of(MINIMAL)
+SERVER = ("--profile", "server")
+# Where its first table map stands, and its first transaction with rows.
+FIRST_MAP, FIRST_CHANGE = 797, 654
+
+Value = object
+Image = "dict[str, Value] | None"
+
+
+def told_lines(name: str) -> list[dict]:
+    """The objects of a file of the log's folder, one a line."""
+    return [json.loads(line) for line in (MINIMAL / name).read_text(encoding="utf-8").splitlines()]
+
+
+def columns() -> dict[tuple[str, int], dict]:
+    """What the server said of each column, by its table and its number."""
+    return {(table["table"], column["n"]): column for table in told_lines("state.jsonl") for column in table["columns"]}
+
+
+def base64_of(content: bytes) -> dict:
+    """Bytes that aren't given as a text."""
+    return {"base64": base64.b64encode(content).decode()}
+
+
+def text_of(content: bytes, charset: str, full: bool) -> Value:
+    """A text of a column, or its bytes. A plain line goes by UTF-8 alone."""
+    if full:
+        return content.decode({"utf8mb4": "utf-8", "latin1": "cp1252"}[charset]) if charset else base64_of(content)
+    try:
+        return content.decode()
+    except UnicodeDecodeError:
+        return base64_of(content)
+
+
+def value_of(printed: dict, column: dict, full: bool) -> Value:
+    """The value that mysqlbinlog printed of a column, as a line has it."""
+    text, shown = printed["t"], printed["ty"].partition("(")[0]
+    if text == "NULL":
+        return None
+    if shown in ("INT", "LONGINT"):
+        signed, unsigned = re.fullmatch(r"(-?\d+)(?: \((\d+)\))?", text).groups()
+        return int(unsigned or signed) if "unsigned" in column["type"] else int(signed)
+    if shown in ("VARSTRING", "BLOB/TEXT"):
+        return text_of(bytes.fromhex(printed["x"]), column["charset"], full)
+    return {"YEAR": str, "ENUM": int, "SET": lambda bits: int(bits[2:-1], 2)}[shown](text)
+
+
+def image_of(change: dict, side: str, full: bool) -> Image:
+    """An image of a change, by the numbers of its columns, as far as mysqlbinlog printed it."""
+    if side not in change:
+        return None
+    known = columns()
+    return {f"@{one['c']}": value_of(one, known[change["table"], one["c"]], full) for one in change[side]}
+
+
+def unlike_image(came: Image, wanted: Image, incomplete: bool) -> bool:
+    """Whether an image isn't the one that was printed. Of one that mysqlbinlog gave up at, the first columns count."""
+    if came is None or wanted is None:
+        return came is not wanted
+    return list(came)[: len(wanted)] != list(wanted) or (not incomplete and len(came) != len(wanted)) or any(
+        (came[name], type(came[name])) != (value, type(value)) for name, value in wanted.items()
+    )  # fmt: skip
+
+
+def unlike(line: dict, change: dict, full: bool) -> list[str]:
+    """What a line tells otherwise than mysqlbinlog printed it."""
+    reasons = [f"{name} is {line[name]}" for name in ("gtid", "kind", "schema", "table") if line[name] != change[name]]
+    for side in ("before", "after"):
+        if unlike_image(line[side], image_of(change, side, full), change.get("incomplete", False)):
+            reasons.append(f"{side} is {line[side]}")
+    if full:
+        reasons += [] if line["key"] == [] else [f"the key is {line['key']}"]
+    return [f"change {change['n']}: {reason}" for reason in reasons]
+
+
+def judge_values(words: tuple[str, ...], program: Path, folder: Path) -> list[str]:
+    """Each change is as mysqlbinlog printed it, column by column."""
+    came = run(program, ["read", *words, *SERVER, LOG], folder)
+    lines, wanted = [json.loads(line) for line in came.stdout.splitlines()], told_lines("expected.jsonl")
+    reasons = differs(came, Wanted(0, None))
+    if len(lines) != len(wanted):
+        return [*reasons, f"{len(lines)} lines, wanted {len(wanted)}"]
+    return reasons + [reason for line, change in zip(lines, wanted) for reason in unlike(line, change, "--full" in words)]
+
+
+def stored(text: str | None, column: dict) -> Value:
+    """A value as a full line has it, by what the server told of the table at the end."""
+    shown = column["type"].partition("(")[0].partition(" ")[0]
+    if text is None or shown == "year":
+        return text
+    if shown in ("int", "bigint"):
+        return int(text)
+    if shown in ("enum", "set"):
+        return int(text.partition(":")[0])
+    content = bytes.fromhex(text)
+    return {"raw": base64.b64encode(content).decode()} if shown == "point" else text_of(content, column["charset"], True)
+
+
+def judge_state(program: Path, folder: Path) -> list[str]:
+    """Applied one after the other, the changes make the tables that the server told of."""
+    tables: dict[str, list[dict]] = {table["table"]: [] for table in told_lines("state.jsonl")}
+    reasons = []
+    for line in run(program, ["read", "--full", *SERVER, LOG], folder).stdout.splitlines():
+        change = json.loads(line)
+        rows = tables[change["table"]]
+        if change["before"] is not None and change["before"] not in rows:
+            reasons.append(f"{change['token']}: the row before isn't there")
+        rows[:] = [row for row in rows if row != change["before"]] + ([change["after"]] if change["after"] else [])
+    for table in told_lines("state.jsonl"):
+        wanted = [{f"@{c['n']}": stored(text, c) for text, c in zip(row, table["columns"])} for row in table["rows"]]
+        if tables[table["table"]] != wanted:
+            reasons.append(f"{table['table']} is {tables[table['table']]}")
+    return reasons
+
+
+def judge_types(program: Path, folder: Path) -> list[str]:
+    """The types of full lines are those that the server declared, as far as the maps say it."""
+    reasons = []
+    for line in run(program, ["read", "--full", *SERVER, LOG], folder).stdout.splitlines():
+        change = json.loads(line)
+        for (table, number), column in columns().items():
+            if table == change["table"]:
+                declared = re.sub(r"\(.*\)", "", column["type"]).replace("point", "geometry")
+                # Maps of this log have no character sets of ENUM and SET.
+                wanted = f"{declared} {column['charset']}" if declared == "varchar" else declared
+                if change["types"][f"@{number}"] != wanted:
+                    reasons.append(f"{change['token']}: the types are {change['types']}")
+    return reasons
+
+
+def judge_going_on(words: tuple[str, ...], program: Path, folder: Path) -> list[str]:
+    """Behind each token stand the lines behind it; behind that of no change, all."""
+    lines = run(program, ["read", *words, *SERVER, LOG], folder).stdout.splitlines(keepends=True)
+    tokens = [json.loads(line)["token"] for line in lines]
+    reasons = [] if lines else ["there are no lines"]
+    for number, token in enumerate([f"{FIRST_CHANGE}.0@binlog.000001", *tokens]):
+        came = run(program, ["read", *words, *SERVER, "--from", token, LOG], folder)
+        reasons += [f"from {token}: {reason}" for reason in differs(came, Wanted(0, b"".join(lines[number:])))]
+    return reasons
+
+
+def judge_followed(words: tuple[str, ...], program: Path, folder: Path) -> list[str]:
+    """A run that follows the log while it grows gives at each look what is new, which is what a run over so much of it gives."""
+    content, log = Path(LOG).read_bytes(), folder / "binlog.000001"
+    driver, came, reasons = Driver(program, *words, *SERVER), b"", []
+    for length in [*range(0, len(content), 97), len(content)]:
+        log.write_bytes(content[:length])
+        came += driver.look(log)
+        wanted = run(program, ["read", *words, *SERVER, str(log)], folder)
+        reasons += [f"cut to {length}: {reason}" for reason in differs(wanted, Wanted(0, came))]
+    reasons += differs(Outcome(*driver.ended()), Wanted(0))
+    return reasons + ([] if came.count(b"\n") == len(told_lines("expected.jsonl")) else [f"the lines are {came!r}"])
+
+
+def judge_strict(words: tuple[str, ...], program: Path, folder: Path) -> list[str]:
+    """The strict profile refuses the log at its first table map."""
+    came = run(program, [*words, LOG], folder)
+    return differs(came, Wanted(1, b"", said(f"log fault at binlog.000001:{FIRST_MAP}: NoColumnNames")))
+
+
+def judge_units(program: Path, folder: Path) -> list[str]:
+    """Transactions don't go by table maps: they are the same by both profiles, and those with changes are among them."""
+    plain = run(program, ["transactions", LOG], folder)
+    reasons = differs(plain, Wanted(0, None))
+    for name in ("strict", "server"):
+        reasons += differs(run(program, ["transactions", "--profile", name, LOG], folder), Wanted(0, plain.stdout))
+    units = [line.split("\t") for line in plain.stdout.decode().splitlines()]
+    ends = {(int(end), gtid, ending) for _, end, gtid, ending, _ in units}
+    changes = {(change["trx_end"], change["gtid"], change["ended_by"]) for change in told_lines("expected.jsonl")}
+    return reasons + ([] if changes <= ends else [f"no transaction ends so: {sorted(changes - ends)}"])
+
+
+def judge_alike(words: tuple[str, ...], logs: Path, program: Path, folder: Path) -> list[str]:
+    """A log whose maps have names is read alike by both profiles."""
+    wanted = run(program, [*words, *logs_of(logs)], folder)
+    reasons = differs(wanted, Wanted(0, None)) + ([] if wanted.stdout else ["there are no lines"])
+    for name in ("strict", "server"):
+        came = run(program, [words[0], "--profile", name, *words[1:], *logs_of(logs)], folder)
+        reasons += [f"{name}: {reason}" for reason in differs(came, Wanted(0, wanted.stdout))]
+    return reasons
+
+
+def judge_no_history(program: Path, folder: Path) -> list[str]:
+    """A table without a key in its maps has no history."""
+    reasons = []
+    for style in ((), ("--full",)):
+        for key in ("[1]", "[2]", "[]", "[4294967295]"):
+            words = ["history", *style, *SERVER, "--schema", "d", "--table", "t", "--key", key, LOG]
+            reasons += differs(run(program, words, folder), Wanted(0, b""))
+    return reasons
+
+
+def checks() -> list[Check]:
+    """The checks of the profile of servers."""
+    styles = (("plain", ()), ("full", ("--full",)))
+    story = ("history", "--schema", "shop", "--table", "customer", "--key", "[1]")
+    alike = [("read",), ("read", "--full"), ("transactions",)]
+    of_minimal = [
+        *[Check(f"columns without names, {name} lines", partial(judge_values, words)) for name, words in styles],
+        *[Check(f"columns without names, {name} lines from each token", partial(judge_going_on, words)) for name, words in styles],
+        *[Check(f"columns without names, {name} lines of a log that grows", partial(judge_followed, words)) for name, words in styles],
+        Check("columns without names, the tables at the end", judge_state),
+        Check("columns without names, their types", judge_types),
+        Check("columns without names, transactions", judge_units),
+        Check("columns without names, no history", judge_no_history),
+    ]
+    strict = [("read",), ("read", "--full"), ("read", "--profile", "strict"), ("history", "--schema", "d", "--table", "t", "--key", "[1]")]
+    return [
+        *of_minimal,
+        *[Check(f"columns without names, refused: {' '.join(words[:3])}", partial(judge_strict, words)) for words in strict],
+        *[
+            Check(f"the {logs.name}'s logs by both profiles: {' '.join(words)}", partial(judge_alike, words, logs))
+            for logs in (SHOP, BANK)
+            for words in alike
+        ],
+        Check("a story of the shop's by both profiles", partial(judge_alike, story, SHOP)),
+    ]
