@@ -5,7 +5,7 @@ from pathlib import Path
 
 from built.check import Check, Wanted, differs, said
 from built.preloaded import run_preloaded
-from logs import put, worked_log
+from logs import SMALL, put, worked_log
 
 OUT_OF_MEMORY = said("out of memory")
 # How key_story tells of a refusal.
@@ -17,12 +17,12 @@ def last_token(lines: bytes) -> str:
     return lines.rsplit(b'"token":"', maxsplit=1)[1].split(b'"', maxsplit=1)[0].decode()
 
 
-def judge_words(words: list[str], goes_on: bool, program: Path, folder: Path) -> list[str]:
-    """A run ends out of memory behind a beginning of its lines. Begun anew behind the last one, it gives the others.
+def judge_words(words: list[str], goes_on: bool, log: bytes, program: Path, folder: Path) -> list[str]:
+    """A run over a log ends out of memory behind a beginning of its lines. Begun anew behind the last one, it gives the others.
 
     A growth that is refused is asked for once more, so a few refusals leave the run as it is.
     """
-    put(folder, ["log"], worked_log(3))
+    put(folder, ["log"], log)
     whole, (requests, *_) = run_preloaded(program, words, folder)
     if whole.status != 0:
         return [f"status {whole.status}, where none of {requests} is refused"]
@@ -61,20 +61,28 @@ def judge_index(program: Path, folder: Path) -> list[str]:
     return [] if told > requests // 2 else [f"{told} of {requests} refusals were told of"]
 
 
-# Runs of the program: their words, and whether they can go on behind a line's token.
+# Logs with names of columns, without, and without but with a key.
+NAMED, NUMBERED, NUMBERED_KEY = worked_log(3), SMALL.bytes_of("Numbered"), SMALL.bytes_of("No-names")
+# Runs of the program: their words, whether they can go on behind a line's token, and the log.
 RUNS = (
-    (["read", "log"], True),
-    (["read", "--only-tables", "t", "--auto-position", "3e11fa47-71ca-11e1-9e33-c80aa9429562:1", "log"], True),
-    (["read", "--full", "log"], True),
-    (["transactions", "log"], False),
-    (["history", "--schema", "s", "--table", "t", "--key", "[1]", "log"], False),
-    (["history", "--full", "--schema", "s", "--table", "t", "--key", "[1]", "log"], False),
+    (["read", "log"], True, NAMED),
+    (["read", "--only-tables", "t", "--auto-position", "3e11fa47-71ca-11e1-9e33-c80aa9429562:1", "log"], True, NAMED),
+    (["read", "--full", "log"], True, NAMED),
+    (["transactions", "log"], False, NAMED),
+    (["history", "--schema", "s", "--table", "t", "--key", "[1]", "log"], False, NAMED),
+    (["history", "--full", "--schema", "s", "--table", "t", "--key", "[1]", "log"], False, NAMED),
+    (["read", "--profile", "server", "log"], True, NUMBERED),
+    (["read", "--full", "--profile", "server", "log"], True, NUMBERED),
+    (["history", "--full", "--profile", "server", "--schema", "s", "--table", "t", "--key", "[1]", "log"], False, NUMBERED_KEY),
 )
 
 
 def checks() -> list[Check]:
     """The checks of the program."""
-    return [Check(f"{' '.join(words)}, each request for memory refused in turn", partial(judge_words, words, goes_on)) for words, goes_on in RUNS]
+    return [
+        Check(f"{' '.join(words)}, each request for memory refused in turn", partial(judge_words, words, goes_on, log))
+        for words, goes_on, log in RUNS
+    ]
 
 
 def index_checks() -> list[Check]:
