@@ -74,23 +74,24 @@ def log(collations: bytes) -> bytes:
     return log_of([transaction(1, table_map(mapped, collations, logs.names_of(mapped), table="s.c"), inserted)])
 
 
-def unlike(what: str, came: dict[str, object], wanted: dict[str, object]) -> list[str]:
-    """Each column whose type or value isn't the one that was wanted. The members stand in the order of their names."""
+def unlike(what: str, came: dict[str, object], wanted: dict[str, object], order: list[str]) -> list[str]:
+    """Each column whose type or value isn't the one that was wanted; or the order of the columns, if it is another."""
     reasons = [f"the {what} of {name} is {came.get(name)}, wanted {text}" for name, text in wanted.items() if came.get(name) != text]
-    sorted_names = sorted(wanted, key=str.encode)
-    return reasons or ([] if list(came) == sorted_names else [f"the members of {what} are {list(came)}"])
+    return reasons or ([] if list(came) == order else [f"the members of {what} are {list(came)}"])
 
 
 def judge(collations: bytes, program: Path, folder: Path) -> list[str]:
-    """The types and values of the one line."""
+    """The types and values of the one line: types in the order of the columns, values in that of their names."""
     put(folder, ["log"], log(collations))
     came = run(program, ["read", "--full", "log"], folder)
     reasons = differs(came, Wanted(0, None))
     lines = [json.loads(line) for line in came.stdout.splitlines()]
     if len(lines) != 1:
         return [*reasons, f"there are {len(lines)} lines"]
-    reasons += unlike("type", lines[0]["types"], {column.name: column.type() for column in columns()})
-    return reasons + unlike("value", lines[0]["after"], {column.name: column.value() for column in columns()})
+    names = [column.name for column in columns()]
+    reasons += unlike("type", lines[0]["types"], {column.name: column.type() for column in columns()}, names)
+    values = {column.name: column.value() for column in columns()}
+    return reasons + unlike("value", lines[0]["after"], values, sorted(names, key=str.encode))
 
 
 def checks() -> list[Check]:

@@ -2,7 +2,8 @@
 What is kept of a table's map is never another one's."""
 import base64
 import json
-from functools import partial
+import re
+from functools import cache, partial
 from itertools import cycle, islice
 from pathlib import Path
 from typing import NamedTuple
@@ -10,7 +11,7 @@ from typing import NamedTuple
 from built.check import Check, Wanted, differs, run
 from built.floats import double_text, float_text
 from built.server_logs import BANK, KEYS, SHOP, SHOP_KEYS, logs_of
-from built.truth import TRUTH
+from built.truth import TRUTH, declared_types
 from logs import (
     FRONT, SOURCE_ID, TIME, USUAL_CHARSET, WRITE_ROWS, event, field, full_lines, log_of, map_as_t, parts, put, transaction, worked_log,
 )  # fmt: skip
@@ -78,12 +79,41 @@ def unlike_image(plain: Line | None, full: Line | None, types: dict[str, str]) -
     return [f"{name} is {full[name]}" for name in same if full[name] != same[name]]
 
 
-def unlike(plain: Line, full: Line) -> list[str]:
+def names_in(columns: str) -> list[str]:
+    """The names of columns that a statement declares, without keys. Commas within brackets part nothing."""
+    while "(" in columns:
+        columns = re.sub(r"\([^()]*\)", "", columns)
+    words = [column.split()[0] for column in columns.split(",")]
+    return [word for word in words if word not in ("PRIMARY", "KEY")]
+
+
+@cache
+def columns_of(logs: Path) -> dict[str, list[str]]:
+    """The columns of each table of a folder's logs, in the order in which a statement declares them."""
+    if logs == TRUTH:
+        return {table: list(types) for table, types in declared_types().items()}
+    statements = (logs / "statements.sql").read_text(encoding="utf-8")
+    return {table: names_in(columns) for table, columns in re.findall(r"^CREATE TABLE (\w+) \((.*)\);$", statements, re.MULTILINE)}
+
+
+def json_nulls(plain: Line, full: Line) -> list[str]:
+    """The columns whose document is null in a full line, and isn't in the plain one: those of `after` first."""
+    return [
+        f"{side}.{name}"
+        for side in ("after", "before")
+        for name in sorted(full[side] or {}, key=str.encode)
+        if full[side][name] is None and plain[side][name] is not None
+    ]
+
+
+def unlike(columns: dict[str, list[str]], plain: Line, full: Line) -> list[str]:
     """What a full line tells otherwise than its plain one."""
-    reasons = [] if list(full) == ["after", "before", "gtid", "key", "types", *SAME[1:]] else [f"the members are {list(full)}"]
+    nulls, types = json_nulls(plain, full), full["types"]
+    members = ["after", "before", "gtid", *(["json_null"] if nulls else []), "key", "types", *SAME[1:]]
+    reasons = [] if list(full) == members else [f"the members are {list(full)}"]
+    reasons += [] if full.get("json_null", []) == nulls else [f"the JSON nulls are {full['json_null']}"]
     reasons += [f"{name} is {full[name]}" for name in SAME if full[name] != plain[name]]
-    types = full["types"]
-    reasons += [] if list(types) == sorted(types, key=str.encode) else [f"the types are {types}"]
+    reasons += [] if list(types) == columns[full["table"]] else [f"the types are {types}"]
     for image in ("before", "after"):
         reasons += [f"{image}: {reason}" for reason in unlike_image(plain[image], full[image], types)]
     wanted = KEY_NAMES.get(plain["table"], ["id"])
@@ -97,7 +127,7 @@ def judge_same(log_folder: Path, program: Path, folder: Path) -> list[str]:
     if len(plain) != len(full) or not full:
         return [*reasons, *more, f"there are {len(full)} full lines, and {len(plain)} plain ones"]
     pairs = [(json.loads(one), json.loads(other)) for one, other in zip(plain, full)]
-    found = [f"{one['token']}: {reason}" for one, other in pairs for reason in unlike(one, other)]
+    found = [f"{one['token']}: {reason}" for one, other in pairs for reason in unlike(columns_of(log_folder), one, other)]
     return [*reasons, *more, *found[:REASONS]]
 
 
