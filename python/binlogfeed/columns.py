@@ -180,13 +180,17 @@ def namer(table: str, column: str, type_: str) -> Convert:
     is_set = type_.lower().startswith("set")
 
     def to_names(value: Any) -> Any:
-        """The name, or the names with commas. 0 has the empty name. What has a name stays."""
+        """The name, or the names with commas. 0 has the empty name. What has a name stays, and so does the number of one with a `?`:
+        a server's answer has that for each character beyond utf8mb3, too.
+        """
         if type(value) is not int:
             return value
         if value >> len(words) if is_set else value > len(words):
             raise ColumnsMismatch(table, column, f"the value {value}", type_)
         if is_set:
-            return ",".join([word for at, word in enumerate(words) if value >> at & 1])
-        return words[value - 1] if value else ""
+            chosen = [word for at, word in enumerate(words) if value >> at & 1]
+        else:
+            chosen = words[value - 1 : value] if value else []
+        return value if any("?" in word for word in chosen) else ",".join(chosen)
 
     return to_names

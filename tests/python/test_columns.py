@@ -153,6 +153,12 @@ class Fits(TestCase):
                 convert(value)
             self.assertEqual((caught.exception.column, caught.exception.in_log), (column, f"the value {value}"))
 
+    def test_unknown_characters(self):
+        # A MySQL 9.7.4 answered so for names of utf8mb4 of which the last is U+1F600, a slash and a sharp s.
+        of_enum, of_set = namer("s.t", "e", "enum('one','two','\u00c3','?/\u00df')"), namer("s.t", "m", "set('one','two','?')")
+        self.assertEqual([of_enum(number) for number in (0, 1, 3, 4)], ["", "one", "\u00c3", 4])
+        self.assertEqual([of_set(number) for number in (0, 3, 4, 5)], ["", "one,two", 4, 5])
+
 
 class Readers(FolderTest):
     """What a reader gives."""
