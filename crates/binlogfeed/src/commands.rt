@@ -94,9 +94,12 @@ Integers are numbers; DECIMAL, dates and times are strings. Text that isn't UTF-
 
 With --full a value is what the server means by it: an integer has its sign behind a YEAR
 column, too, text is read by its character set, and BINARY and BLOB are {\"base64\":\"..\"}; text
-that can't be read is {\"base64\":\"..\",\"charset\":\"..\"}. Two members are added:
+that can't be read is {\"base64\":\"..\",\"charset\":\"..\"}. These members are added:
+  committed      the time of the commit, in microseconds since 1970, if the log has it
+  json_null      the columns whose null is the JSON null, as after.doc, if there are some
   key            the names of the primary key's columns
-  types          the type of each column, as `varchar latin1` or `int unsigned`
+  types          the type of each column, in the table's order, as `varchar latin1` or
+                 `int unsigned`
 
 With --profile server a log is taken in as servers write it by default: where a table has no
 column names in the log (binlog_row_metadata=MINIMAL), its columns are @1, @2 and so on, it
