@@ -202,7 +202,6 @@ nulls_ordered side image order is =
 
 -- ---- a table without columns of JSON
 
-
 no_json : (types : List ColumnType) (column : ℕ) → has_documents types ≡ false → is_json (slice_index_or types column unknown_type).code ≡ false
 no_json types column none = not_true (is_json (slice_index_or types column unknown_type).code) (λ some.
     elim (cases_lt column (length types)) [
