@@ -179,6 +179,22 @@ def judge_documents(program: Path, folder: Path) -> list[str]:
     return reasons + more + judged(server_says(), full, plain)
 
 
+def judge_nulls(program: Path, folder: Path) -> list[str]:
+    """A full line names the documents of which the server says that they are the JSON null, and no others."""
+    came = run(program, ["read", "--full", *logs_of(DOCUMENTS)], folder)
+    lines, told = [json.loads(line) for line in came.stdout.splitlines()], server_says()
+    reasons = differs(came, Wanted(0, None)) + ([] if len(lines) == len(told) else [f"there are {len(lines)} lines"])
+    types: dict[tuple[str, int], str] = {}
+    for line, said in zip(lines, told):
+        row = (said.table, said.id)
+        sides = {"after": said.type, "before": types.get(row) if line["before"] else None}
+        named = [f"{side}.doc" for side, kind in sides.items() if kind == "NULL"]
+        types[row] = said.type
+        if line.get("json_null", []) != named:
+            reasons.append(f"{line['token']}: the JSON nulls are {line.get('json_null')}, wanted {named}")
+    return reasons[:REASONS] + ([] if any("json_null" in line for line in lines) else ["no line names one"])
+
+
 def judge_told(_program: Path, _folder: Path) -> list[str]:
     """The server tells of enough documents, of changes in place, and of values of each kind."""
     told = server_says()
@@ -228,6 +244,7 @@ def checks() -> list[Check]:
     """The checks of a server's documents, and of their judge."""
     return [
         Check("the documents of a server", judge_documents),
+        Check("the JSON nulls of a server", judge_nulls),
         Check("what the server tells of documents", judge_told),
         Check("the judge of documents", judge_judge),
     ]

@@ -18,7 +18,7 @@ SERVER = ("--profile", "server")
 FIRST_MAP, FIRST_CHANGE = 797, 654
 
 Value = object
-Image = "dict[str, Value] | None"
+Image = dict[str, Value]
 
 
 def told_lines(name: str) -> list[dict]:
@@ -59,7 +59,7 @@ def value_of(printed: dict, column: dict, full: bool) -> Value:
     return {"YEAR": str, "ENUM": int, "SET": lambda bits: int(bits[2:-1], 2)}[shown](text)
 
 
-def image_of(change: dict, side: str, full: bool) -> Image:
+def image_of(change: dict, side: str, full: bool) -> Image | None:
     """An image of a change, by the numbers of its columns, as far as mysqlbinlog printed it."""
     if side not in change:
         return None
@@ -67,20 +67,19 @@ def image_of(change: dict, side: str, full: bool) -> Image:
     return {f"@{one['c']}": value_of(one, known[change["table"], one["c"]], full) for one in change[side]}
 
 
-def unlike_image(came: Image, wanted: Image, incomplete: bool) -> bool:
+def is_unlike(came: Image | None, wanted: Image | None, incomplete: bool) -> bool:
     """Whether an image isn't the one that was printed. Of one that mysqlbinlog gave up at, the first columns count."""
     if came is None or wanted is None:
         return came is not wanted
-    return list(came)[: len(wanted)] != list(wanted) or (not incomplete and len(came) != len(wanted)) or any(
-        (came[name], type(came[name])) != (value, type(value)) for name, value in wanted.items()
-    )  # fmt: skip
+    told = dict(list(came.items())[: len(wanted)]) if incomplete else came
+    return list(told.items()) != list(wanted.items()) or [*map(type, told.values())] != [*map(type, wanted.values())]
 
 
 def unlike(line: dict, change: dict, full: bool) -> list[str]:
     """What a line tells otherwise than mysqlbinlog printed it."""
     reasons = [f"{name} is {line[name]}" for name in ("gtid", "kind", "schema", "table") if line[name] != change[name]]
     for side in ("before", "after"):
-        if unlike_image(line[side], image_of(change, side, full), change.get("incomplete", False)):
+        if is_unlike(line[side], image_of(change, side, full), change.get("incomplete", False)):
             reasons.append(f"{side} is {line[side]}")
     if full:
         reasons += [] if line["key"] == [] else [f"the key is {line['key']}"]
