@@ -13,7 +13,7 @@ use Rattle.binlog_json.specs.FullValues.{unknown_type}
 use Rattle.binlog_json.specs.FullWritten.{type_member}
 use Rattle.binlog_json.specs.Joining.{comma_if}
 use Rattle.binlog_json.specs.Json.{Data, Members, member, members_text}
-use Rattle.binlog_json.specs.TypeTexts.{type_text, types_of_columns}
+use Rattle.binlog_json.specs.TypeTexts.{type_of_column, type_text, types_of_columns}
 use Rattle.binlog_json.specs.Written.{member_text}
 
 joined : (l2 name value : List ℕ) → (l2 ++ (name ++ 58 ∷ [])) ++ value ≡ l2 ++ (name ++ (58 ∷ value))
@@ -43,7 +43,7 @@ types_more table column text comma new total later below c w inv =
     let within : column < length all = omega (arith, length-range_with_len 0 (length table.names), below) in
     let same : 0 + column ≡ column = omega arith in
     let at : get_or all column 0 ≡ column = get_or-range_with_len 0 (length table.names) column 0 below ∙ same in
-    rw (w, c) (step text (name_of table.names column) later _ (types_from table (column + 1)) ∙ (rw (drop_more all column 0 within, at) at inv))
+    rw (w, c) (step text (name_of table.names column) later (type_of_column table column) (types_from table (column + 1)) ∙ (rw (drop_more all column 0 within, at) at inv))
 
 pub types_end : (table : Map) (old start text new : List ℕ) (column : ℕ) (later : Bool) → length table.names ≤ column → start ≡ old ++ 123 ∷ [] → text ++ members_text later (types_from table column) ≡ start ++ members_text false (types_from table 0)
     → new ≡ text ++ 125 ∷ [] → new ≡ old ++ (123 ∷ members_text false (types_from table 0))
