@@ -59,10 +59,15 @@ class Files(FolderTest):
 
     def test_tables(self):
         """In any order of lines and columns, by names of great or small letters."""
-        rows = ["s\tb\tv\tvarchar(9)\t2\t", "s\ta\tid\tint\t1\tPRI", "s\tb\tid\tint unsigned\t1\tPRI", "s\tb\tk\tint\t3\tPRI", "s\tb\tw\tint\t4\tUNI"]
-        wanted = {"s.b": Table(("id", "v", "k", "w"), ("int unsigned", "varchar(9)", "int", "int"), ("id", "k")), "s.a": Table(("id",), ("int",), ("id",))}
-        for text in (HEAD + "\n".join(rows) + "\n", HEAD.lower() + "\n".join(reversed(rows)), "\ufeff" + HEAD.replace("\n", "\r\n") + "\r\n".join(rows)):
-            self.assertEqual(tables_of(self.file_of(text)), wanted)
+        rows = ["s\tb\tv\tvarchar(9)\t2\t", "s\ta\tid\tint\t1\tPRI", "s\tb\tid\tint unsigned\t1\tPRI"]
+        rows += ["s\tb\tk\tint\t3\tPRI", "s\tb\tw\tint\t4\tUNI"]
+        wanted = {
+            "s.b": Table(("id", "v", "k", "w"), ("int unsigned", "varchar(9)", "int", "int"), ("id", "k")),
+            "s.a": Table(("id",), ("int",), ("id",)),
+        }
+        text = HEAD + "\n".join(rows) + "\n"
+        for same in (text, HEAD.lower() + "\n".join(reversed(rows)), "\ufeff" + text.replace("\n", "\r\n")):
+            self.assertEqual(tables_of(self.file_of(same)), wanted)
         turned = ["\t".join(reversed(line.split("\t"))) for line in [HEAD[:-1], *rows]]
         self.assertEqual(tables_of(str(self.file_of("\n".join(turned)))), wanted)
 

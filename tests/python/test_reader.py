@@ -127,12 +127,14 @@ class Members(FolderTest):
         """The events of two lines with these members, which are text behind a GTID, and such a row."""
         line = (LINE % "4.%d@f").replace('"after":{"id":1}', f'"after":{row}').replace('"gtid":null', members)
         line = line.replace('"types":{"id":"int"}', '"types":{"id":"int","doc":"json"}')
-        return list(BinLogStreamReader("f", program=self.stub(f"cat {self.put('lines', (line % 1 + chr(10) + line % 2 + chr(10)).encode())}"), **options))
+        lines = self.put("lines", f"{line % 1}\n{line % 2}\n".encode())
+        return list(BinLogStreamReader("f", program=self.stub(f"cat {lines}"), **options))
 
     def test_commit_times(self):
         for members, wanted in (('"committed":1795332186123456,"gtid":"a:1"', 1795332186123456), ('"gtid":"a:1"', None)):
             events = self.events(members, '{"id":1}', only_events=[WriteRowsEvent, GtidEvent, XidEvent])
-            self.assertEqual([(type(event), event.committed) for event in events], [(it, wanted) for it in (GtidEvent, WriteRowsEvent, XidEvent)])
+            told = [(type(event), event.committed) for event in events]
+            self.assertEqual(told, [(kind, wanted) for kind in (GtidEvent, WriteRowsEvent, XidEvent)])
             self.assertEqual(len(events[1].rows), 2)
             (transaction,) = BinLogStreamReader("f", program=str(self.folder / "stub")).transactions()
             self.assertEqual(transaction.committed, wanted)

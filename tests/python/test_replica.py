@@ -72,7 +72,7 @@ class Commits(Files):
                 commit(place)
 
             target.commit = noted
-            copied = replica.Replica(target, "shop", f"{SHOP[0].parent}/binlog.0*", PROGRAM, many)
+            copied = replica.Replica(target, replica.Source(f"{SHOP[0].parent}/binlog.0*", "shop", PROGRAM), many)
             for _ in range(3):
                 copied.catch_up()
             copied.close()

@@ -302,7 +302,8 @@ class Fitting(LinesTest):
         rows = [{"id": 1, "d": JSON_NULL}, {"id": 2, "d": None}, {"id": 3, "d": {"a": None}}]
         lines = [full_line((1, row["id"]), "t", None, row, types) for row in rows]
         lines += [full_line((2, 1), "t", {"id": 3, "d": {"a": None}}, {"id": 3, "d": JSON_NULL}, types)]
-        lines += [full_line((3, 1), "t", None, {"id": 4, "d": JSON_NULL}, types), full_line((3, 2), "t", {"id": 4, "d": JSON_NULL}, {"id": 4, "d": None}, types)]
+        last = {"id": 4, "d": JSON_NULL}
+        lines += [full_line((3, 1), "t", None, last, types), full_line((3, 2), "t", last, {"id": 4, "d": None}, types)]
         wanted = [{"id": 1, "d": "null"}, {"id": 2, "d": None}, {"id": 3, "d": "null"}, {"id": 4, "d": None}]
         files = SqliteFiles()
         self.addCleanup(files.stop)

@@ -8,7 +8,20 @@ import unittest
 from support import TOP, FolderTest
 
 GOOD = """
-from binlogfeed import BinLogStreamReader, DeleteRowsEvent, Event, GtidEvent, RowsEvent, UpdateRowsEvent, WriteRowsEvent
+from pathlib import Path
+
+from binlogfeed import JSON_NULL, BinLogStreamReader, ColumnsMismatch, DeleteRowsEvent, Event, GtidEvent, RowsEvent
+from binlogfeed import UpdateRowsEvent, WriteRowsEvent
+
+
+def names(path: str) -> None:
+    try:
+        for event in BinLogStreamReader(path, columns={"shop.customer": ["id", "name"]}, json_null=JSON_NULL):
+            print(event.committed, event.columns)
+    except ColumnsMismatch as mismatch:
+        print(mismatch.table, mismatch.column, mismatch.token)
+    for insert in BinLogStreamReader(path, only_events=[WriteRowsEvent], columns=Path("columns.tsv"), profile="strict"):
+        print(insert.after.keys())
 
 
 def loops(path: str) -> None:
