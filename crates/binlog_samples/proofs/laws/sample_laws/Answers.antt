@@ -38,6 +38,7 @@ returns-clause-resumes_grown c law before after member e there =
       later_is = refl;
       same_kept = refl;
       same_name = refl;
+      same_profile = refl;
       same_bytes = refl;
       new_names = tt;
     })

@@ -70,6 +70,7 @@ returns-clause-grown_index c law before after member e =
       later_is = refl;
       same_kept = refl;
       same_name = refl;
+      same_profile = refl;
       same_bytes = same_bytes;
       new_names = tt;
     })
@@ -90,6 +91,7 @@ returns-clause-kept_index c law before after member e there =
       later_is = refl;
       same_kept = refl;
       same_name = refl;
+      same_profile = refl;
       same_bytes = same_bytes_behind;
       new_names = tt;
     })
