@@ -46,8 +46,11 @@ NoTimes =
 abbrev pub committed_row : List ℕ → List ℕ
 committed_row event = front ++ event ++ query_event (codes "BEGIN") ++ first_map ++ inserted 100 (image 1 (codes "a")) ++ xid_event
 
+abbrev pub said : RowChange → Option (List ℕ × ℕ) × Option ℕ
+said change = (change.gtid, change.committed)
+
 abbrev pub Say : List ℕ → Option (List ℕ × ℕ) → Option ℕ → Type 0
-Say file gtid committed = map (λ change. (change.gtid, change.committed)) (changes (alone file)) ≡ (gtid, committed) ∷ []
+Say file gtid committed = map said (changes (alone file)) ≡ (gtid, committed) ∷ []
 
 abbrev pub CommittedChanges : Type 0
 CommittedChanges =
