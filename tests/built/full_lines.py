@@ -30,6 +30,9 @@ NUMBERS = {"float": float_text, "double": double_text}
 # How many reasons a check gives.
 REASONS = 4
 
+# The bytes of an event's header.
+HEADER = 19
+
 # So many tables, gone round by so many transactions. The maps of a few tables are kept, those of others are read anew.
 MAPS = ((1, 25), (7, 200), (41, 500))
 
@@ -106,14 +109,33 @@ def json_nulls(plain: Line, full: Line) -> list[str]:
     ]
 
 
-def unlike(columns: dict[str, list[str]], plain: Line, full: Line) -> list[str]:
+@cache
+def commit_times(log: Path) -> dict[int, int]:
+    """When the transactions of a server's log were committed, by the places of their GTID events, which say it in bytes 42 to 48."""
+    content, times, place = log.read_bytes(), {}, 4
+    while place + HEADER < len(content):
+        if content[place + 4] in (33, 34):
+            at = place + HEADER + 42
+            times[place] = int.from_bytes(content[at : at + 7], "little") % 2**55
+        place += int.from_bytes(content[place + 9 : place + 13], "little")
+    return times
+
+
+def committed(log_folder: Path, line: Line) -> int:
+    """When the transaction of a line was committed, by its log."""
+    place, _, file = str(line["token"]).partition("@")
+    return commit_times(log_folder / file)[int(place.split(".")[0])]
+
+
+def unlike(log_folder: Path, plain: Line, full: Line) -> list[str]:
     """What a full line tells otherwise than its plain one."""
     nulls, types = json_nulls(plain, full), full["types"]
-    members = ["after", "before", "gtid", *(["json_null"] if nulls else []), "key", "types", *SAME[1:]]
+    members = ["after", "before", "committed", "gtid", *(["json_null"] if nulls else []), "key", "types", *SAME[1:]]
     reasons = [] if list(full) == members else [f"the members are {list(full)}"]
+    reasons += [] if full.get("committed") == committed(log_folder, full) else [f"it was committed at {full.get('committed')}"]
     reasons += [] if full.get("json_null", []) == nulls else [f"the JSON nulls are {full['json_null']}"]
     reasons += [f"{name} is {full[name]}" for name in SAME if full[name] != plain[name]]
-    reasons += [] if list(types) == columns[full["table"]] else [f"the types are {types}"]
+    reasons += [] if list(types) == columns_of(log_folder)[full["table"]] else [f"the types are {types}"]
     for image in ("before", "after"):
         reasons += [f"{image}: {reason}" for reason in unlike_image(plain[image], full[image], types)]
     wanted = KEY_NAMES.get(plain["table"], ["id"])
@@ -127,7 +149,7 @@ def judge_same(log_folder: Path, program: Path, folder: Path) -> list[str]:
     if len(plain) != len(full) or not full:
         return [*reasons, *more, f"there are {len(full)} full lines, and {len(plain)} plain ones"]
     pairs = [(json.loads(one), json.loads(other)) for one, other in zip(plain, full)]
-    found = [f"{one['token']}: {reason}" for one, other in pairs for reason in unlike(columns_of(log_folder), one, other)]
+    found = [f"{one['token']}: {reason}" for one, other in pairs for reason in unlike(log_folder, one, other)]
     return [*reasons, *more, *found[:REASONS]]
 
 
