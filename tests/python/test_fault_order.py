@@ -112,7 +112,7 @@ def page_steps() -> list[set[str]]:
 def defined_steps() -> list[set[str]]:
     """The same by the definitions. Steps behind one another that answer the same count as one."""
     maps = module("binlog_table", "Map")
-    calls = ["sections_at", *re.findall(r"← (.*)", maps.right("map_of"))]
+    calls = ["sections_at", *re.findall(r"← (.*)", maps.right("map_of_by"))]
     answers = [set(faults_in(call, maps, "declared.fault.MapFault.TheVariants")) for call in calls]
     return [answer for before, answer in zip([None, *answers], answers) if answer != before]
 
@@ -133,7 +133,7 @@ class FaultOrder(unittest.TestCase):
         self.assertEqual([says for names, says in rows if names == ["BadRows"] and " 10 " in says], [rows[-3][1]])
 
     def test_faults_of_a_table_map(self) -> None:
-        """The list of steps has the faults of `map_at`, in its order."""
+        """The list of steps has the faults of `map_at_by`, in its order."""
         self.assertEqual(page_steps(), defined_steps())
 
 
