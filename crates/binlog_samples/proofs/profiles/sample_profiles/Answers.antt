@@ -29,5 +29,5 @@ unfolding on_bytes
 returns-clause-agrees_on_both c law =
     let both = law (alone named_and_unnamed) in
     let one = law (alone one_row) in
-    let ended = one.1.1 refl in
-    ((both.0, both.1.0), (one.1.0 ∙ ap (λ (l : List RowChange). changes (read_by Strict (alone one_row)) ++ l) ended.0 ∙ append-nil _, ended.1))
+    let ended = one.2 refl in
+    ((both.0, both.1), one.1 ∙ ap (λ (l : List RowChange). changes (read_by Strict (alone one_row)) ++ l) ended.0 ∙ append-nil _, ended.1)
