@@ -40,6 +40,13 @@ Overlaps =
     × Says "00 02 00 18 00 12 00 01 00 13 00 01 00 0c 14 00 0c 16 00 61 62 01 78 01 79" "{\"a\":\"x\",\"b\":\"y\"}"
     × IsNone "00 02 00 18 00 12 00 01 00 13 00 01 00 0c 13 00 0c 16 00 61 01 78 78 01 79"
 
+-- One value for two members, the end of one for the next, the first behind the second, and a first one that ends behind the object.
+abbrev pub OverlappingMembers : Type 0
+OverlappingMembers =
+    IsNone "00 02 00 16 00 12 00 01 00 13 00 01 00 0c 14 00 0c 14 00 61 62 01 78" × IsNone "00 02 00 17 00 12 00 01 00 13 00 01 00 0c 14 00 0c 15 00 61 62 02 01 78"
+    × IsNone "00 02 00 18 00 12 00 01 00 13 00 01 00 0c 16 00 0c 14 00 61 62 01 78 01 79" × IsNone "00 02 00 18 00 12 00 01 00 13 00 01 00 0c 14 00 0c 16 00 61 62 04 78 01 79"
+    × Says "00 02 00 17 00 12 00 01 00 13 00 01 00 0c 14 00 05 ff ff 61 62 02 01 78" "{\"a\":\"\\u0001x\",\"b\":-1}"
+
 -- keys in the entries, before one another, beyond the size, in two entries, and one that isn't UTF-8
 abbrev pub NoKeys : Type 0
 NoKeys =

@@ -1,5 +1,6 @@
 pub mod Bytes
 pub mod Scalars
+pub mod Floats
 pub mod Containers
 pub mod Opaques
 pub mod Shapes

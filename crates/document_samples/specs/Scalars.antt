@@ -1,5 +1,6 @@
 -- Values that have no parts, each behind its type. Many have a byte behind them that isn't theirs.
-use Rattle.std.specs.Prelude.{◌≡◌, ℕ, List, [], ◌∷◌, ◌++◌, replicate, Some, None}
+use Rattle.std.specs.Prelude.{◌≡◌, ℕ, List, [], ◌∷◌, ◌++◌, map, replicate, Some, None}
+use Rattle.std.specs.List.{range_with_len}
 use Rattle.binlog_documents.specs.Values.{value_text}
 use Rattle.document_samples.specs.Bytes.{Says, IsNone}
 
@@ -8,6 +9,10 @@ abbrev pub Literals : Type 0
 Literals =
     Says "" "null" × Says "04 00" "null" × Says "04 01" "true" × Says "04 02" "false" × Says "04 01 ff" "true"
     × IsNone "04 03" × IsNone "04"
+
+-- no other byte is a literal: neither 3 nor 4, and so on to 255
+abbrev pub NoLiterals : Type 0
+NoLiterals = map (λ code. value_text (0x04 ∷ code ∷ [])) (range_with_len 3 253) ≡ replicate 253 None
 
 abbrev pub Integers : Type 0
 Integers =
@@ -22,7 +27,31 @@ Integers =
 abbrev pub Doubles : Type 0
 Doubles =
     Says "0b 00 00 00 00 00 00 f8 3f 07" "1.5" × Says "0b 9a 99 99 99 99 99 b9 3f" "0.1" × Says "0b 00 00 00 00 00 00 00 80" "-0.0"
+    × Says "0b ff ff ff ff ff ff ef 7f" "1.7976931348623157e+308" × Says "0b ff ff ff ff ff ff ef ff" "-1.7976931348623157e+308"
     × IsNone "0b 00 00 00 00 00 00 f0 7f" × IsNone "0b 00 00 00 00 00 00 f0 ff" × IsNone "0b 01 00 00 00 00 00 f8 7f" × IsNone "0b 00 00 00 00 00 00 f8"
+
+-- An exponent stands from 1e16 on and below 1e-04, and else `.0` behind a whole number (Python's float_repr).
+abbrev pub PointedDoubles : Type 0
+PointedDoubles = Says "0b 00 00 00 00 00 c0 62 40" "150.0" × Says "0b 77 be 9f 1a 2f dd 5e 40" "123.456"
+
+abbrev pub GreatDoubles : Type 0
+GreatDoubles = Says "0b 00 00 34 26 f5 6b 0c 43" "1000000000000000.0" × Says "0b ff 7f e0 37 79 c3 41 43" "9999999999999998.0"
+
+abbrev pub GreaterDoubles : Type 0
+GreaterDoubles = Says "0b 00 80 e0 37 79 c3 41 43" "1e+16" × Says "0b ff 9f d8 85 57 34 76 43" "9.999999999999998e+16" × Says "0b 00 a0 d8 85 57 34 76 43" "1e+17"
+
+abbrev pub LongerExponents : Type 0
+LongerExponents = Says "0b 5b c0 74 89 36 69 89 44" "1.5e+22"
+
+abbrev pub SmallDoubles : Type 0
+SmallDoubles = Says "0b 2d 43 1c eb e2 36 1a 3f" "0.0001" × Says "0b 69 1d 55 4d 10 75 1f 3f" "0.00012"
+
+abbrev pub SmallerDoubles : Type 0
+SmallerDoubles = Says "0b f1 68 e3 88 b5 f8 e4 3e" "1e-05" × Says "0b 76 6b 99 0c c7 f3 19 3f" "9.9e-05"
+
+-- 2^50 + 0.25 and 2^50 + 0.75 lie halfway between two decimals that read back: the even one stands
+abbrev pub DoubleTies : Type 0
+DoubleTies = Says "0b 01 00 00 00 00 00 10 43" "1125899906842624.2" × Says "0b 03 00 00 00 00 00 10 43" "1125899906842624.8"
 
 -- one letter, so many times
 abbrev pub letters : ℕ → List ℕ

@@ -1,20 +1,38 @@
 //! The definitions of documents at work: what they say of bytes whose meaning is known without them. Nothing runs here.
 #![tactic(auto, unfolding(crate::proofs::OnDocuments::on_documents))]
 
-ghost use Rattle.document_samples.specs.Containers.{Arrays, Objects, Gaps, NoContainers, Overlaps, NoKeys};
+ghost use Rattle.document_samples.specs.Containers.{Arrays, Objects, Gaps, NoContainers, Overlaps, OverlappingMembers, NoKeys};
+ghost use Rattle.document_samples.specs.Floats.{GreatFloats, GreatestFloats, SmallFloats, FloatTies, NoFloats};
 ghost use Rattle.document_samples.specs.Meanings.{JsonScalars, JsonOpaques, JsonContainers, NoMeanings, JsonByLaw};
-ghost use Rattle.document_samples.specs.Opaques.{Decimals, LongDecimals, NoDecimals, DatesAndTimes, OtherTypes};
-ghost use Rattle.document_samples.specs.Scalars.{Literals, Integers, Doubles, Lengths, Texts, NoTypes};
+ghost use Rattle.document_samples.specs.Opaques.{Decimals, LeftoverDigits, LongDecimals, NoDecimals, DatesAndTimes, LastSeconds, NoDatesAndTimes, OtherTypes};
+ghost use Rattle.document_samples.specs.Scalars.{Literals, NoLiterals, Integers, Doubles, PointedDoubles, GreatDoubles, GreaterDoubles, LongerExponents, SmallDoubles, SmallerDoubles, DoubleTies, Lengths, Texts, NoTypes};
 ghost use Rattle.document_samples.specs.Shapes.{Shapes, Depths};
 
 /// Values that have no parts.
 pub fn sample_scalars()
     ensures literals { Literals }
+    ensures no_literals { NoLiterals }
     ensures integers { Integers }
     ensures doubles { Doubles }
     ensures lengths { Lengths }
     ensures texts { Texts }
     ensures no_types { NoTypes }
+{}
+
+/// Doubles in documents, and FLOATs.
+pub fn sample_floats()
+    ensures pointed_doubles { PointedDoubles }
+    ensures great_doubles { GreatDoubles }
+    ensures greater_doubles { GreaterDoubles }
+    ensures longer_exponents { LongerExponents }
+    ensures small_doubles { SmallDoubles }
+    ensures smaller_doubles { SmallerDoubles }
+    ensures double_ties { DoubleTies }
+    ensures great_floats { GreatFloats }
+    ensures greatest_floats { GreatestFloats }
+    ensures small_floats { SmallFloats }
+    ensures float_ties { FloatTies }
+    ensures no_floats { NoFloats }
 {}
 
 /// Arrays and objects.
@@ -24,15 +42,19 @@ pub fn sample_containers()
     ensures gaps { Gaps }
     ensures no_containers { NoContainers }
     ensures overlaps { Overlaps }
+    ensures overlapping_members { OverlappingMembers }
     ensures no_keys { NoKeys }
 {}
 
 /// Values of MySQL's other types.
 pub fn sample_opaques()
     ensures decimals { Decimals }
+    ensures leftover_digits { LeftoverDigits }
     ensures long_decimals { LongDecimals }
     ensures no_decimals { NoDecimals }
     ensures dates_and_times { DatesAndTimes }
+    ensures last_seconds { LastSeconds }
+    ensures no_dates_and_times { NoDatesAndTimes }
     ensures other_types { OtherTypes }
 {}
 
