@@ -13,3 +13,4 @@ pub mod FloatNumbers
 pub mod ReadDocuments
 pub mod JsonTexts
 pub mod Fronts
+pub mod Spelled

@@ -1,6 +1,7 @@
 pub mod Document
 pub mod Scalars
 pub mod Containers
+pub mod Spelling
 pub mod Opaques
 pub mod Texts
 pub mod ScalarShown

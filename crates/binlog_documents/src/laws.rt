@@ -1,8 +1,18 @@
 //! What holds of all documents. The function does nothing: it has a contract for a proof to cite.
+ghost use Rattle.std.specs.Prelude.{◌≡◌, ℕ, List, Some};
 ghost use Rattle.binlog_documents.specs.AsJson.{DocumentsAreJson};
+ghost use Rattle.binlog_documents.specs.Containers.{document_at};
+ghost use Rattle.binlog_documents.specs.Document.{Document};
+ghost use Rattle.binlog_documents.specs.Spelling.{Spells};
 
 /// The text of each document that bytes spell is JSON, and the value that is read there is the document's (`as_json`). Of a double or
 /// a decimal that says only that its text is a number of JSON, and not which number it is.
 pub fn documents_are_json()
     ensures { DocumentsAreJson }
+{}
+
+/// Reading finds each document that bytes spell. So they spell at most one.
+pub fn documents_are_read()
+    ensures only { (document : Document) (bytes : List ℕ) → Spells document bytes → document_at bytes ≡ Some document }
+    ensures one { (document other : Document) (bytes : List ℕ) → Spells document bytes → Spells other bytes → document ≡ other }
 {}
