@@ -4,4 +4,5 @@ pub mod Floats
 pub mod Containers
 pub mod Opaques
 pub mod Shapes
+pub mod Spelling
 pub mod Meanings

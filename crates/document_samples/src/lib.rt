@@ -7,6 +7,7 @@ ghost use Rattle.document_samples.specs.Meanings.{JsonScalars, JsonOpaques, Json
 ghost use Rattle.document_samples.specs.Opaques.{Decimals, LeftoverDigits, LongDecimals, NoDecimals, DatesAndTimes, LastSeconds, NoDatesAndTimes, OtherTypes};
 ghost use Rattle.document_samples.specs.Scalars.{Literals, NoLiterals, Integers, Doubles, PointedDoubles, GreatDoubles, GreaterDoubles, LongerExponents, SmallDoubles, SmallerDoubles, DoubleTies, Lengths, Texts, NoTypes};
 ghost use Rattle.document_samples.specs.Shapes.{Shapes, Depths};
+ghost use Rattle.document_samples.specs.Spelling.{SmallArray, LargeObject, ObjectWithGap, NotSpelled, MembersNotSpelled};
 
 /// Values that have no parts.
 pub fn sample_scalars()
@@ -56,6 +57,15 @@ pub fn sample_opaques()
     ensures last_seconds { LastSeconds }
     ensures no_dates_and_times { NoDatesAndTimes }
     ensures other_types { OtherTypes }
+{}
+
+/// What spells documents.
+pub fn sample_spelling()
+    ensures small_array { SmallArray }
+    ensures large_object { LargeObject }
+    ensures object_with_gap { ObjectWithGap }
+    ensures not_spelled { NotSpelled }
+    ensures members_not_spelled { MembersNotSpelled }
 {}
 
 /// What documents are apart from their text, and how deep they may be.
