@@ -77,11 +77,11 @@ module _ (f : Format) (bits : ℕ) (F : IsFinite f bits) where
   at_power e = chosen e _ _ (is_above_half (scaled_num f bits) (scaled_den f e) (floor_at f bits e)) refl refl
 
   -- the shortest decimal's digits are few, and read back
-  record IsShort (s : ℕ × ℕ) (most : ℕ) : Type 0 where
-    some : 0 < s.0
-    few : s.0 ≤ 10 ^ 18
-    power : s.1 ≤ most
-    reads : reads_as f bits s.0 s.1 ≡ true
+  pub record IsShort (s : ℕ × ℕ) (most : ℕ) : Type 0 where
+    pub some : 0 < s.0
+    pub few : s.0 ≤ 10 ^ 18
+    pub power : s.1 ≤ most
+    pub reads : reads_as f bits s.0 s.1 ≡ true
 
   kept : (n d : ℕ) → 0 < d → coarsest f bits n d ≡ (d, n)
   unfolding coarsest
@@ -122,7 +122,7 @@ module _ (f : Format) (bits : ℕ) (F : IsFinite f bits) where
         rw (passed n (digits_at f bits (suc n)) none.0) (record { some = short.some; few = short.few; power = omega (arith, short.power); reads = short.reads })
   ]
 
-  shortest_is_short : IsShort (shortest f bits) 709
+  pub shortest_is_short : IsShort (shortest f bits) 709
   shortest_is_short =
       let none : floor_at f bits 709 < 1 = (div-lt_iff_lt-mul (den_pos 709)).1 (omega (arith, none_at_greatest f bits F)) in
       let reached = reach 709 (omega arith) (omega arith) (omega arith) in

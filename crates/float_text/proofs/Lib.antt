@@ -11,3 +11,4 @@ pub mod Found
 pub mod Leading
 pub mod Apart
 pub mod Alone
+pub mod ReadBack

@@ -3,11 +3,13 @@
 
 mod candidate;
 mod comparison;
+mod laws;
 mod layout;
 mod natural;
 mod number;
 mod search;
 mod stored;
 
+pub use laws::texts_read_back;
 pub use number::{NUMBER_ROOM, push_number, put_number, shortest_decimal};
 pub use stored::push_stored;
