@@ -14,3 +14,5 @@ pub mod ReadDocuments
 pub mod JsonTexts
 pub mod Fronts
 pub mod Spelled
+pub mod DoublesReadBack
+pub mod Moments

@@ -11,3 +11,5 @@ pub mod Values
 pub mod PlainText
 pub mod Drafts
 pub mod AsJson
+pub mod DoublesReadBack
+pub mod Moments

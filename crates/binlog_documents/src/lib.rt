@@ -17,6 +17,6 @@ mod scalar;
 mod time;
 mod writer;
 
-pub use laws::{documents_are_json, documents_are_read};
+pub use laws::{documents_are_json, documents_are_read, values_are_shown};
 pub use plain::is_plain;
 pub use writer::DocumentWriter;
