@@ -14,5 +14,6 @@ pub mod ReadDocuments
 pub mod JsonTexts
 pub mod Fronts
 pub mod Spelled
+pub mod ReadIsSpelled
 pub mod DoublesReadBack
 pub mod Moments

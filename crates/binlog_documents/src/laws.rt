@@ -13,8 +13,9 @@ pub fn documents_are_json()
     ensures { DocumentsAreJson }
 {}
 
-/// Reading finds each document that bytes spell. So they spell at most one.
+/// What reading finds is spelled, and it finds each document that bytes spell. So they spell at most one.
 pub fn documents_are_read()
+    ensures found { (bytes : List ℕ) (document : Document) → document_at bytes ≡ Some document → Spells document bytes }
     ensures only { (document : Document) (bytes : List ℕ) → Spells document bytes → document_at bytes ≡ Some document }
     ensures one { (document other : Document) (bytes : List ℕ) → Spells document bytes → Spells other bytes → document ≡ other }
 {}
