@@ -1,5 +1,5 @@
 -- The text of a double reads back as it.
-use Rattle.std.proofs.Common.{◌≡◌, ℕ, ◌%◌, ◌*◌, ◌^◌, ◌<◌, true, arith}
+use Rattle.std.proofs.Common.{◌%◌, ◌*◌, ◌^◌}
 use Rattle.std.specs.Float.{binary64}
 use Rattle.std.proofs.lemmas.Bool.{ltb-true}
 use Rattle.float_text.proofs.ReadBack.{text_reads_back}

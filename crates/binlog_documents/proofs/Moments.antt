@@ -1,7 +1,7 @@
 -- What a packed date or time is shown as: the parts come back from the number.
-use Rattle.std.proofs.Common.{◌≡◌, ◌⊎◌, inl, inr, ℕ, ◌+◌, ◌-◌, ◌*◌, ◌/◌, ◌%◌, ◌^◌, ◌<◌, ◌≤◌, ◌∷◌, ◌++◌, List, true, false, nat_lt, refl, arith}
+use Rattle.std.proofs.Common.{◌≡◌, inl, inr, ℕ, ◌+◌, ◌-◌, ◌*◌, ◌/◌, ◌%◌, ◌^◌, ◌<◌, ◌≤◌, ◌∷◌, ◌++◌, true, false, nat_lt, refl, arith}
 use Rattle.std.proofs.lemmas.Bool.Decides.{nat_tests}
-use Rattle.binlog_documents.specs.Opaques.{above_micros, clock_text, day_text, padded}
+use Rattle.binlog_documents.specs.Opaques.{above_micros, clock_text, day_text}
 use Rattle.binlog_documents.specs.Moments.{Clock, Day, IsClock, IsDay, packed_clock, packed_day, clock_shown, day_shown, DatesAreShown, MomentsAreShown, SpansAreShown}
 
 days_above : (days low : ℕ) → low < 131072 * 16777216 → (days * 131072 * 16777216 + low) / 2 ^ 24 / 2 ^ 17 ≡ days

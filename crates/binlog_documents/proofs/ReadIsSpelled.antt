@@ -1,18 +1,18 @@
 -- What is read is spelled.
-use Rattle.std.proofs.Common.{◌≡◌, ◌∙◌, ℕ, zero, suc, ℤ, pos, ◌+◌, ◌-◌, ◌*◌, ◌<◌, ◌≤◌, ◌==◌, ◌&&◌, ◌⊎◌, inl, inr, Bool, true, false, cond, nat_lt, nat_le, max, List, [], ◌∷◌, ◌++◌, length, take, drop, Option, Some, None, option_map, option_and_then, refl, sym, ap, subst, add-one, leb-true, length-drop, length-take, length-take-le, take-append-drop, arith}
+use Rattle.std.proofs.Common.{◌≡◌, ◌∙◌, ℕ, zero, suc, ℤ, pos, ◌+◌, ◌-◌, ◌*◌, ◌<◌, ◌≤◌, ◌==◌, ◌&&◌, ◌⊎◌, inl, inr, Bool, true, false, cond, nat_lt, nat_le, List, [], ◌∷◌, ◌++◌, length, take, drop, Option, Some, None, option_map, refl, sym, ap, subst, add-one, leb-true, length-drop, length-take, length-take-le, take-append-drop, arith}
 use Rattle.std.specs.Prelude.{slice_index}
 use Rattle.std.specs.Str.{is_utf8}
 use Rattle.std.proofs.Math.Seq.{take-add}
 use Rattle.std.proofs.lemmas.Bool.{and_parts}
 use Rattle.std.proofs.lemmas.Bool.Decides.{leb_tells, nat_tests}
-use Rattle.std.proofs.lemmas.List.{drop-drop, drop-take, length-append}
+use Rattle.std.proofs.lemmas.List.{drop-drop, drop-take}
 use Rattle.std.proofs.lemmas.Option.{same_Some}
 use Rattle.byteorder.specs.Endian.{little_number, twos_complement}
 use Rattle.byteorder.specs.Numbers.{little_from-take}
 use Rattle.binlog_documents.specs.Document.{Document, null, boolean, integer, double, text, opaque, array, object, Elements, no_elements, element, Members, no_members, member}
 use Rattle.binlog_documents.specs.Scalars.{◌>>=◌, Reading, literal_at, number_at, signed, unsigned, is_finite, double_at, length_at, counted_at, utf8_text, text_at, opaque_at, scalar_at}
-use Rattle.binlog_documents.specs.Containers.{Container, element_entry, member_entries, container_at, is_inlined, value_place, value_in, key_entry, key_in, keys_end, elements_in, members_in, elements_of, members_of, array_at, object_at, value_at, greatest_depth, document_at}
-use Rattle.binlog_documents.specs.Spelling.{IsInteger, IsSigned, IsUnsigned, IsLength, IsCounted, HasWidth, IsNumber, IsInlined, IsPlaced, IsEntry, AreKeys, IsArray, IsObject, elements_count, keys_of, SpellsValue, AreElements, AreMembers, nesting, elements_nesting, members_nesting, Spells}
+use Rattle.binlog_documents.specs.Containers.{Container, element_entry, member_entries, container_at, is_inlined, value_place, value_in, key_in, keys_end, elements_in, members_in, elements_of, members_of, array_at, object_at, value_at, greatest_depth, document_at}
+use Rattle.binlog_documents.specs.Spelling.{IsInteger, IsSigned, IsUnsigned, IsLength, IsCounted, HasWidth, IsNumber, IsEntry, AreKeys, elements_count, keys_of, SpellsValue, AreElements, AreMembers, nesting, elements_nesting, members_nesting, Spells}
 
 abbrev Tells : ℕ → ℕ → Type 0
 Tells a b = ((nat_le a b ≡ true) × (a ≤ b)) ⊎ ((nat_le a b ≡ false) × (b < a))

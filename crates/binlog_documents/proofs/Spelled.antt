@@ -1,5 +1,5 @@
 -- What is spelled is read.
-use Rattle.std.proofs.Common.{◌≡◌, ◌∙◌, ℕ, zero, suc, ℤ, pos, ◌+◌, ◌-◌, ◌*◌, ◌<◌, ◌≤◌, ◌==◌, ◌&&◌, ◌⊎◌, inl, inr, Bool, true, false, nat_lt, nat_le, max, List, [], ◌∷◌, ◌++◌, length, take, drop, Option, Some, None, option_map, refl, sym, ap, append_assoc, add-one, le-leb, length-drop, arith}
+use Rattle.std.proofs.Common.{◌≡◌, ◌∙◌, ℕ, zero, suc, ℤ, ◌+◌, ◌-◌, ◌*◌, ◌≤◌, ◌==◌, inl, inr, Bool, true, false, nat_lt, nat_le, List, [], ◌∷◌, ◌++◌, length, drop, Some, refl, sym, ap, append_assoc, add-one, le-leb, length-drop, arith}
 use Rattle.std.specs.Prelude.{slice_index}
 use Rattle.std.specs.Str.{is_utf8}
 use Rattle.std.proofs.lemmas.Bool.Decides.{nat_tests}
@@ -8,8 +8,8 @@ use Rattle.std.proofs.lemmas.Option.{same_Some}
 use Rattle.byteorder.specs.Endian.{little_number}
 use Rattle.byteorder.specs.Numbers.{little_from-append}
 use Rattle.binlog_documents.specs.Document.{Document, null, boolean, integer, double, text, opaque, array, object, Elements, no_elements, element, Members, no_members, member}
-use Rattle.binlog_documents.specs.Scalars.{◌>>=◌, Reading, literal_at, number_at, signed, unsigned, is_finite, double_at, length_at, counted_at, utf8_text, text_at, opaque_at, scalar_at}
-use Rattle.binlog_documents.specs.Containers.{Container, element_entry, member_entries, container_at, is_inlined, value_place, value_in, key_entry, key_in, keys_end, elements_in, members_in, elements_of, members_of, array_at, object_at, value_at, greatest_depth, document_at}
+use Rattle.binlog_documents.specs.Scalars.{literal_at, number_at, signed, unsigned, double_at, length_at, counted_at, utf8_text, text_at, opaque_at, scalar_at}
+use Rattle.binlog_documents.specs.Containers.{element_entry, member_entries, container_at, is_inlined, value_place, value_in, key_entry, key_in, keys_end, elements_in, members_in, array_at, object_at, value_at, greatest_depth, document_at}
 use Rattle.binlog_documents.specs.Spelling.{IsLiteral, IsInteger, IsDouble, IsLength, IsCounted, IsText, IsOpaque, HasWidth, IsNumber, IsInlined, IsPlaced, IsEntry, AreKeys, IsArray, IsObject, elements_count, keys_of, SpellsValue, AreElements, AreMembers, nesting, elements_nesting, members_nesting, Spells}
 
 -- ---- values that have no parts

@@ -1,9 +1,9 @@
 -- The bytes that spell a document, as json_binary.h lays them out: what parts they have, one behind the other. Nothing here reads.
 --   doc ::= type value
-use Rattle.std.specs.Prelude.{◌≡◌, ℕ, zero, suc, ℤ, pos, ◌+◌, ◌-◌, ◌*◌, ◌<◌, ◌≤◌, ◌⊎◌, max, List, [], ◌∷◌, ◌++◌, length, Bool, true, false, if◌then◌else◌}
+use Rattle.std.specs.Prelude.{◌≡◌, ℕ, suc, ℤ, pos, ◌+◌, ◌-◌, ◌*◌, ◌<◌, ◌≤◌, ◌⊎◌, max, List, [], ◌∷◌, ◌++◌, length, true, false, if◌then◌else◌}
 use Rattle.byteorder.specs.Endian.{little_number, twos_complement}
 use Rattle.binlog_documents.specs.Document.{Document, null, boolean, integer, double, text, opaque, array, object, Elements, no_elements, element, Members, no_members, member}
-use Rattle.binlog_documents.specs.Scalars.{is_finite, utf8_text}
+use Rattle.binlog_documents.specs.Scalars.{is_finite}
 use Rattle.binlog_documents.specs.Containers.{is_inlined, greatest_depth}
 use Rattle.std.specs.Str.{is_utf8}
 
