@@ -5,4 +5,5 @@ pub mod Containers
 pub mod Opaques
 pub mod Shapes
 pub mod Spelling
+pub mod Moments
 pub mod Meanings

@@ -1,6 +1,5 @@
 -- What spells a document, part by part, and what spells none: a place, a length or a size that is one off.
-use Prim.Native.String.{String}
-use Rattle.std.specs.Prelude.{ℕ, pos, List, [], ◌∷◌, codes, Bool}
+use Rattle.std.specs.Prelude.{pos, codes, Bool}
 use Rattle.binlog_documents.specs.Document.{Document, boolean, integer, text, array, object, no_elements, element, no_members, member}
 use Rattle.binlog_documents.specs.Spelling.{Spells}
 use Rattle.document_samples.specs.Bytes.{hex}

@@ -4,6 +4,7 @@
 ghost use Rattle.document_samples.specs.Containers.{Arrays, Objects, Gaps, NoContainers, Overlaps, OverlappingMembers, NoKeys};
 ghost use Rattle.document_samples.specs.Floats.{GreatFloats, GreatestFloats, SmallFloats, FloatTies, NoFloats};
 ghost use Rattle.document_samples.specs.Meanings.{JsonScalars, JsonOpaques, JsonContainers, NoMeanings, JsonByLaw};
+ghost use Rattle.document_samples.specs.Moments.{PackedMoments, MomentByLaw, TextByLaw};
 ghost use Rattle.document_samples.specs.Opaques.{Decimals, LeftoverDigits, LongDecimals, NoDecimals, DatesAndTimes, LastSeconds, NoDatesAndTimes, OtherTypes};
 ghost use Rattle.document_samples.specs.Scalars.{Literals, NoLiterals, Integers, Doubles, PointedDoubles, GreatDoubles, GreaterDoubles, LongerExponents, SmallDoubles, SmallerDoubles, DoubleTies, Lengths, Texts, NoTypes};
 ghost use Rattle.document_samples.specs.Shapes.{Shapes, Depths};
@@ -57,6 +58,13 @@ pub fn sample_opaques()
     ensures last_seconds { LastSeconds }
     ensures no_dates_and_times { NoDatesAndTimes }
     ensures other_types { OtherTypes }
+{}
+
+/// Packed dates and times, and what the laws of moments and of floats say.
+pub fn sample_moments()
+    ensures packed_moments { PackedMoments }
+    ensures moment_by_law { MomentByLaw }
+    ensures text_by_law { TextByLaw }
 {}
 
 /// What spells documents.

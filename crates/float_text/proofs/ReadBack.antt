@@ -1,11 +1,11 @@
 -- The text of a float reads back as it: each layout is a numeral that is worth the shortest decimal.
-use Rattle.std.proofs.Common.{◌≡◌, ◌∙◌, ℕ, zero, suc, ◌+◌, ◌-◌, ◌*◌, ◌%◌, ◌^◌, ◌<◌, ◌≤◌, ◌&&◌, Bool, true, false, cond, ltb, leb, T, not, List, [], ◌∷◌, ◌++◌, length, take, drop, replicate, codes, decimal, Some, inl, inr, refl, sym, ap, subst, arith, append-nil, append_assoc, eq-zero-or-pos, eq-eqb, ltb-true, ltb-false, pow-add, take-append-drop, length-drop, length-take, mod-eq_of_lt}
+use Rattle.std.proofs.Common.{◌≡◌, ◌∙◌, ℕ, zero, suc, ◌+◌, ◌-◌, ◌*◌, ◌%◌, ◌^◌, ◌<◌, ◌≤◌, ◌&&◌, Bool, true, false, cond, ltb, leb, T, not, List, [], ◌∷◌, ◌++◌, length, take, drop, replicate, codes, decimal, Some, inl, inr, refl, sym, ap, subst, arith, append-nil, append_assoc, eq-zero-or-pos, eq-eqb, ltb-true, ltb-false, pow-add, take-append-drop, length-drop, length-take}
 use lib.Dec.{lit<}
-use lib.Ieee.{Float, Format, hid, is_nan, of_bits, ones, round, top}
+use lib.Ieee.{Float, Format, hid, is_nan, of_bits, ones, top}
 use lib.Ieee.Bits.{nan_bits_above, nan_bits_is}
 use lib.Ieee.Scale.{round_same}
 use Rattle.std.specs.Fmt.{sign_text}
-use Rattle.std.specs.Float.Numeral.{IsWellFormed, Parts, nearest_float, numeral_digits, tens_down, tens_up, text_of}
+use Rattle.std.specs.Float.Numeral.{IsWellFormed, Parts, numeral_digits, tens_down, tens_up, text_of}
 use Rattle.std.specs.Float.Parse.{parse_float}
 use Rattle.std.specs.Str.Parse.{AllDigits, digits_value}
 use Rattle.std.proofs.lemmas.Bool.{and_parts, ne_eqb, le-ltb}
@@ -19,11 +19,11 @@ use Rattle.ryu.specs.Plain.{exponent_with, text_with}
 use Rattle.ryu.specs.Sign.{IsSignAndSize}
 use Rattle.ryu.proofs.Plus.{parse_float-text_with}
 use Rattle.ryu.proofs.Signs.{parts, signed}
-use Rattle.float_text.specs.Layout.{exponent_digits, exponent_text, layout, mantissa_text, number_text, pointed_text, size_text, small_text, whole_text, zeros}
+use Rattle.float_text.specs.Layout.{exponent_digits, exponent_text, layout, mantissa_text, pointed_text, size_text, small_text, whole_text, zeros}
 use Rattle.float_text.specs.ReadBack.{TextsReadBack}
-use Rattle.float_text.specs.Shortest.{IsFinite, reads_as, shortest}
+use Rattle.float_text.specs.Shortest.{IsFinite, shortest}
 use Rattle.float_text.proofs.Coarsest.{read_of_test}
-use Rattle.float_text.proofs.Found.{IsShort, shortest_is_short}
+use Rattle.float_text.proofs.Found.{shortest_is_short}
 
 -- the text is a numeral, which is worth n * 10 ^ power / 10 ^ 400
 record Says (text : List ℕ) (n power : ℕ) : Type 0 where
