@@ -17,3 +17,4 @@ pub mod Spelled
 pub mod ReadIsSpelled
 pub mod DoublesReadBack
 pub mod Moments
+pub mod DecimalDigits

@@ -66,7 +66,7 @@ abbrev pub AppendsJson : List ℕ → List ℕ → List ℕ → Type 0
 AppendsJson value old new = IsJsonOf value (drop (length old) new)
 
 -- The text of each document that bytes spell is JSON, and the value that is read there is the document's, as above. Of a double or a
--- decimal that says only that its text (`double_text`, `decimal_opaque`) is a number of JSON. Which one a double's is: `DoublesReadBack`.
+-- decimal that says only that its text (`double_text`, `decimal_opaque`) is a number of JSON. DoublesReadBack and DecimalDigits say which.
 abbrev pub DocumentsAreJson : Type 0
 DocumentsAreJson =
     (bytes : List ℕ) (document : Document) → All (λ b. b < 2 ^ 8) bytes → document_at bytes ≡ Some document → json_value (document_text document) ≡ Some (as_json document)

@@ -13,3 +13,4 @@ pub mod Drafts
 pub mod AsJson
 pub mod DoublesReadBack
 pub mod Moments
+pub mod DecimalDigits

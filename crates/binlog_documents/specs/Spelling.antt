@@ -91,7 +91,8 @@ abbrev pub IsEntry : (ℕ → List ℕ → Type 0) → ℕ → ℕ → List ℕ 
 IsEntry spells width place entry values next others = IsInlined spells width place entry values next others ⊎ IsPlaced spells width place entry values next others
 
 --   key-entry ::= key-offset key-length
--- Keys stand in the order of their entries, behind bytes that belong to none. The last one ends where the keys end.
+-- Keys stand in the order of their entries, behind bytes that belong to none. The last one ends where the keys end. A server sorts them, the
+-- shorter ones first; what it doesn't write, keys in another order and equal ones, is spelled, too.
 abbrev pub AreKeys : List (List ℕ) → ℕ → ℕ → List ℕ → List ℕ → Type 0
 AreKeys [] width place entries keys = (entries ≡ []) × (keys ≡ [])
 AreKeys (key ∷ others) width place entries keys =

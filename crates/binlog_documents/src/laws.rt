@@ -2,13 +2,14 @@
 ghost use Rattle.std.specs.Prelude.{◌≡◌, ℕ, List, Some};
 ghost use Rattle.binlog_documents.specs.AsJson.{DocumentsAreJson};
 ghost use Rattle.binlog_documents.specs.Containers.{document_at};
+ghost use Rattle.binlog_documents.specs.DecimalDigits.{DecimalsAreShown};
 ghost use Rattle.binlog_documents.specs.Document.{Document};
 ghost use Rattle.binlog_documents.specs.DoublesReadBack.{DoublesReadBack};
 ghost use Rattle.binlog_documents.specs.Moments.{DatesAreShown, MomentsAreShown, SpansAreShown};
 ghost use Rattle.binlog_documents.specs.Spelling.{Spells};
 
 /// The text of each document that bytes spell is JSON, and the value that is read there is the document's (`as_json`). Of a double or
-/// a decimal that says only that its text is a number of JSON; `values_are_shown` says which one a double's is.
+/// a decimal that says only that its text is a number of JSON; `values_are_shown` says which one.
 pub fn documents_are_json()
     ensures { DocumentsAreJson }
 {}
@@ -20,10 +21,11 @@ pub fn documents_are_read()
     ensures one { (document other : Document) (bytes : List ℕ) → Spells document bytes → Spells other bytes → document ≡ other }
 {}
 
-/// Which number a double is shown as, and which day, moment or span of time a packed number. `documents_are_json` says that these texts stand
-/// there: as numbers, and as strings.
+/// Which number a double or a decimal is shown as, and which day, moment or span of time a packed number. `documents_are_json` says
+/// that these texts stand there: as numbers, and as strings.
 pub fn values_are_shown()
     ensures doubles { DoublesReadBack }
+    ensures decimals { DecimalsAreShown }
     ensures dates { DatesAreShown }
     ensures moments { MomentsAreShown }
     ensures spans { SpansAreShown }
