@@ -1,5 +1,6 @@
 -- What spells a document, part by part, and what spells none: a place, a length or a size that is one off.
-use Rattle.std.specs.Prelude.{pos, codes, Bool}
+use Rattle.std.specs.Prelude.{pos, codes, Bool, true, false}
+use Rattle.binlog_documents.specs.DecimalDigits.{IsDecimal}
 use Rattle.binlog_documents.specs.Document.{Document, boolean, integer, text, array, object, no_elements, element, no_members, member}
 use Rattle.binlog_documents.specs.Spelling.{Spells}
 use Rattle.document_samples.specs.Bytes.{hex}
@@ -39,3 +40,9 @@ MembersNotSpelled =
     × (Spells a_is_70000 (hex "01 01 00 00 00 14 00 00 00 13 00 00 00 02 00 07 70 11 01 00 61") → ⊥)
     × (Spells a_is_70000 (hex "01 01 00 00 00 14 00 00 00 13 00 00 00 01 00 07 70 11 01 00 62") → ⊥)
     × (Spells a_is_true (hex "00 01 00 14 00 0b 00 01 00 02 0c 00 61 ff 01 00 07 00 04 01 00 ff") → ⊥)
+
+-- 1234567.9876543 and -3.14 of ten digits, each in two groups; and the first with another last digit
+abbrev pub SpelledDecimals : Type 0
+SpelledDecimals =
+    IsDecimal false 7 7 (codes "12345679876543") (hex "80 12 d6 87 00 96 b4 3f") × IsDecimal true 8 2 (codes "0000000314") (hex "7f ff ff fc f1")
+    × (IsDecimal false 7 7 (codes "12345679876544") (hex "80 12 d6 87 00 96 b4 3f") → ⊥)

@@ -8,7 +8,7 @@ ghost use Rattle.document_samples.specs.Moments.{PackedMoments, MomentByLaw, Tex
 ghost use Rattle.document_samples.specs.Opaques.{Decimals, LeftoverDigits, LongDecimals, NoDecimals, DatesAndTimes, LastSeconds, NoDatesAndTimes, OtherTypes};
 ghost use Rattle.document_samples.specs.Scalars.{Literals, NoLiterals, Integers, Doubles, PointedDoubles, GreatDoubles, GreaterDoubles, LongerExponents, SmallDoubles, SmallerDoubles, DoubleTies, Lengths, Texts, NoTypes};
 ghost use Rattle.document_samples.specs.Shapes.{Shapes, Depths};
-ghost use Rattle.document_samples.specs.Spelling.{SmallArray, LargeObject, ObjectWithGap, NotSpelled, MembersNotSpelled};
+ghost use Rattle.document_samples.specs.Spelling.{SmallArray, LargeObject, ObjectWithGap, NotSpelled, MembersNotSpelled, SpelledDecimals};
 
 /// Values that have no parts.
 pub fn sample_scalars()
@@ -74,6 +74,7 @@ pub fn sample_spelling()
     ensures object_with_gap { ObjectWithGap }
     ensures not_spelled { NotSpelled }
     ensures members_not_spelled { MembersNotSpelled }
+    ensures spelled_decimals { SpelledDecimals }
 {}
 
 /// What documents are apart from their text, and how deep they may be.

@@ -1,10 +1,12 @@
-use Rattle.std.proofs.Common.{◌≡◌, ◌∙◌, ℕ, pos, List, [], ◌∷◌, Some, None, inl, inr, refl, sym, ap, arith}
-use Rattle.std.specs.Prelude.{codes, slice_index}
+use Rattle.std.proofs.Common.{◌≡◌, ◌∙◌, ℕ, pos, List, [], ◌∷◌, Option, Some, None, false, inl, inr, refl, sym, ap, arith}
+use lib.Dec.{lit<}
+use Rattle.std.specs.Prelude.{codes, slice_index, unwrap_or}
 use Rattle.std.proofs.lemmas.Option.{none-some, same_Some}
 use Rattle.binlog_documents.specs.Document.{Document, integer, text, array, object, no_elements, element, no_members, member}
 use Rattle.binlog_documents.specs.Containers.{document_at}
 use Rattle.binlog_documents.specs.Spelling.{Spells}
 use Rattle.binlog_documents.specs.Texts.{document_text}
+use Rattle.binlog_documents.proofs.DecimalDigits.{decimals_are_shown}
 use Rattle.binlog_documents.proofs.Spelled.{document_only}
 use Rattle.document_samples.specs.Spelling.{one_and_x, a_is_70000, a_is_true}
 use Rattle.document_samples.specs.Bytes.{hex}
@@ -217,4 +219,47 @@ returns-clause-members_not_spelled c = (
   unread a_is_70000 (hex "01 01 00 00 00 14 00 00 00 13 00 00 00 02 00 07 70 11 01 00 61") refl,
   other a_is_70000 (object (member (codes "b") (integer (pos 70000)) no_members)) (hex "01 01 00 00 00 14 00 00 00 13 00 00 00 01 00 07 70 11 01 00 62") 2 refl (λ e. omega (arith, e)),
   unread a_is_true (hex "00 01 00 14 00 0b 00 01 00 02 0c 00 61 ff 01 00 07 00 04 01 00 ff") refl,
+)
+
+pub returns-clause-spelled_decimals : goal.returns-clause-spelled_decimals
+unfolding on_documents
+returns-clause-spelled_decimals c = (
+  record {
+    precise = refl;
+    sign = refl;
+    grouped = (
+      codes "1234567",
+      codes "9876543",
+      hex "00 12 d6 87",
+      hex "00 96 b4 3f",
+      refl,
+      refl,
+      refl,
+      (lit< tt, (lit< tt, (lit< tt, (lit< tt, (lit< tt, (lit< tt, (lit< tt, tt))))))),
+      refl,
+      refl,
+      (codes "9876543", [], hex "00 96 b4 3f", [], refl, refl, refl, (lit< tt, (lit< tt, (lit< tt, (lit< tt, (lit< tt, (lit< tt, (lit< tt, tt))))))), refl, refl, (refl, refl)),
+    );
+  },
+  record {
+    precise = refl;
+    sign = refl;
+    grouped = (
+      codes "00000003",
+      codes "14",
+      hex "00 00 00 03",
+      hex "0e",
+      refl,
+      refl,
+      refl,
+      (lit< tt, (lit< tt, (lit< tt, (lit< tt, (lit< tt, (lit< tt, (lit< tt, (lit< tt, tt)))))))),
+      refl,
+      refl,
+      (codes "14", [], hex "0e", [], refl, refl, refl, (lit< tt, (lit< tt, tt)), refl, refl, (refl, refl)),
+    );
+  },
+  λ is.
+      let read = decimals_are_shown false 7 7 (codes "12345679876544") (hex "80 12 d6 87 00 96 b4 3f") is in
+      let last = ap (λ (o : Option (List ℕ)). slice_index (unwrap_or o []) 14) read in
+      omega (arith, last),
 )
