@@ -15,6 +15,7 @@ pub mod FileLaws
 pub mod Profiles
 pub mod Following
 pub mod Frames
+pub mod Growing
 pub mod Sources
 pub mod Statuses
 pub mod Words
