@@ -46,14 +46,17 @@ def command(words: list[str | bytes]) -> list[str | bytes]:
     return ["binlogfeed", *words]
 
 
-def run(program: Path, words: list[str | bytes], folder: Path, stdout: int | IO[bytes] = subprocess.PIPE) -> Outcome:
-    """Runs a program in a folder."""
+def run(
+    program: Path, words: list[str | bytes], folder: Path, stdout: int | IO[bytes] = subprocess.PIPE, text: bytes | None = None
+) -> Outcome:
+    """Runs a program in a folder, with a text as its input."""
     try:
         ended = subprocess.run(
             command(words),
             executable=program,
             cwd=folder,
-            stdin=subprocess.DEVNULL,
+            stdin=subprocess.DEVNULL if text is None else None,
+            input=text,
             stdout=stdout,
             stderr=subprocess.PIPE,
             timeout=SECONDS,

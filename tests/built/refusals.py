@@ -17,18 +17,19 @@ def last_token(lines: bytes) -> str:
     return lines.rsplit(b'"token":"', maxsplit=1)[1].split(b'"', maxsplit=1)[0].decode()
 
 
-def judge_words(words: list[str], goes_on: bool, log: bytes, program: Path, folder: Path) -> list[str]:
-    """A run over a log ends out of memory behind a beginning of its lines. Begun anew behind the last one, it gives the others.
+def judge_words(words: list[str], goes_on: bool, log: bytes, text: bytes, program: Path, folder: Path) -> list[str]:
+    """A run over a log, with a text as its input, ends out of memory behind a beginning of its lines. Begun anew behind the last one, it
+    gives the others.
 
     A growth that is refused is asked for once more, so a few refusals leave the run as it is.
     """
     put(folder, ["log"], log)
-    whole, (requests, *_) = run_preloaded(program, words, folder)
+    whole, (requests, *_) = run_preloaded(program, words, folder, text=text)
     if whole.status != 0:
         return [f"status {whole.status}, where none of {requests} is refused"]
     ended = 0
     for refused in range(1, requests + 1):
-        came = run_preloaded(program, words, folder, refused).outcome
+        came = run_preloaded(program, words, folder, refused, text).outcome
         if came == whole:
             continue
         ended += 1
@@ -75,13 +76,19 @@ RUNS = (
     (["read", "--full", "--profile", "server", "log"], True, NUMBERED),
     (["history", "--full", "--profile", "server", "--schema", "s", "--table", "t", "--key", "[1]", "log"], False, NUMBERED_KEY),
 )
+# Runs that follow the log, with their inputs: the path of one takes 4 KB.
+FOLLOWED = (
+    (["read", "--follow"], b"\nlog\n\n\n"),
+    (["read", "--follow", "log"], b"\n" + b"./" * 2_000 + b"log\n\n\n"),
+)
 
 
 def checks() -> list[Check]:
     """The checks of the program."""
+    runs = [*((*run, b"") for run in RUNS), *((words, False, NAMED, text) for words, text in FOLLOWED)]
     return [
-        Check(f"{' '.join(words)}, each request for memory refused in turn", partial(judge_words, words, goes_on, log))
-        for words, goes_on, log in RUNS
+        Check(f"{' '.join(words)}, each request for memory refused in turn", partial(judge_words, words, goes_on, log, text))
+        for words, goes_on, log, text in runs
     ]
 
 
