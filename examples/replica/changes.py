@@ -1,6 +1,7 @@
 """The changes that a server's logs have behind a place, by the full lines of `read --follow`."""
 from __future__ import annotations
 
+import threading
 from collections.abc import Iterator
 from typing import NamedTuple
 
@@ -57,6 +58,10 @@ class Changes:
     def place_behind(self, token: str, place: Place) -> Place:
         """The place behind a change that the look gave, where `place` is one before it."""
         return place.behind(token, self._watch.told)
+
+    def wait(self, seconds: float) -> None:
+        """Waits for so long. Raises what the program ended with meanwhile."""
+        self._watch.wait(seconds, threading.Event())
 
     def close(self) -> None:
         """Ends the program."""

@@ -17,7 +17,6 @@ from __future__ import annotations
 import argparse
 import signal
 import sys
-import time
 import traceback
 from pathlib import Path
 from types import FrameType
@@ -29,6 +28,7 @@ from binlogfeed import BinlogfeedError, ColumnsMismatch, LogFault, Place  # noqa
 from binlogfeed.columns import Tables, tables_of  # noqa: E402
 from binlogfeed.filters import add_profile  # noqa: E402
 from binlogfeed.lines import Change  # noqa: E402
+from binlogfeed.options import seconds  # noqa: E402
 from binlogfeed.tokens import beginning  # noqa: E402
 from changes import Changes, Source  # noqa: E402
 from postgres import Postgres  # noqa: E402
@@ -81,6 +81,10 @@ class Replica:
                 # An error of a batch doesn't say which change it is of, and whole transactions may stand before it.
                 # Taken change by change, these come in, and the error is that of a change.
                 self._alone = self._commit_every
+
+    def wait(self, seconds: float) -> None:
+        """Waits for so long. Raises what the program ended with meanwhile."""
+        self._changes.wait(seconds)
 
     def close(self) -> None:
         """Ends the program."""
@@ -194,7 +198,7 @@ def given_words() -> argparse.Namespace:
     columns = "the columns of tables that have no names in the log, as information_schema.columns has them"
     parser.add_argument("--columns", metavar="FILE", help=columns)
     parser.add_argument("--follow", action="store_true", help="go on when the logs grow, until SIGTERM")
-    parser.add_argument("--interval", type=float, default=1.0, metavar="SECONDS", help="how often to look for more (1)")
+    parser.add_argument("--interval", type=seconds, default=1.0, metavar="SECONDS", help="how often to look for more (1)")
     every = "commit after so many of the log's transactions (1), and behind each look"
     parser.add_argument("--commit-every", type=count, default=1, metavar="N", help=every)
     unfit = "what a value becomes that its column can't hold, such as 0000-00-00 (error)"
@@ -211,7 +215,7 @@ def keep_up(given: argparse.Namespace) -> None:
         try:
             replica.catch_up()
             while given.follow:
-                time.sleep(given.interval)
+                replica.wait(given.interval)
                 replica.catch_up()
         finally:
             replica.close()

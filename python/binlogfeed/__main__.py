@@ -13,11 +13,15 @@ from typing import Any
 from binlogfeed.faults import BinlogfeedError
 from binlogfeed.filters import add_filters, add_profile, filter_words
 from binlogfeed.follow import Follower
+from binlogfeed.options import seconds
 from binlogfeed.summary.command import add_summary
 from binlogfeed.version import VERSION
 
 # A look that goes on when SIGTERM comes has so many seconds to come to its end.
 GRACE = 5.0
+PAUSE = 0.1
+# Ends a write of the main thread. The system itself ignores it, so it does no harm where it comes too late.
+ENDS_WRITES = signal.SIGURG
 HELP = """LOGS is the server's index file (binlog.index), the folder that has one, or a pattern in quotes ('/copies/binlog.*').
 The place in FILE is kept once the lines before it are written and flushed. After a kill the last lines may come again; a
 line's token tells them. One process uses FILE at a time, and FILE.lock says so. SIGTERM ends it behind a look, with status 0.
@@ -47,8 +51,8 @@ def add_follow(commands: Any) -> None:
     parser.add_argument("logs", metavar="LOGS", help="where the logs are")
     parser.add_argument("--state", metavar="FILE", required=True, type=Path, help="keeps the place; made where there is none")
     parser.add_argument("--once", action="store_true", help="end where the logs end by now")
-    parser.add_argument("--interval", metavar="SECONDS", type=float, default=1.0, help="how often to look for more (1)")
-    parser.add_argument("--status", metavar="SECONDS", type=float, help="say on standard error how far it is, so often")
+    parser.add_argument("--interval", metavar="SECONDS", type=seconds, default=1.0, help="how often to look for more (1)")
+    parser.add_argument("--status", metavar="SECONDS", type=seconds, help="say on standard error how far it is, so often")
     parser.add_argument("--program", metavar="PATH", default="binlogfeed", help="the program (binlogfeed)")
     parser.add_argument("--full", action="store_true", help="print full lines")
     add_profile(parser)
@@ -67,12 +71,13 @@ def follow(given: argparse.Namespace) -> None:
         # No thread takes SIGTERM but the one that waits for it, and the program doesn't either: what ends all processes of a
         # service must not end the program within a look.
         signal.pthread_sigmask(signal.SIG_BLOCK, [signal.SIGTERM])
+        signal.signal(ENDS_WRITES, lambda number, frame: follower.interrupt())
         threading.Thread(target=wait_for_stop, args=(follower, stopped), daemon=True).start()
     if given.status:
         threading.Thread(target=say_status, args=(follower, given.status), daemon=True).start()
     try:
         follower.catch_up()
-        while not stopped.wait(given.interval):
+        while not follower.wait(given.interval, stopped):
             follower.catch_up()
     finally:
         follower.close()
@@ -84,12 +89,16 @@ def wait_for_stop(follower: Follower, stopped: threading.Event) -> None:
     stopped.set()
     time.sleep(GRACE)
     follower.stop()
+    while True:
+        # It may be a full pipe, whose reader takes nothing, that holds the main thread.
+        signal.pthread_kill(threading.main_thread().ident or 0, ENDS_WRITES)
+        time.sleep(PAUSE)
 
 
-def say_status(follower: Follower, seconds: float) -> None:
+def say_status(follower: Follower, every: float) -> None:
     """Says again and again how far it is."""
     while True:
-        time.sleep(seconds)
+        time.sleep(every)
         print(follower.status(), file=sys.stderr, flush=True)
 
 

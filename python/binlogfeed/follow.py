@@ -5,6 +5,7 @@ import contextlib
 import fcntl
 import os
 import sys
+import threading
 import time
 from collections.abc import Iterable, Sequence
 from pathlib import Path
@@ -19,6 +20,10 @@ from binlogfeed.watch import Watch
 # The place is kept behind each look, and within one behind so many bytes or seconds.
 KEEP_BYTES = 16 << 20
 KEEP_SECONDS = 1.0
+
+
+class WriteEnded(Exception):
+    """A write that waited for a reader was ended. Some of its bytes may be out."""
 
 
 class Follower:
@@ -36,12 +41,15 @@ class Follower:
         self._kept = read_state(state)
         self._watch = Watch(place, [program, "read", "--follow", *words], self._kept)
         self._said_none = False
+        self._writing = False
 
     def catch_up(self) -> None:
         """Prints all lines that are there by now, and keeps the place. Raises what ended the reading early."""
         try:
             with contextlib.closing(self._watch.look()) as blocks:
                 self._print(blocks)
+        except WriteEnded:
+            pass
         except BinlogfeedError:
             # The lines before a fault stand.
             self._keep()
@@ -50,6 +58,15 @@ class Follower:
         if self._watch.is_empty and is_pattern(self._logs) and not self._said_none:
             self._said_none = True
             print(f"binlogfeed: no log matches {self._logs} yet", file=sys.stderr, flush=True)
+
+    def wait(self, seconds: float, ending: threading.Event) -> bool:
+        """Waits for so long, or until the event comes, and answers whether it came. Raises what the program ended with meanwhile."""
+        return self._watch.wait(seconds, ending)
+
+    def interrupt(self) -> None:
+        """Ends a write that waits, for the handler of a signal that ended the system's call. The lines of that write come again."""
+        if self._writing:
+            raise WriteEnded
 
     def stop(self) -> None:
         """Ends a look that goes on, from another thread. The place is kept behind the lines that were printed."""
@@ -89,13 +106,21 @@ class Follower:
         """Writes whole lines. Within a long look the place is kept, too."""
         written, due = 0, time.monotonic() + KEEP_SECONDS
         for lines in blocks:
-            left = memoryview(lines)
-            while left:
-                left = left[self._out.write(left) :]
+            self._write(lines)
             written += len(lines)
             if written >= KEEP_BYTES or time.monotonic() >= due:
                 self._keep()
                 written, due = 0, time.monotonic() + KEEP_SECONDS
+
+    def _write(self, lines: bytes) -> None:
+        """Writes lines, of which the output may take a part at a time."""
+        left = memoryview(lines)
+        self._writing = True
+        try:
+            while left:
+                left = left[self._out.write(left) :]
+        finally:
+            self._writing = False
 
     def _keep(self) -> None:
         """Keeps the place behind the lines that were written, once they are out."""

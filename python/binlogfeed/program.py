@@ -146,12 +146,17 @@ class LookingRun(Program):
         self._judge()
         return False
 
+    def check(self) -> None:
+        """Raises the error that the program ended with, where it isn't there any more: it may have been killed between two looks."""
+        if self._process.poll() is not None:
+            self._judge()
+
     def _judge(self) -> None:
-        """Raises the error that the program ended with. It had no reason to end while it is asked."""
+        """Raises the error that the program ended with. It had no reason to end before its input does."""
         outcome = self._outcome()
         if outcome is not None:
             status, said = outcome
-            raise told(said, status) if status else ProgramFailed("binlogfeed: the program ended within a look")
+            raise told(said, status) if status else ProgramFailed("binlogfeed: the program ended before its input")
 
     def _ask(self, paths: Sequence[Path]) -> None:
         """Gives the program its list, which an empty line ends."""

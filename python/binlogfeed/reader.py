@@ -15,6 +15,7 @@ from binlogfeed.events import ROWS_EVENTS, Event, GtidEvent, RotateEvent, RowsEv
 from binlogfeed.faults import BinlogfeedError, ColumnsMismatch, LogFault, TokenRefused, WordsRefused
 from binlogfeed.lines import Parts, reader_of_lines
 from binlogfeed.logs import is_place_of_logs
+from binlogfeed.options import is_a_wait
 from binlogfeed.place import Place
 from binlogfeed.program import Run
 from binlogfeed.tokens import are_of_one_transaction, beginning, token_parts
@@ -159,6 +160,8 @@ class BinLogStreamReader(Generic[Given]):
         self._asked = asked_events(only_events, ignored_events)
         filters = words(self._asked, only_tables, ignored_tables, only_schemas, ignored_schemas, auto_position)
         self._command = [os.fspath(program), "read", "--full", f"--profile={profile}", *filters]
+        if not is_a_wait(interval):
+            raise ValueError(f"interval: a number of seconds above 0 is wanted, not {interval!r}")
         self._resume = resume
         self._start = _start(resume, resume_stream, log_file, log_pos)
         self._at_logs_end = resume_stream and log_file is None
@@ -291,7 +294,7 @@ class BinLogStreamReader(Generic[Given]):
             if watch.is_empty and not is_empty:
                 is_empty = True
                 warnings.warn(f"binlogfeed: no log matches {self._files} yet", stacklevel=6)
-            self._closing.wait(self._interval)
+            watch.wait(self._interval, self._closing)
 
     def _changes(self, blocks: Iterator[Optional[bytes]]) -> Iterator[Optional[Parts]]:
         """The changes of lines, but for those outside of the places and times that are asked for."""

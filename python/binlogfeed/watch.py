@@ -3,12 +3,13 @@ from __future__ import annotations
 
 import json
 import os
+import threading
 import time
 from collections.abc import Generator, Iterator, Sequence
 from pathlib import Path
 from typing import Any, NamedTuple, Optional, Union
 
-from binlogfeed.faults import FileFault
+from binlogfeed.faults import BinlogfeedError, FileFault
 from binlogfeed.logs import Log, beginning, is_pattern, listed
 from binlogfeed.place import Place
 from binlogfeed.program import LookingRun, Run
@@ -17,6 +18,8 @@ from binlogfeed.program import LookingRun, Run
 # seconds logs that aren't there are looked for again, each time after such a pause, before anything is said of them.
 PATIENCE = 1.0
 PAUSE = 0.01
+# Where the logs are quiet, a program that was killed is noticed within so many seconds.
+CHECK = 1.0
 # A line's last two members begin here. A text in JSON has no bare quotes, and no other member has that name behind it.
 LAST_MEMBERS = b',"timestamp":'
 
@@ -93,6 +96,17 @@ class Watch:
             # The server takes a log off its index before it purges it. The new index says whether that one was still needed.
             yield from self._look(self._found())
 
+    def wait(self, seconds: float, ending: threading.Event) -> bool:
+        """Waits for so long, or until the event comes, and answers whether it came. Raises what the program ended with meanwhile."""
+        until = time.monotonic() + seconds
+        while not ending.is_set():
+            self._check()
+            left = until - time.monotonic()
+            if left <= 0:
+                return False
+            ending.wait(min(left, CHECK))
+        return True
+
     def end(self) -> None:
         """Ends the watch, and a look that goes on, at any time and from any thread. No line is given any more."""
         self._closed = True
@@ -115,6 +129,7 @@ class Watch:
         marks = {log.path: self._seen[log.path].mark for log in logs}
         self.is_empty = not logs
         if not logs or self._closed or marks.items() <= self._finished.items():
+            self._check()
             return
         whole = False
         try:
@@ -143,12 +158,23 @@ class Watch:
                 block = next(lines)
             except StopIteration as ended:
                 return bool(ended.value)
+            before = self._last, self._placed
             self._last, self._placed = block, False
             try:
                 yield block
             except GeneratorExit:
-                # Nobody took these. They come again.
-                self._placed = True
+                # Nobody took these, unless the place was asked for behind them. They come again.
+                if not self._placed:
+                    self._last, self._placed = before
+                raise
+
+    def _check(self) -> None:
+        """Raises what the program ended with, where it isn't there any more. The next look begins another behind the place."""
+        if self._run is not None:
+            try:
+                self._run.check()
+            except BinlogfeedError:
+                self._forget_run()
                 raise
 
     def _forget_run(self) -> None:

@@ -29,11 +29,12 @@ class Service(FolderTest):
         self.assertEqual((ended.returncode, ended.stdout, ended.stderr), (0, "", ""))
 
     def test_statuses(self):
-        """It is started again for 4 and 5 alone, and the README says what to do for each status."""
+        """It is started again for 4 and 5, and where it was killed. The README says what to do for each status."""
         statuses = set(re.findall(r"^\| (\d+) \|", (TOP / "docs/USAGE.md").read_text(encoding="utf-8"), re.MULTILINE))
         self.assertLessEqual({"0", "1", "2", "3", "4", "5", "6", "70"}, statuses)
         found = settings()
-        self.assertEqual(found["RestartForceExitStatus"].split(), ["4", "5"])
+        self.assertEqual(found["RestartForceExitStatus"].split(), ["4", "5", "137", "143"])
+        self.assertFalse(set(found["RestartForceExitStatus"].split()) & set(found["RestartPreventExitStatus"].split()))
         self.assertLessEqual(statuses - {"0", "4", "5"}, set(found["RestartPreventExitStatus"].split()))
         told = (TOP / "examples/service/README.md").read_text(encoding="utf-8")
         for status in statuses:

@@ -1,0 +1,194 @@
+"""What ends `follow`, readers and the replica: a program that was killed, SIGTERM, and options that are none."""
+import json
+import math
+import os
+import signal
+import subprocess
+import sys
+import time
+
+import logs
+from binlogfeed import BinLogStreamReader, Place, ProgramFailed
+from binlogfeed import watch as watching
+from binlogfeed.follow import read_state
+from binlogfeed.watch import Watch
+from support import PROGRAM, SECONDS, SHOP, TOP, running
+from test_follow import ENVIRONMENT, ServerTest, line, log
+
+REPLICA = TOP / "examples/replica/replica.py"
+# A killed program is to be noticed so soon. These tests may run on busy machines, so they allow some seconds more.
+NOTICED = 2.0
+LATE = 8.0
+
+
+class CommandTest(ServerTest):
+    """A test of the command `follow`."""
+
+    def setUp(self):
+        """A log of one transaction."""
+        super().setUp()
+        self.index("binlog.000001")
+        self.log("binlog.000001", log(1))
+
+    def follow(self, *words, program=PROGRAM, code=None, **options):
+        """Runs the command, and gives its process."""
+        begins = ["-c", code] if code else ["-m", "binlogfeed"]
+        command = [sys.executable, *begins, "follow", "--program", program, "--state", str(self.state), *words, str(self.data)]
+        return running(command, env=ENVIRONMENT, stdout=subprocess.PIPE, stderr=subprocess.PIPE, **options)
+
+    def noted(self):
+        """The program, and a file that has its process."""
+        return self.stub(f'echo $$ > {self.folder}/process\nexec {PROGRAM} "$@"')
+
+    def kill(self):
+        """Kills the program that was started last."""
+        os.kill(int((self.folder / "process").read_text()), signal.SIGKILL)
+
+
+class Killed(CommandTest):
+    """A program that is killed while the logs are quiet."""
+
+    def test_follow(self):
+        """It is noticed long before the next look, with the place kept and a status that the service is started again for."""
+        with self.follow("--interval", "60", program=self.noted()) as process:
+            self.assertEqual(process.stdout.readline(), line(1, 153, "binlog.000001"))
+            while not self.state.exists():
+                time.sleep(0.01)
+            killed = time.monotonic()
+            self.kill()
+            said = process.communicate(timeout=SECONDS / 2)[1]
+        self.assertLess(time.monotonic() - killed, NOTICED + LATE)
+        self.assertEqual((process.returncode, said.splitlines()[-1]), (128 + 9, b"binlogfeed: the program ended with status -9"))
+        self.assertEqual(read_state(self.state).token, "153.1@binlog.000001")
+        unit = (TOP / "examples/service/binlogfeed-follow.service").read_text(encoding="utf-8")
+        self.assertRegex(unit, r"(?m)^RestartForceExitStatus=.*\b137\b")
+
+    def test_replica(self):
+        self.log("binlog.000001", SHOP[0].read_bytes())
+        target = self.folder / "shop.db"
+        made = "import sqlite3, sys; sqlite3.connect(sys.argv[1]).executescript(open(sys.argv[2]).read())"
+        subprocess.run([sys.executable, "-c", made, target, TOP / "examples/replica/shop.sql"], check=True)
+        words = [f"sqlite:{target}", "shop", str(self.data), "--follow", "--interval", "60", "--program", self.noted()]
+        with running([sys.executable, REPLICA, *words], stderr=subprocess.PIPE) as process:
+            until = time.monotonic() + SECONDS / 2
+            while not (self.folder / "process").exists() and time.monotonic() < until:
+                time.sleep(0.01)
+            time.sleep(1.0)
+            killed = time.monotonic()
+            self.kill()
+            process.communicate(timeout=SECONDS / 2)
+        self.assertEqual(process.returncode, 128 + 9)
+        self.assertLess(time.monotonic() - killed, NOTICED + LATE)
+
+    def test_reader(self):
+        events = BinLogStreamReader(self.data, program=self.noted(), blocking=True, interval=60)
+        self.in_time(events.close)
+        self.addCleanup(events.close)
+        next(events)
+        killed = time.monotonic()
+        self.kill()
+        with self.assertRaises(ProgramFailed):
+            next(events)
+        self.assertLess(time.monotonic() - killed, NOTICED + LATE)
+
+    def test_watch(self):
+        """A look over quiet logs says it, too, and the next one goes on with a program of its own."""
+        watch = Watch(str(self.data), [self.noted(), "read", "--follow"], Place())
+        self.addCleanup(watch.end)
+        self.in_time(watch.end)
+        self.assertEqual(b"".join(watch.look()), line(1, 153, "binlog.000001"))
+        self.assertEqual(list(watch.look()), [])
+        self.kill()
+        with self.assertRaises(ProgramFailed) as caught:
+            until = time.monotonic() + SECONDS
+            while time.monotonic() < until:
+                list(watch.look())
+        self.assertEqual(caught.exception.status, -9)
+        self.log("binlog.000001", log(1, 2))
+        self.assertEqual(b"".join(watch.look()), line(2, 371, "binlog.000001"))
+
+    def test_a_program_that_ends_well(self):
+        """It had no reason to."""
+        watch = Watch(str(self.data), [self.stub("read line; read line; echo"), "read", "--follow"], Place())
+        self.addCleanup(watch.end)
+        self.assertEqual(list(watch.look()), [])
+        with self.assertRaises(ProgramFailed) as caught:
+            until = time.monotonic() + SECONDS
+            while time.monotonic() < until:
+                list(watch.look())
+        self.assertEqual(caught.exception.line, "binlogfeed: the program ended before its input")
+
+    def test_how_often(self):
+        """Two seconds are promised, and a look at the program may come late."""
+        self.assertLessEqual(watching.CHECK, NOTICED / 2)
+
+
+class FullPipe(CommandTest):
+    """SIGTERM where nobody takes the lines."""
+
+    def judge(self, count, grace):
+        """Ends it in time. What it wrote and what comes behind the kept place are all lines."""
+        self.log("binlog.000001", logs.worked_log(count))
+        code = f"import sys; from binlogfeed import __main__ as main; main.GRACE = {grace}; sys.exit(main.main())"
+        with self.follow(code=code) as process:
+            first = process.stdout.readline()
+            time.sleep(0.5)
+            process.send_signal(signal.SIGTERM)
+            self.assertEqual(process.wait(grace + LATE), 0)
+            taken = first + process.stdout.read()
+        token = read_state(self.state).token if self.state.exists() else None
+        wanted = logs.change_lines(count, "binlog.000001")
+        kept = 0
+        if token:
+            member = f'"token":"{token}"}}\n'.encode()
+            kept = wanted.index(member) + len(member)
+        # What is kept was written whole, and it stands at the beginning.
+        self.assertTrue(wanted.startswith(taken))
+        self.assertLessEqual(kept, len(taken))
+        self.assertLess(len(taken), len(wanted))
+        self.assertEqual(self.followed(), wanted[kept:])
+
+    def test_within_a_write(self):
+        self.judge(3_000, 0.2)
+
+    def test_within_five_seconds(self):
+        self.judge(3_000, 5.0)
+
+    def test_the_place_behind_what_was_taken(self):
+        """The lines of the write that waits come again, and those before it don't."""
+        watch = Watch(str(self.data), [PROGRAM, "read", "--follow"], Place())
+        self.addCleanup(watch.end)
+        self.log("binlog.000001", logs.worked_log(2_000))
+        look = watch.look()
+        first, second = next(look), next(look)
+        look.close()
+        self.assertEqual(watch.place.token, json.loads(first.splitlines()[-1])["token"])
+        self.assertEqual(next(iter(watch.look()))[:100], second[:100])
+
+
+class Options(CommandTest):
+    """Values that are none."""
+
+    def test_seconds(self):
+        for option in ("--interval", "--status"):
+            for word in ("-1", "0", "nan", "inf", "1e300", "often", ""):
+                with self.subTest(option=option, word=word), self.follow(option, word) as process:
+                    out, said = process.communicate(timeout=SECONDS)
+                wanted = f"error: argument {option}: a number of seconds above 0 is wanted, not {word!r}\n"
+                self.assertEqual((process.returncode, out), (2, b""))
+                self.assertTrue(said.decode().endswith(wanted), said)
+
+    def test_replica(self):
+        words = ["sqlite:x", "shop", "binlog.*", "--interval"]
+        for word in ("0", "nan", "-1"):
+            ended = subprocess.run([sys.executable, REPLICA, *words, word], capture_output=True, text=True, check=False, cwd=self.folder)
+            self.assertEqual(ended.returncode, 2)
+            self.assertIn(f"--interval: a number of seconds above 0 is wanted, not {word!r}", ended.stderr)
+        self.assertFalse((self.folder / "x").exists())
+
+    def test_reader(self):
+        for interval in (0, -1, math.nan, math.inf):
+            with self.assertRaises(ValueError) as caught:
+                BinLogStreamReader("f", interval=interval)
+            self.assertIn("interval: a number of seconds above 0", str(caught.exception))
+
