@@ -6,6 +6,7 @@ from collections.abc import Iterator
 from typing import NamedTuple
 
 from binlogfeed import JSON_NULL, Place
+from binlogfeed.begin import FIRST
 from binlogfeed.columns import Tables
 from binlogfeed.lines import Change, reader_of_lines
 from binlogfeed.values import Style
@@ -22,6 +23,8 @@ class Source(NamedTuple):
     profile: str = "server"
     # The columns of tables that have no names in the log.
     tables: Tables = {}
+    # Where to begin if the target keeps no place yet.
+    begin: str = FIRST
 
 
 class Changes:
@@ -31,10 +34,11 @@ class Changes:
     place, which also holds where the token's file is gone, and it knows where a look ends.
     """
 
-    def __init__(self, source: Source, place: Place) -> None:
-        """The changes behind a place."""
+    def __init__(self, source: Source, place: Place, again: bool = False) -> None:
+        """The changes behind a place, or from where the source is to be begun. `again` says that they were begun before."""
         options = [f"--profile={source.profile}", f"--only-schemas={source.schema}"]
-        self._watch = Watch(source.logs, [source.program, "read", "--follow", "--full", *options], place)
+        self._watch = Watch(source.logs, [source.program, "read", "--follow", "--full", *options], place, source.begin, "the target")
+        self._watch.begun = again
         # Values stay as the line has them, but for bytes and the JSON null.
         self._taken_apart = reader_of_lines(Style(raw=True, json_null=JSON_NULL), {}, source.tables)
 
@@ -58,6 +62,10 @@ class Changes:
     def place_behind(self, token: str, place: Place) -> Place:
         """The place behind a change that the look gave, where `place` is one before it."""
         return place.behind(token, self._watch.told)
+
+    def begin(self) -> bool:
+        """Finds the place where the first look begins, if that is the logs' end by now. Answers whether it is found now."""
+        return self._watch.begin()
 
     def wait(self, seconds: float) -> None:
         """Waits for so long. Raises what the program ended with meanwhile."""

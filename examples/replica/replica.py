@@ -25,6 +25,8 @@ sys.path.insert(0, str(Path(__file__).resolve().parents[2] / "python"))
 
 from batches import Batcher  # noqa: E402
 from binlogfeed import BinlogfeedError, ColumnsMismatch, LogFault, Place  # noqa: E402
+from binlogfeed import begin  # noqa: E402
+from binlogfeed.begin import FIRST  # noqa: E402
 from binlogfeed.columns import Tables, tables_of  # noqa: E402
 from binlogfeed.filters import add_profile  # noqa: E402
 from binlogfeed.lines import Change  # noqa: E402
@@ -93,6 +95,9 @@ class Replica:
     def _look(self) -> None:
         """Takes what is new. What isn't whole behind an error is taken back when the target is closed."""
         self._batcher.alone = self._alone > 0
+        if self._changes.begin():
+            # What is committed behind the logs' end by now isn't to be missed after a kill.
+            self._keep(self._changes.place)
         try:
             for change, size in self._changes.look():
                 self._take(change, size)
@@ -157,7 +162,7 @@ class Replica:
         self._transaction, self._whole = None, 0
         if self._target.place() != self._kept:
             raise AwayError("another process has moved the target on: start again")
-        self._changes = Changes(self._source, self._place)
+        self._changes = Changes(self._source, self._place, again=True)
 
 
 def opened(words: str, schema: str, unfit: str = "error") -> Target:
@@ -197,6 +202,7 @@ def given_words() -> argparse.Namespace:
     add_profile(parser)
     columns = "the columns of tables that have no names in the log, as information_schema.columns has them"
     parser.add_argument("--columns", metavar="FILE", help=columns)
+    parser.add_argument("--begin", default=FIRST, metavar="PLACE", help=begin.HELP)
     parser.add_argument("--follow", action="store_true", help="go on when the logs grow, until SIGTERM")
     parser.add_argument("--interval", type=seconds, default=1.0, metavar="SECONDS", help="how often to look for more (1)")
     every = "commit after so many of the log's transactions (1), and behind each look"
@@ -208,7 +214,7 @@ def given_words() -> argparse.Namespace:
 
 def keep_up(given: argparse.Namespace) -> None:
     """Keeps the replica until the logs end, or for ever."""
-    source = Source(given.logs, given.schema, given.program, given.profile, given_columns(given.columns))
+    source = Source(given.logs, given.schema, given.program, given.profile, given_columns(given.columns), given.begin)
     target = opened(given.target, given.schema, given.unfit)
     try:
         replica = Replica(target, source, given.commit_every)
@@ -232,7 +238,9 @@ def main() -> int:
     """Runs the command. The answer is the exit status."""
     try:
         signal.signal(signal.SIGTERM, stop)
-        keep_up(given_words())
+        given = given_words()
+        begin.say_on_standard_error("replica")
+        keep_up(given)
     except BinlogfeedError as error:
         print(error.line, file=sys.stderr)
         return error.status if error.status > 0 else 128 - error.status

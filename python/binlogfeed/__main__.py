@@ -10,6 +10,8 @@ import time
 from pathlib import Path
 from typing import Any
 
+from binlogfeed import begin
+from binlogfeed.begin import FIRST
 from binlogfeed.faults import BinlogfeedError
 from binlogfeed.filters import add_filters, add_profile, filter_words
 from binlogfeed.follow import Follower
@@ -50,6 +52,7 @@ def add_follow(commands: Any) -> None:
     )
     parser.add_argument("logs", metavar="LOGS", help="where the logs are")
     parser.add_argument("--state", metavar="FILE", required=True, type=Path, help="keeps the place; made where there is none")
+    parser.add_argument("--begin", metavar="PLACE", default=FIRST, help=begin.HELP)
     parser.add_argument("--once", action="store_true", help="end where the logs end by now")
     parser.add_argument("--interval", metavar="SECONDS", type=seconds, default=1.0, help="how often to look for more (1)")
     parser.add_argument("--status", metavar="SECONDS", type=seconds, help="say on standard error how far it is, so often")
@@ -63,7 +66,8 @@ def add_follow(commands: Any) -> None:
 def follow(given: argparse.Namespace) -> None:
     """Prints lines until something ends it, or the logs end."""
     words = [*(["--full"] if given.full else []), f"--profile={given.profile}", *filter_words(given)]
-    follower = Follower(given.logs, given.state, words, given.program)
+    begin.say_on_standard_error("binlogfeed")
+    follower = Follower(given.logs, given.state, words, given.program, begin=given.begin)
     stopped = threading.Event()
     if given.once:
         stopped.set()

@@ -11,10 +11,11 @@ from collections.abc import Iterable, Sequence
 from pathlib import Path
 from typing import BinaryIO, TextIO
 
-from binlogfeed.tokens import token_parts
+from binlogfeed.begin import FIRST
 from binlogfeed.faults import BinlogfeedError, FileFault
 from binlogfeed.logs import is_pattern, listed
 from binlogfeed.place import Place
+from binlogfeed.tokens import token_parts
 from binlogfeed.watch import Watch
 
 # The place is kept behind each look, and within one behind so many bytes or seconds.
@@ -30,29 +31,42 @@ class Follower:
     """Prints the lines of a server's logs that weren't taken yet, each time it is asked."""
 
     def __init__(
-        self, place: str, state: Path, words: Sequence[str] = (), program: str = "binlogfeed", out: BinaryIO | None = None
+        self,
+        place: str,
+        state: Path,
+        words: Sequence[str] = (),
+        program: str = "binlogfeed",
+        out: BinaryIO | None = None,
+        begin: str = FIRST,
     ) -> None:
-        """A follower of the logs at a place (an index, its folder, or a pattern), which keeps its own place in a file."""
+        """A follower of the logs at a place (an index, its folder, or a pattern), which keeps its own place in a file.
+
+        Where there is no such file yet, `begin` says where it begins.
+        """
         self._logs = place
         self._state = state
         # Without a buffer of its own, which a failed write would leave in an unknown state.
         self._out: BinaryIO = out or open(sys.stdout.fileno(), "wb", buffering=0, closefd=False)
         self._lock = _locked(state)
         self._kept = read_state(state)
-        self._watch = Watch(place, [program, "read", "--follow", *words], self._kept)
+        self._watch = Watch(place, [program, "read", "--follow", *words], self._kept, begin, str(state))
         self._said_none = False
         self._writing = False
 
     def catch_up(self) -> None:
         """Prints all lines that are there by now, and keeps the place. Raises what ended the reading early."""
+        if self._watch.begin():
+            # What is committed behind the logs' end by now isn't to be missed after a kill.
+            self._keep()
         try:
             with contextlib.closing(self._watch.look()) as blocks:
                 self._print(blocks)
         except WriteEnded:
             pass
         except BinlogfeedError:
-            # The lines before a fault stand.
-            self._keep()
+            # The lines before a fault stand. A place that was to be begun with may be what is wrong.
+            if self._watch.last_time is not None:
+                self._keep()
             raise
         self._keep()
         if self._watch.is_empty and is_pattern(self._logs) and not self._said_none:
@@ -126,7 +140,7 @@ class Follower:
         """Keeps the place behind the lines that were written, once they are out."""
         self._out.flush()
         place = self._watch.place
-        if place != self._kept:
+        if place != self._kept and place.file is not None:
             write_state(self._state, place)
             self._kept = place
 

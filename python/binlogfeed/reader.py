@@ -10,6 +10,7 @@ from types import TracebackType
 from typing import Any, Generic, Optional, TypeVar, Union, cast, overload
 
 from binlogfeed.arguments import asked_events, refuse_others, words
+from binlogfeed.begin import FIRST, NOW
 from binlogfeed.columns import GivenColumns, tables_of
 from binlogfeed.events import ROWS_EVENTS, Event, GtidEvent, RotateEvent, RowsEvent, Transaction, XidEvent, event_of
 from binlogfeed.faults import BinlogfeedError, ColumnsMismatch, LogFault, TokenRefused, WordsRefused
@@ -44,6 +45,8 @@ class BinLogStreamReader(Generic[Given]):
       `information_schema.columns`, which also tells their types, the names of ENUM and SET values, and the key. What doesn't fit
       the log is a ColumnsMismatch.
     - `resume`: the token of the last event that was taken. The reader gives those behind it.
+    - `begin`: where to begin if `resume` is None: `first`, with the first log; `now`, with what is committed from now on; with the
+      log of this name; or behind a token.
     - `together`: whether rows that stand together come in one event; else each row is an event.
     - `convert`: what makes another value of a column's, by `table.column` or `schema.table.column`. It is given the value as a
       full line has it, or bytes. NULL isn't converted.
@@ -73,6 +76,7 @@ class BinLogStreamReader(Generic[Given]):
         ignored_schemas: Iterable[str] | None = ...,
         auto_position: str | None = ...,
         resume: str | None = ...,
+        begin: str | None = ...,
         resume_stream: bool = ...,
         log_file: str | None = ...,
         log_pos: int | None = ...,
@@ -105,6 +109,7 @@ class BinLogStreamReader(Generic[Given]):
         ignored_schemas: Iterable[str] | None = ...,
         auto_position: str | None = ...,
         resume: str | None = ...,
+        begin: str | None = ...,
         resume_stream: bool = ...,
         log_file: str | None = ...,
         log_pos: int | None = ...,
@@ -136,6 +141,7 @@ class BinLogStreamReader(Generic[Given]):
         ignored_schemas: Iterable[str] | None = None,
         auto_position: str | None = None,
         resume: str | None = None,
+        begin: str | None = None,
         resume_stream: bool = False,
         log_file: str | None = None,
         log_pos: int | None = None,
@@ -164,8 +170,12 @@ class BinLogStreamReader(Generic[Given]):
             raise ValueError(f"interval: a number of seconds above 0 is wanted, not {interval!r}")
         self._resume = resume
         self._start = _start(resume, resume_stream, log_file, log_pos)
-        self._at_logs_end = resume_stream and log_file is None
-        if self._at_logs_end and not blocking:
+        self._begin = begin or FIRST
+        if begin is not None and (resume_stream or log_file is not None or log_pos is not None):
+            raise ValueError("begin says where to begin, and so do log_file and log_pos: give one of them")
+        if resume_stream and log_file is None:
+            self._begin = NOW
+        if resume_stream and log_file is None and not blocking:
             raise ValueError("resume_stream without log_file begins at the logs' end, where only a reader with blocking=True has events")
         self._skip_to = skip_to_timestamp
         self._end = end_log_pos
@@ -267,11 +277,12 @@ class BinLogStreamReader(Generic[Given]):
         files = self._files
         paths = [files] if isinstance(files, (str, os.PathLike)) else files
         is_place = paths is not files and is_place_of_logs(paths[0], self._blocking)
-        if self._blocking or is_place or (self._resume is None and self._start.file is not None):
+        is_begun_within = self._resume is None and (self._start.file is not None or self._begin != FIRST)
+        if self._blocking or is_place or is_begun_within:
             if not paths:
                 raise WordsRefused("binlogfeed: no file is given")
             logs = paths[0] if is_place else _with_start([pathlib.Path(path) for path in paths], self._start)
-            watch = Watch(logs, [*self._command, "--follow"], self._start)
+            watch = Watch(logs, [*self._command, "--follow"], self._start, self._begin)
             self._run, blocks = watch, self._watched(watch)
         else:
             resume = [] if self._resume is None else [f"--from={self._resume}"]
@@ -284,8 +295,6 @@ class BinLogStreamReader(Generic[Given]):
     def _watched(self, watch: Watch) -> Iterator[Optional[bytes]]:
         """The lines of one look after the other, and None behind each. Without waiting there is one look."""
         is_empty = False
-        if self._at_logs_end:
-            watch.skip()
         while not self._closed:
             yield from watch.look()
             yield None

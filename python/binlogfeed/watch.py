@@ -9,6 +9,7 @@ from collections.abc import Generator, Iterator, Sequence
 from pathlib import Path
 from typing import Any, NamedTuple, Optional, Union
 
+from binlogfeed.begin import FIRST, LOG, NOW, check_is_there, place_of, told_beginning
 from binlogfeed.faults import BinlogfeedError, FileFault
 from binlogfeed.logs import Log, beginning, is_pattern, listed
 from binlogfeed.place import Place
@@ -48,11 +49,21 @@ class Watch:
     The logs are a server's, by an index, a folder or a pattern, or files that are named.
     """
 
-    def __init__(self, logs: Logs, command: Sequence[str | os.PathLike[str]], place: Place) -> None:
-        """A watch of logs from a place on. The command, `read --follow` with its options, is run with the first look."""
+    def __init__(
+        self, logs: Logs, command: Sequence[str | os.PathLike[str]], place: Place, begin: str = FIRST, kept_in: str = ""
+    ) -> None:
+        """A watch of logs from a place on. The command, `read --follow` with its options, is run with the first look.
+
+        Where the place is none, `begin` says where that is (binlogfeed.begin). `kept_in` tells people where the place was kept.
+        """
         self._logs = logs
         self._command = list(command)
+        self._begin, self._kept_in = begin, kept_in
+        self._is_kept = place.file is not None
         self._place = place
+        # Whether the logs' end was looked for, and whether it was said where the watch begins.
+        self._skipped = self._is_kept or begin != NOW
+        self.begun = False
         self._run: Optional[LookingRun] = None
         # The run that looks for the logs' end.
         self._skipping: Optional[Run] = None
@@ -89,12 +100,21 @@ class Watch:
 
     def look(self) -> Generator[bytes, None, None]:
         """The lines that are new by now, in blocks of whole lines. Raises what ended the reading early behind the lines before it."""
+        self.begin()
         logs = self._found()
         try:
             yield from self._look(logs)
         except FileFault:
             # The server takes a log off its index before it purges it. The new index says whether that one was still needed.
             yield from self._look(self._found())
+
+    def begin(self) -> bool:
+        """Finds the place where the first look begins, if that is the logs' end by now. Answers whether it is found now."""
+        if self._skipped:
+            return False
+        self.skip()
+        self._skipped = True
+        return self._place.file is not None
 
     def wait(self, seconds: float, ending: threading.Event) -> bool:
         """Waits for so long, or until the event comes, and answers whether it came. Raises what the program ended with meanwhile."""
@@ -128,6 +148,9 @@ class Watch:
         """The lines that are new in these logs, where one of them has changed."""
         marks = {log.path: self._seen[log.path].mark for log in logs}
         self.is_empty = not logs
+        if logs and not self.begun:
+            self.begun = True
+            LOG.info(told_beginning(self.place, logs[0].name, self._begin, self._is_kept, self._kept_in))
         if not logs or self._closed or marks.items() <= self._finished.items():
             self._check()
             return
@@ -208,6 +231,10 @@ class Watch:
     def _rest(self, paths: list[Path]) -> list[Log]:
         """The logs of these that are still to be read."""
         before, self._seen = self._seen, {}
+        if paths and self._place.file is None and self._begin not in (FIRST, NOW):
+            named = place_of(self._begin)
+            check_is_there(named, paths)
+            self._place = named
 
         def begins(path: Path) -> str | None:
             """The digest of a log's first event, which is read again only where the log has changed."""

@@ -2,6 +2,7 @@
 import contextlib
 import json
 import os
+import re
 import shutil
 import subprocess
 import tempfile
@@ -13,6 +14,8 @@ TOP = Path(__file__).resolve().parents[2]
 PROGRAM = os.environ.get("BINLOGFEED_PROGRAM") or str(TOP / "crates/program/out/program")
 SHOP = sorted((TOP / "examples/shop").glob("binlog.*"))
 BANK = sorted((TOP / "tests/bank").glob("binlog.*"))
+# What a command says of where it begins.
+BEGINS = re.compile(r"(?:binlogfeed|replica): (?:begins|goes on) [^\n]*\n")
 # What takes longer than so many seconds hangs.
 SECONDS = 60
 
@@ -24,6 +27,21 @@ def bank_rows():
         told = json.loads(line)
         rows[told["table"]].append(told["row"])
     return rows
+
+
+def without_beginning(said):
+    """What a command said, a text or bytes, without the line that says where it began. There is one at most."""
+    text = said if isinstance(said, str) else said.decode("utf-8", "surrogateescape")
+    rest, count = BEGINS.subn("", text)
+    if count > 1:
+        raise AssertionError(f"it says more than once where it begins: {text}")
+    return rest if isinstance(said, str) else rest.encode("utf-8", "surrogateescape")
+
+
+def told(process, **options):
+    """What a command prints until it ends, and what it says but for where it began."""
+    out, said = process.communicate(**options)
+    return out, without_beginning(said)
 
 
 @contextlib.contextmanager

@@ -20,7 +20,7 @@ from binlogfeed import watch as watching
 from binlogfeed.follow import Follower, read_state, write_state
 from binlogfeed.logs import check_without_gap
 from built.growing import Server
-from support import BANK, PROGRAM, SECONDS, SHOP, TOP, FolderTest, running
+from support import BANK, PROGRAM, SECONDS, SHOP, TOP, FolderTest, running, told, without_beginning
 
 ENVIRONMENT = {**os.environ, "PYTHONPATH": str(TOP / "python")}
 
@@ -563,10 +563,10 @@ class CommandLine(ServerTest):
     def test_once(self):
         lines, place = self.bank()
         with self.run_follow("--once", place, stdout=subprocess.PIPE) as process:
-            self.assertEqual(process.communicate(), (lines, b""))
+            self.assertEqual(told(process), (lines, b""))
         self.assertEqual(process.returncode, 0)
         with self.run_follow("--once", place, stdout=subprocess.PIPE) as process:
-            self.assertEqual(process.communicate(), (b"", b""))
+            self.assertEqual(told(process), (b"", b""))
 
     def test_a_program_that_is_killed(self):
         """The status is that which a shell has for it. The lines before it stand."""
@@ -575,7 +575,7 @@ class CommandLine(ServerTest):
         first = line(1, 153, "binlog.000001")
         killed = self.stub(f"read line\ncat <<'END'\n{first.decode()}END\nkill -9 $$")
         with self.run_follow("--once", "--program", killed, str(self.data), stdout=subprocess.PIPE) as process:
-            self.assertEqual(process.communicate(), (first, b"binlogfeed: the program ended with status -9\n"))
+            self.assertEqual(told(process), (first, b"binlogfeed: the program ended with status -9\n"))
         self.assertEqual((process.returncode, read_state(self.state).token), (128 + 9, "153.1@binlog.000001"))
 
     def test_lines_are_out_at_once(self):
@@ -593,7 +593,7 @@ class CommandLine(ServerTest):
         self.index("binlog.000002")
         write_state(self.state, Place("binlog.000001"))
         with self.run_follow("--once", str(self.data), stdout=subprocess.PIPE) as process:
-            out, said = process.communicate()
+            out, said = told(process)
         self.assertEqual((process.returncode, out), (6, b""))
         self.assertTrue(said.startswith(b"binlogfeed: binlog.000001 is gone"), said)
 
@@ -601,7 +601,7 @@ class CommandLine(ServerTest):
         self.log("binlog.000001", logs.appended(log(1), logs.event(40)))
         self.index("binlog.000001")
         with self.run_follow(str(self.data), stdout=subprocess.PIPE) as process:
-            out, said = process.communicate()
+            out, said = told(process)
         self.assertEqual((process.returncode, out), (1, line(1, 153, "binlog.000001")))
         self.assertEqual(said, b"binlogfeed: log fault at binlog.000001:371: KindOutOfProfile(40)\n")
 
@@ -610,7 +610,7 @@ class CommandLine(ServerTest):
         with self.run_follow("--once", place, stdout=subprocess.PIPE) as process:
             first = process.stdout.readline()
             process.stdout.close()
-            said = process.stderr.read()
+            said = without_beginning(process.stderr.read())
         self.assertEqual((process.returncode, said), (4, b"binlogfeed: write fault\n"))
         self.assertTrue(lines.startswith(first))
         # What the pipe still held is lost, so nothing of it is kept.
@@ -618,7 +618,7 @@ class CommandLine(ServerTest):
 
     def test_full_lines(self):
         with self.run_follow("--once", "--full", str(SHOP[0].parent / "binlog.0*"), stdout=subprocess.PIPE) as process:
-            self.assertEqual(process.communicate(), (read(SHOP, "--full"), b""))
+            self.assertEqual(told(process), (read(SHOP, "--full"), b""))
 
     def test_a_pattern_that_matches_nothing_yet(self):
         """It says so once, and goes on."""
@@ -629,7 +629,7 @@ class CommandLine(ServerTest):
             self.log("binlog.000001", log(1))
             self.assertEqual(process.stdout.readline(), line(1, 153, "binlog.000001"))
             process.send_signal(signal.SIGTERM)
-            self.assertEqual(process.communicate(), (b"", b""))
+            self.assertEqual(told(process), (b"", b""))
 
     def test_status(self):
         """It says the place that is kept, and how far it is behind."""
@@ -685,7 +685,7 @@ class CommandLine(ServerTest):
                 place = 153 + 218 * (many - 1)
                 self.assertEqual(process.stdout.readline(), line(many, place, "binlog.000001"))
                 tell(process.pid, signal.SIGTERM)
-                self.assertEqual(process.communicate(timeout=SECONDS), (b"", b""))
+                self.assertEqual(told(process, timeout=SECONDS), (b"", b""))
             self.assertEqual(process.returncode, 0)
             self.assertEqual(read_state(self.state).token, f"{place}.1@binlog.000001")
 
@@ -700,7 +700,7 @@ class CommandLine(ServerTest):
         with running(command, env=ENVIRONMENT, stdout=subprocess.PIPE, stderr=subprocess.PIPE) as process:
             process.stdout.readline()
             process.send_signal(signal.SIGTERM)
-            out, said = process.communicate(timeout=SECONDS)
+            out, said = told(process, timeout=SECONDS)
         self.assertEqual((process.returncode, said, out[-1:]), (0, b"", b"\n"))
         self.assertEqual(read_state(self.state).token, "153.1@binlog.000001")
 
@@ -712,7 +712,7 @@ class CommandLine(ServerTest):
         with self.run_follow("--interval", "60", str(self.data), stdout=subprocess.PIPE, **heeded) as process:
             process.stdout.readline()
             process.send_signal(signal.SIGINT)
-            self.assertEqual(process.communicate(timeout=SECONDS), (b"", b""))
+            self.assertEqual(told(process, timeout=SECONDS), (b"", b""))
         self.assertEqual(process.returncode, 130)
 
     def cut_back(self, taken):
@@ -743,12 +743,12 @@ class CommandLine(ServerTest):
             with open(taken, "ab") as out, self.run_follow("--interval", "0.001", str(self.data), stdout=out) as process:
                 time.sleep(0.1 + chance.random() * 0.3)
                 process.kill()
-                self.assertEqual(process.stderr.read(), b"")
+                self.assertEqual(without_beginning(process.stderr.read()), b"")
             self.cut_back(taken)
             kills += 1
         thread.join()
         with open(taken, "ab") as out, self.run_follow("--once", str(self.data), stdout=out) as process:
-            self.assertEqual((process.wait(), process.stderr.read()), (0, b""))
+            self.assertEqual((process.wait(), without_beginning(process.stderr.read())), (0, b""))
         self.assertEqual(taken.read_bytes(), read(BANK))
         self.assertGreater(kills, 5)
 
@@ -765,5 +765,5 @@ class CommandLine(ServerTest):
                 process.kill()
             self.cut_back(taken)
         with open(taken, "ab") as out, self.run_follow("--once", str(self.data), stdout=out) as process:
-            self.assertEqual((process.wait(), process.stderr.read()), (0, b""))
+            self.assertEqual((process.wait(), without_beginning(process.stderr.read())), (0, b""))
         self.assertEqual(taken.read_bytes(), logs.change_lines(20_000, "binlog.000001"))

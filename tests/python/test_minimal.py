@@ -7,7 +7,7 @@ import sys
 
 from binlogfeed import BinLogStreamReader, LogFault
 from replicas import SqliteFiles, ended
-from support import PROGRAM, TOP, FolderTest
+from support import PROGRAM, TOP, FolderTest, without_beginning
 
 MINIMAL = TOP / "tests/minimal"
 LOG = MINIMAL / "binlog.000001"
@@ -162,7 +162,7 @@ class Minimal(FolderTest):
     def test_follow(self):
         told = self.printed_by_follow("--full")
         lines, wanted = list(map(json.loads, told.stdout.splitlines())), expected()
-        self.assertEqual((told.returncode, told.stderr, len(lines)), (0, "", len(wanted)))
+        self.assertEqual((told.returncode, without_beginning(told.stderr), len(lines)), (0, "", len(wanted)))
         for line, change in zip(lines, wanted):
             for image in ("before", "after"):
                 if image in change:
@@ -175,7 +175,7 @@ class Minimal(FolderTest):
 
     def test_strict_follow(self):
         told = self.printed_by_follow("--profile", "strict")
-        self.assertEqual((told.returncode, told.stdout, told.stderr), (1, "", STRICT))
+        self.assertEqual((told.returncode, told.stdout, without_beginning(told.stderr)), (1, "", STRICT))
 
     def test_summary(self):
         environment = {**os.environ, "PYTHONPATH": str(TOP / "python")}
@@ -184,7 +184,7 @@ class Minimal(FolderTest):
         self.assertIn("8 changes in 7 transactions", told)
         self.assertRegex(told, r"d\.t +2 +1 +1 +4 ")
         strict = subprocess.run([*command, "--profile", "strict", LOG], env=environment, capture_output=True, text=True, check=False)
-        self.assertEqual((strict.returncode, strict.stderr), (1, STRICT))
+        self.assertEqual((strict.returncode, without_beginning(strict.stderr)), (1, STRICT))
         self.assertIn("0 changes", strict.stdout)
 
 

@@ -10,7 +10,7 @@ import targets
 from binlogfeed import Place
 from replicas import SHOP_ROWS, Kills, LinesTest, SqliteFiles, ended, full_line, started
 from sqlite import Sqlite
-from support import PROGRAM, SECONDS, SHOP
+from support import PROGRAM, SECONDS, SHOP, without_beginning
 
 # How often the replica is killed while it works: over the shop's logs and over the bank's, with one transaction in a
 # commit and with several.
@@ -297,7 +297,7 @@ class Follows(Files):
             self.soon(lambda: self.files.rows_of(target) == SHOP_ROWS, "the second log isn't taken")
             self.assertIsNone(process.poll())
             process.send_signal(signal.SIGTERM)
-            self.assertEqual((process.wait(), process.stderr.read()), (0, ""))
+            self.assertEqual((process.wait(), without_beginning(process.stderr.read())), (0, ""))
         self.assertEqual(json.loads(self.place(target))["file"], "binlog.000002")
 
     def test_index_away_for_a_moment(self):
