@@ -5,12 +5,19 @@ import threading
 from collections.abc import Iterator
 from typing import NamedTuple
 
-from binlogfeed import JSON_NULL, Place
+from binlogfeed import JSON_NULL, BinlogfeedError, Place
 from binlogfeed.begin import FIRST
 from binlogfeed.columns import Tables
 from binlogfeed.lines import Change, reader_of_lines
+from binlogfeed.program import Run
+from binlogfeed.summary.changes import Changes as Counted
+from binlogfeed.summary.changes import counted_block
 from binlogfeed.values import Style
 from binlogfeed.watch import Watch
+
+
+# Where none of the logs' changes is of a schema, so many others are named, of so many bytes of lines.
+MOST_NAMES, MOST_LOOKED_AT = 3, 16 << 20
 
 
 class Source(NamedTuple):
@@ -39,6 +46,7 @@ class Changes:
         options = [f"--profile={source.profile}", f"--only-schemas={source.schema}"]
         self._watch = Watch(source.logs, [source.program, "read", "--follow", "--full", *options], place, source.begin, "the target")
         self._watch.begun = again
+        self._source = source
         # Values stay as the line has them, but for bytes and the JSON null.
         self._taken_apart = reader_of_lines(Style(raw=True, json_null=JSON_NULL), {}, source.tables)
 
@@ -62,6 +70,26 @@ class Changes:
     def place_behind(self, token: str, place: Place) -> Place:
         """The place behind a change that the look gave, where `place` is one before it."""
         return place.behind(token, self._watch.told)
+
+    def other_schemas(self) -> list[str]:
+        """Some schemas that the logs of the last look have changes of."""
+        names: set[str] = set()
+        size = 0
+        paths = [log.path for log in self._watch.told]
+        run = Run([self._source.program, "read", f"--profile={self._source.profile}", "--", *paths])
+        try:
+            for block in run.blocks() if paths else ():
+                counted = Counted()
+                counted.add(counted_block(block, 0))
+                names |= {table.schema for table in counted.tables()}
+                size += len(block)
+                if len(names) >= MOST_NAMES or size >= MOST_LOOKED_AT:
+                    break
+        except BinlogfeedError:
+            pass  # what was read before it tells
+        finally:
+            run.end()
+        return sorted(names)
 
     def begin(self) -> bool:
         """Finds the place where the first look begins, if that is the logs' end by now. Answers whether it is found now."""

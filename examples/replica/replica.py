@@ -29,8 +29,9 @@ from binlogfeed import begin  # noqa: E402
 from binlogfeed.begin import FIRST  # noqa: E402
 from binlogfeed.columns import Tables, tables_of  # noqa: E402
 from binlogfeed.filters import add_profile  # noqa: E402
+from binlogfeed.hints import hints_of  # noqa: E402
 from binlogfeed.lines import Change  # noqa: E402
-from binlogfeed.options import seconds  # noqa: E402
+from binlogfeed.options import only_one, seconds  # noqa: E402
 from binlogfeed.tokens import beginning  # noqa: E402
 from changes import Changes, Source  # noqa: E402
 from postgres import Postgres  # noqa: E402
@@ -112,10 +113,21 @@ class Replica:
             raise
         if self._transaction:
             self._commit()
+        if not self._kept and self._source.begin == FIRST:
+            self._check_schema()
         self._keep(self._changes.place)
         if self._changes.is_empty and not self._said_none:
             self._said_none = True
             print(f"replica: no log matches {self._source.logs} yet", file=sys.stderr, flush=True)
+
+    def _check_schema(self) -> None:
+        """Raises an error where the logs have changes of other schemas alone: the name may be wrong, and the place isn't to move on."""
+        others = self._changes.other_schemas()
+        if others:
+            few = ", ".join(others)
+            raise WrongWordsError(
+                f"no log has a change of the schema {self._source.schema}, but of {few}: mend the name, or begin with --begin now"
+            )
 
     def _take(self, change: Change, size: int) -> None:
         """Takes a change, and ends the transaction before it where it is of another."""
@@ -197,7 +209,7 @@ def given_words() -> argparse.Namespace:
     parser = argparse.ArgumentParser(description=__doc__, epilog=ENDS, formatter_class=form)
     parser.add_argument("target", help="sqlite:FILE, postgres:CONNECTION, psycopg:CONNECTION or psql:CONNECTION")
     parser.add_argument("schema", help="the schema whose tables are kept")
-    parser.add_argument("logs", help="where the logs are")
+    parser.add_argument("logs", metavar="LOGS", nargs="+", action=only_one(), help="where the logs are")
     parser.add_argument("--program", default="binlogfeed", metavar="PATH", help="the program (binlogfeed)")
     add_profile(parser)
     columns = "the columns of tables that have no names in the log, as information_schema.columns has them"
@@ -242,7 +254,7 @@ def main() -> int:
         begin.say_on_standard_error("replica")
         keep_up(given)
     except BinlogfeedError as error:
-        print(error.line, file=sys.stderr)
+        print("\nhint: ".join((error.line, *hints_of(error))), file=sys.stderr)
         return error.status if error.status > 0 else 128 - error.status
     except ReplicaError as error:
         print(f"replica: {error}", file=sys.stderr)

@@ -15,7 +15,8 @@ from binlogfeed.begin import FIRST
 from binlogfeed.faults import BinlogfeedError
 from binlogfeed.filters import add_filters, add_profile, filter_words
 from binlogfeed.follow import Follower
-from binlogfeed.options import seconds
+from binlogfeed.hints import hints_of
+from binlogfeed.options import only_one, seconds
 from binlogfeed.summary.command import add_summary
 from binlogfeed.version import VERSION
 
@@ -50,7 +51,7 @@ def add_follow(commands: Any) -> None:
         epilog=HELP,
         formatter_class=argparse.RawDescriptionHelpFormatter,
     )
-    parser.add_argument("logs", metavar="LOGS", help="where the logs are")
+    parser.add_argument("logs", metavar="LOGS", nargs="+", action=only_one(), help="where the logs are")
     parser.add_argument("--state", metavar="FILE", required=True, type=Path, help="keeps the place; made where there is none")
     parser.add_argument("--begin", metavar="PLACE", default=FIRST, help=begin.HELP)
     parser.add_argument("--once", action="store_true", help="end where the logs end by now")
@@ -108,16 +109,19 @@ def say_status(follower: Follower, every: float) -> None:
 
 def main() -> int:
     """Runs the command. The answer is the exit status."""
+    is_followed = False
     try:
         given = given_words()
+        is_followed = given.run is follow
         given.run(given)
     except BinlogfeedError as error:
-        print(error.line, file=sys.stderr)
+        hints = hints_of(error) if is_followed else []
+        print("\nhint: ".join((error.line, *hints)), file=sys.stderr)
         return error.status if error.status > 0 else 128 - error.status
     except BrokenPipeError:
         # Nobody takes the lines any more. Python's own flush at the end would fail, too.
         os.dup2(os.open(os.devnull, os.O_WRONLY), sys.stdout.fileno())
-        print("binlogfeed: write fault", file=sys.stderr)
+        print("binlogfeed: write fault: nobody reads the lines any more", file=sys.stderr)
         return 4
     except OSError as error:
         print(f"binlogfeed: {error}", file=sys.stderr)

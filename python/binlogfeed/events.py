@@ -6,6 +6,7 @@ import sys
 from collections.abc import Iterator
 from typing import Any, NamedTuple, Optional, TextIO, Union
 
+from binlogfeed.as_json import json_of
 from binlogfeed.lines import Form, Image, Parts
 from binlogfeed.tokens import are_of_one_transaction, token_parts
 from binlogfeed.values import Column
@@ -39,6 +40,35 @@ class Event:
         self.token = token
         # When the transaction was committed, in microseconds since 1970; None where the log doesn't say it.
         self.committed = committed
+
+    @property
+    def file(self) -> str:
+        """The log's name."""
+        return token_parts(self.token).file
+
+    @property
+    def position(self) -> int:
+        """Where the transaction begins in the log."""
+        return token_parts(self.token).position
+
+    @property
+    def number(self) -> int:
+        """The number of the change in its transaction, from 1: that of the last one, where the event has several rows."""
+        return token_parts(self.token).count
+
+    def to_json(self) -> str:
+        """The event as a line of JSON. Values that JSON hasn't are told as binlogfeed.as_json says."""
+        return json_of(self._members())
+
+    def _members(self) -> dict[str, Any]:
+        """What `to_json` tells of this kind of event."""
+        return {
+            "event": type(self).__name__,
+            "timestamp": self.timestamp,
+            "committed": self.committed,
+            "gtid": self.gtid,
+            "token": self.token,
+        }
 
     @property
     def packet(self) -> Packet:
@@ -136,6 +166,17 @@ class RowsEvent(Event):
             raise ValueError(f"the event has {len(self.rows)} rows: take them from `rows`, or have the reader give one by one (`together=False`)")
         return self.rows[0]
 
+    def _members(self) -> dict[str, Any]:
+        """The table, and each row as it was and as it is then, too."""
+        rows = [dict(zip(("before", "after"), self._images(row))) for row in self.rows]
+        told = {"kind": self.kind, "schema": self.schema, "table": self.table, "key": list(self.key), "rows": rows}
+        return {**told, **super()._members()}
+
+    @staticmethod
+    def _images(row: dict[str, Any]) -> tuple[Image, Image]:
+        """A row as it was and as it is then."""
+        raise NotImplementedError
+
     def _told(self) -> list[str]:
         """The table, and each row's values."""
         told = [f"Table: {self.schema}.{self.table}", f"Changed rows: {len(self.rows)}", f"{self._rows_are}:"]
@@ -165,6 +206,11 @@ class WriteRowsEvent(RowsEvent):
         """The new row."""
         return {"values": after}
 
+    @staticmethod
+    def _images(row: dict[str, Any]) -> tuple[Image, Image]:
+        """The new row."""
+        return None, row["values"]
+
     @property
     def before(self) -> None:
         """Nothing was there."""
@@ -190,6 +236,11 @@ class UpdateRowsEvent(RowsEvent):
         """The row as it was and as it is then."""
         return {"before_values": before, "after_values": after}
 
+    @staticmethod
+    def _images(row: dict[str, Any]) -> tuple[Image, Image]:
+        """Both."""
+        return row["before_values"], row["after_values"]
+
     def _told_row(self, row: dict[str, Any]) -> list[str]:
         """A row's values as they were and as they are then."""
         before, after = row["before_values"], row["after_values"]
@@ -208,6 +259,11 @@ class DeleteRowsEvent(RowsEvent):
     def _row(before: Image, after: Image) -> dict[str, Any]:
         """The row that is gone."""
         return {"values": before}
+
+    @staticmethod
+    def _images(row: dict[str, Any]) -> tuple[Image, Image]:
+        """The row that is gone."""
+        return row["values"], None
 
     @property
     def before(self) -> Values:

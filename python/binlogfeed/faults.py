@@ -2,6 +2,9 @@
 from __future__ import annotations
 
 import re
+from collections.abc import Iterable
+from pathlib import Path
+from typing import Optional
 
 # What the program says of a log that it can't take in. A file's name may have any character but a slash.
 LOG_FAULT = re.compile(r"^binlogfeed: log fault at (.*):(\d+): (\w+(?:\(\d+\))?)\Z", re.DOTALL | re.MULTILINE)
@@ -33,6 +36,13 @@ class LogFault(BinlogfeedError):
         self.file = file
         self.position = position
         self.what = what
+        # Where the file is, if that is known.
+        self.path: Optional[Path] = None
+
+    def among(self, paths: Iterable[Path]) -> LogFault:
+        """The same, which knows where its file is among these."""
+        self.path = next((path for path in paths if path.name == self.file), None)
+        return self
 
 
 class WordsRefused(BinlogfeedError):

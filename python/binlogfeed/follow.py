@@ -133,6 +133,10 @@ class Follower:
         try:
             while left:
                 left = left[self._out.write(left) :]
+        except BrokenPipeError:
+            raise
+        except OSError as error:
+            raise FileFault(f"binlogfeed: can't write the output: {error.strerror}") from error
         finally:
             self._writing = False
 
@@ -147,7 +151,10 @@ class Follower:
 
 def _locked(state: Path) -> TextIO:
     """The lock of a state's file. Two that go on from one place would each miss what the other took."""
-    lock = open(state.with_name(f"{state.name}.lock"), "w", encoding="utf-8")
+    try:
+        lock = open(state.with_name(f"{state.name}.lock"), "w", encoding="utf-8")
+    except OSError as error:
+        raise FileFault(f"binlogfeed: can't write {state}.lock, beside what keeps the place: {error.strerror}") from error
     try:
         fcntl.flock(lock, fcntl.LOCK_EX | fcntl.LOCK_NB)
     except OSError as error:
@@ -166,6 +173,14 @@ def read_state(state: Path) -> Place:
 
 def write_state(state: Path, place: Place) -> None:
     """Keeps a place in a file. After a crash of the machine, too, the file has this place or the one before it."""
+    try:
+        _write_state(state, place)
+    except OSError as error:
+        raise FileFault(f"binlogfeed: can't write {state}, which keeps the place: {error.strerror}") from error
+
+
+def _write_state(state: Path, place: Place) -> None:
+    """Puts a new file in the old one's place."""
     new = state.with_name(f"{state.name}.new")
     with open(new, "w", encoding="utf-8") as file:
         file.write(place.to_text() + "\n")

@@ -34,26 +34,30 @@ class Log(NamedTuple):
 def listed(place: str | os.PathLike[str]) -> list[Path]:
     """A server's logs, from the oldest that is left: by its index file, the folder of it, or a pattern such as `binlog.*`."""
     path = Path(place)
-    if path.is_dir():
+    if is_folder(path):
         return _of_index(_index_of(path))
     return _of_pattern(str(place)) if is_pattern(place) else _of_index(path)
 
 
 def is_pattern(place: str | os.PathLike[str]) -> bool:
     """Whether a place of logs is a pattern, and neither an index nor a folder."""
-    return glob.has_magic(str(place)) and not Path(place).exists()
+    return glob.has_magic(str(place)) and not os.path.exists(place)
+
+
+def is_folder(place: str | os.PathLike[str]) -> bool:
+    """Whether a path is a folder. One that can't be looked at is none here: listing it says why."""
+    return os.path.isdir(place)
 
 
 def is_place_of_logs(place: str | os.PathLike[str], may_come: bool) -> bool:
     """Whether a path is where a server's logs are, and no log itself. Where logs may still come, so may an index."""
-    path = Path(place)
-    return path.is_dir() or is_pattern(place) or path.suffix == ".index" or (may_come and not is_log(place))
+    return is_folder(place) or is_pattern(place) or Path(place).suffix == ".index" or (may_come and not is_log(place))
 
 
 def is_log(place: str | os.PathLike[str]) -> bool:
     """Whether a place is a log itself: by its name, or by what it begins with."""
     path = Path(place)
-    if path.is_dir():
+    if is_folder(path):
         return False
     if NAME.fullmatch(path.name):
         return not is_pattern(place)
@@ -66,11 +70,19 @@ def is_log(place: str | os.PathLike[str]) -> bool:
 
 def _index_of(folder: Path) -> Path:
     """The index file of a folder."""
-    found = sorted(folder.glob("*.index"))
+    found = sorted(folder / name for name in _names_in(folder) if name.endswith(".index"))
     if len(found) != 1:
         names = f"more than one index file ({', '.join(path.name for path in found)})" if found else "no index file"
         raise FileFault(f"binlogfeed: {folder} has {names}: give the index itself, or a pattern of the logs")
     return found[0]
+
+
+def _names_in(folder: str | os.PathLike[str]) -> list[str]:
+    """The names in a folder."""
+    try:
+        return os.listdir(folder)
+    except OSError as error:
+        raise FileFault(f"binlogfeed: can't list {os.fspath(folder)}: {error.strerror}") from error
 
 
 def _of_index(index: Path) -> list[Path]:
@@ -78,15 +90,22 @@ def _of_index(index: Path) -> list[Path]:
     try:
         text = index.read_bytes()
     except OSError as error:
-        raise FileFault(f"binlogfeed: cannot open {index}") from error
+        raise FileFault(f"binlogfeed: cannot open {index}: {error.strerror}") from error
     if text.startswith(MAGIC):
         raise FileFault(f"binlogfeed: {index} is a log, and no index of logs")
-    # A line that the server is still writing has no line feed yet.
-    return [index.parent / os.fsdecode(line) for line in text.split(b"\n")[:-1] if line]
+    *lines, last = text.split(b"\n")
+    # A line that the server is still writing has no line feed yet. One that a person wrote may have none, and it names a log.
+    if last and NAME.fullmatch(os.fsdecode(last)) and os.path.exists(index.parent / os.fsdecode(last)):
+        lines.append(last)
+    return [index.parent / os.fsdecode(line) for line in lines if line]
 
 
 def _of_pattern(pattern: str) -> list[Path]:
     """The logs that a pattern matches, by their numbers. Other files, such as the index, aren't among them."""
+    folder = os.path.dirname(pattern)
+    if not glob.has_magic(folder):
+        # Else a folder that isn't there, or may not be read, would pass for one without logs.
+        _names_in(folder or os.curdir)
     found = [path for path in map(Path, glob.glob(pattern)) if NAME.fullmatch(path.name)]
     return sorted(found, key=_base_and_number)
 

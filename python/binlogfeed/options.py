@@ -3,6 +3,22 @@ from __future__ import annotations
 
 import argparse
 import threading
+from typing import Any
+
+
+def only_one() -> type[argparse.Action]:
+    """What takes one place of logs. A shell makes several words of a pattern without quotes."""
+
+    class OnlyOne(argparse.Action):
+        """Takes a list of one."""
+
+        def __call__(self, parser: argparse.ArgumentParser, namespace: argparse.Namespace, values: Any, option: Any = None) -> None:
+            """Takes it."""
+            if len(values) > 1:
+                parser.error(f"LOGS is one index, folder or pattern, and here are {len(values)} words: put a pattern in quotes")
+            setattr(namespace, self.dest, values[0])
+
+    return OnlyOne
 
 
 def is_a_wait(seconds: float) -> bool:

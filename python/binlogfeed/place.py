@@ -45,17 +45,23 @@ class Place:
                 raise LogsGone(f"binlogfeed: {self.file} is gone, and wasn't read to its end: {left}")
         check_without_gap(rest)
         logs = [Log(path, begins(path)) for path in rest]
-        if self.begins and logs[0].begins != self.begins:
-            raise LogsGone(f"binlogfeed: {self.file} is gone: another log has its name")
+        if logs:
+            self.check(logs[0])
         return logs
+
+    def check(self, log: Log) -> None:
+        """Raises `LogsGone` where a log has the name of this place's file, and is another."""
+        if self.begins and log.name == self.file and log.begins != self.begins:
+            raise LogsGone(f"binlogfeed: {self.file} is gone: another log has its name")
 
     def behind(self, token: str, logs: Sequence[Log]) -> Place:
         """The place behind a change of these logs. All changes before it were taken."""
         file = token_parts(token).file
-        if file == self.file:
+        found = [log.begins for log in logs if log.name == file]
+        if file == self.file and (self.begins or not found):
             return replace(self, token=token)
-        (log,) = (log for log in logs if log.name == file)
-        return Place(file, log.begins, token)
+        (begins,) = found
+        return Place(file, begins, token)
 
     def at_end(self, logs: Sequence[Log]) -> Place:
         """The place behind all changes of these logs. The last of them may grow."""
@@ -70,6 +76,8 @@ class Place:
         """The place that `to_text` wrote. One by hand, `{"token": ".."}`, will do."""
         try:
             parts = json.loads(text)
+            if parts == asdict(cls()):
+                return cls()
             token, file = parts.get("token"), parts.get("file")
             place = cls(file or (token and token_parts(token).file), parts.get("begins"), token)
         except (ValueError, AttributeError, TypeError) as error:

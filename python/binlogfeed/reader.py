@@ -4,8 +4,10 @@ from __future__ import annotations
 import os
 import pathlib
 import threading
+import time
 import warnings
 from collections.abc import Callable, Iterable, Iterator, Mapping
+from dataclasses import replace
 from types import TracebackType
 from typing import Any, Generic, Optional, TypeVar, Union, cast, overload
 
@@ -13,9 +15,10 @@ from binlogfeed.arguments import asked_events, refuse_others, words
 from binlogfeed.begin import FIRST, NOW
 from binlogfeed.columns import GivenColumns, tables_of
 from binlogfeed.events import ROWS_EVENTS, Event, GtidEvent, RotateEvent, RowsEvent, Transaction, XidEvent, event_of
-from binlogfeed.faults import BinlogfeedError, ColumnsMismatch, LogFault, TokenRefused, WordsRefused
+from binlogfeed.faults import BinlogfeedError, ColumnsMismatch, FileFault, LogFault, TokenRefused, WordsRefused
 from binlogfeed.lines import Parts, reader_of_lines
-from binlogfeed.logs import is_place_of_logs
+from binlogfeed.logs import Log, is_pattern, is_place_of_logs
+from binlogfeed.logs import beginning as beginning_of
 from binlogfeed.options import is_a_wait
 from binlogfeed.place import Place
 from binlogfeed.program import Run
@@ -44,7 +47,8 @@ class BinLogStreamReader(Generic[Given]):
     - `columns`: the names of columns for such tables, as `{"shop.customer": ["id", "name"]}`; or a file with a server's answer of
       `information_schema.columns`, which also tells their types, the names of ENUM and SET values, and the key. What doesn't fit
       the log is a ColumnsMismatch.
-    - `resume`: the token of the last event that was taken. The reader gives those behind it.
+    - `resume`: the place that `reader.place` was, or its text of `to_text()`; or the token of the last event that was taken. The
+      reader gives what is behind it. A place also tells whether the log is still the same, and moves on where nothing passes.
     - `begin`: where to begin if `resume` is None: `first`, with the first log; `now`, with what is committed from now on; with the
       log of this name; or behind a token.
     - `together`: whether rows that stand together come in one event; else each row is an event.
@@ -75,7 +79,7 @@ class BinLogStreamReader(Generic[Given]):
         only_schemas: Iterable[str] | None = ...,
         ignored_schemas: Iterable[str] | None = ...,
         auto_position: str | None = ...,
-        resume: str | None = ...,
+        resume: str | Place | None = ...,
         begin: str | None = ...,
         resume_stream: bool = ...,
         log_file: str | None = ...,
@@ -108,7 +112,7 @@ class BinLogStreamReader(Generic[Given]):
         only_schemas: Iterable[str] | None = ...,
         ignored_schemas: Iterable[str] | None = ...,
         auto_position: str | None = ...,
-        resume: str | None = ...,
+        resume: str | Place | None = ...,
         begin: str | None = ...,
         resume_stream: bool = ...,
         log_file: str | None = ...,
@@ -140,7 +144,7 @@ class BinLogStreamReader(Generic[Given]):
         only_schemas: Iterable[str] | None = None,
         ignored_schemas: Iterable[str] | None = None,
         auto_position: str | None = None,
-        resume: str | None = None,
+        resume: str | Place | None = None,
         begin: str | None = None,
         resume_stream: bool = False,
         log_file: str | None = None,
@@ -168,7 +172,8 @@ class BinLogStreamReader(Generic[Given]):
         self._command = [os.fspath(program), "read", "--full", f"--profile={profile}", *filters]
         if not is_a_wait(interval):
             raise ValueError(f"interval: a number of seconds above 0 is wanted, not {interval!r}")
-        self._resume = resume
+        # A token by itself, which the program takes over a list of files.
+        self._token_alone = resume if isinstance(resume, str) and not resume.startswith("{") else None
         self._start = _start(resume, resume_stream, log_file, log_pos)
         self._begin = begin or FIRST
         if begin is not None and (resume_stream or log_file is not None or log_pos is not None):
@@ -186,14 +191,28 @@ class BinLogStreamReader(Generic[Given]):
         self._taken_apart = reader_of_lines(style, dict(convert or {}), tables_of(columns))
         self._run: Union[Run, Watch, None] = None
         self._steps = self._read()
-        # None but the classes that were asked for come.
-        self._events: Iterator[Given] = (cast(Given, event) for event in self._steps if event is not None)
+        self._events = self._singly()
+        # The place, but for the last event that was given, whose token may stand beside it; and the logs of a run that ends.
+        self._place = self._start
+        self._given: Optional[str] = None
+        self._listed: list[Log] = []
         self._closed = False
         self._closing = threading.Event()
         self._at_end = False
         self._token: Optional[str] = None
         # Whether a transaction was met that begins at `end_log_pos` or behind it.
         self.is_past_end_log_pos = False
+
+    @property
+    def place(self) -> Place:
+        """The place behind what was given: keep it, or its `to_text()`, once that is worked off, and give it as `resume` later.
+
+        Where the logs were read to their end it moves on with them, also where nothing passed, once the next event is asked for.
+        """
+        if self._given is not None:
+            logs = self._run.told if isinstance(self._run, Watch) else self._listed
+            self._place, self._given = self._place.behind(self._given, logs), None
+        return self._place
 
     @property
     def log_file(self) -> str | None:
@@ -203,7 +222,7 @@ class BinLogStreamReader(Generic[Given]):
     @property
     def log_pos(self) -> int | None:
         """Where the transaction of the last event begins. A reader from there gives it again, as a whole: keep tokens for less."""
-        token = self._token or self._start.token
+        token = self._token or self._start.resume
         return None if token is None else token_parts(token).position
 
     def __iter__(self) -> Iterator[Given]:
@@ -223,6 +242,63 @@ class BinLogStreamReader(Generic[Given]):
 
         A transaction is given where all of its events were read. Where the reading ends early inside one, that one isn't.
         """
+        for transaction in self._whole():
+            if transaction is None:
+                self._reach_end()
+            else:
+                self._given = transaction.token
+                yield transaction
+
+    def batches(self, rows: int = 1000, seconds: float = 1.0) -> Iterator[list[Transaction]]:
+        """The row events that weren't given yet, in lists of whole transactions: work each off, and then keep `place`.
+
+        A list ends where it has so many rows or more, with the transaction behind so many seconds, and where the logs end by now.
+        An empty one comes where the place alone has moved on to another log.
+        """
+        batch: list[Transaction] = []
+        count, due = 0, 0.0
+        try:
+            for transaction in self._whole():
+                if transaction is not None:
+                    due = due if batch else time.monotonic() + seconds
+                    batch.append(transaction)
+                    count += sum(len(event.rows) for event in transaction)
+                    if count < rows and time.monotonic() < due:
+                        continue
+                if batch:
+                    self._given = batch[-1].token
+                    yield batch
+                    batch, count = [], 0
+                if transaction is None:
+                    before = self.place.file
+                    self._reach_end()
+                    if self.place.file != before:
+                        yield []
+        except BinlogfeedError:
+            if batch:
+                self._given = batch[-1].token
+                yield batch
+            raise
+        if batch:
+            self._given = batch[-1].token
+            yield batch
+
+    def _singly(self) -> Iterator[Given]:
+        """The events. None but the classes that were asked for come."""
+        for event in self._steps:
+            if event is None:
+                self._reach_end()
+            else:
+                self._given = event.token
+                yield cast(Given, event)
+
+    def _reach_end(self) -> None:
+        """Moves the place on to where the logs ended."""
+        ended = replace(self._place, token=self._given or self._place.token).at_end(self._listed)
+        self._place, self._given = self._run.place if isinstance(self._run, Watch) else ended, None
+
+    def _whole(self) -> Iterator[Optional[Transaction]]:
+        """The transactions, and None at each end of the logs as they are by then."""
         events: list[RowsEvent] = []
         try:
             for event in self._steps:
@@ -231,6 +307,8 @@ class BinLogStreamReader(Generic[Given]):
                     events = []
                 if isinstance(event, RowsEvent):
                     events.append(event)
+                elif event is None:
+                    yield None
         except (LogFault, ColumnsMismatch) as error:
             if events and _is_behind(error, events[0].token):
                 yield Transaction(events)
@@ -254,7 +332,7 @@ class BinLogStreamReader(Generic[Given]):
         self.close()
 
     def _read(self) -> Iterator[Optional[Event]]:
-        """Reads the logs: each event, and None at each end of the logs as they are by then, where the reader waits for more."""
+        """Reads the logs: each event, and None at each end of the logs as they are by then."""
         try:
             if self._closed:
                 return
@@ -277,7 +355,7 @@ class BinLogStreamReader(Generic[Given]):
         files = self._files
         paths = [files] if isinstance(files, (str, os.PathLike)) else files
         is_place = paths is not files and is_place_of_logs(paths[0], self._blocking)
-        is_begun_within = self._resume is None and (self._start.file is not None or self._begin != FIRST)
+        is_begun_within = self._token_alone is None and (self._start.file is not None or self._begin != FIRST)
         if self._blocking or is_place or is_begun_within:
             if not paths:
                 raise WordsRefused("binlogfeed: no file is given")
@@ -285,20 +363,31 @@ class BinLogStreamReader(Generic[Given]):
             watch = Watch(logs, [*self._command, "--follow"], self._start, self._begin)
             self._run, blocks = watch, self._watched(watch)
         else:
-            resume = [] if self._resume is None else [f"--from={self._resume}"]
+            resume = [] if self._token_alone is None else [f"--from={self._token_alone}"]
+            self._listed = [Log(path, _begins(path)) for path in map(pathlib.Path, paths)]
             run = Run([*self._command, *resume, "--", *(os.fspath(path) for path in paths)])
-            self._run, blocks = run, run.blocks()
+            self._run, blocks = run, self._ended(run)
         changes = self._changes(blocks)
         rows = self._joined(changes) if self._together else self._one_by_one(changes)
         return rows if self._asked == frozenset(ROWS_EVENTS.values()) else self._chosen(rows)
+
+    def _ended(self, run: Run) -> Iterator[Optional[bytes]]:
+        """The lines of a run that ends, and None behind them."""
+        yield from run.blocks()
+        if not self._closed:
+            yield None
 
     def _watched(self, watch: Watch) -> Iterator[Optional[bytes]]:
         """The lines of one look after the other, and None behind each. Without waiting there is one look."""
         is_empty = False
         while not self._closed:
             yield from watch.look()
+            if self._closed:
+                return
             yield None
             if not self._blocking:
+                if watch.is_empty:
+                    raise FileFault(f"binlogfeed: {no_log_of(self._files)}")
                 return
             if watch.is_empty and not is_empty:
                 is_empty = True
@@ -381,6 +470,12 @@ class BinLogStreamReader(Generic[Given]):
             yield event
 
 
+def no_log_of(files: Path | list[Path]) -> str:
+    """What is said where there is no log."""
+    place = files[0] if isinstance(files, list) else files
+    return f"no log matches {place}" if is_pattern(place) else f"there is no log in {place}"
+
+
 def _checked_files(files: Path | Iterable[Path] | None) -> Union[Path, list[Path]]:
     """The files that a reader is given."""
     if files is None:
@@ -390,11 +485,23 @@ def _checked_files(files: Path | Iterable[Path] | None) -> Union[Path, list[Path
     return files if isinstance(files, (str, os.PathLike)) else list(files)
 
 
-def _start(resume: str | None, resume_stream: bool, log_file: str | None, log_pos: int | None) -> Place:
+def _begins(path: pathlib.Path) -> str | None:
+    """What tells a log from another under its name. Where it can't be opened, the program says so behind the logs before it."""
+    try:
+        return beginning_of(path)
+    except FileFault:
+        return None
+
+
+def _start(resume: str | Place | None, resume_stream: bool, log_file: str | None, log_pos: int | None) -> Place:
     """The place in which a reader begins."""
     if resume is not None:
         if resume_stream or log_file is not None or log_pos is not None:
-            raise ValueError("a token (resume) says where to begin, and so do log_file and log_pos: give one of them")
+            raise ValueError("resume says where to begin, and so do log_file and log_pos: give one of them")
+        if isinstance(resume, Place):
+            return resume
+        if resume.startswith("{"):
+            return Place.from_text(resume)
         try:
             return Place(token_parts(resume).file, None, resume)
         except ValueError as error:

@@ -10,7 +10,7 @@ from pathlib import Path
 from typing import Any, NamedTuple, Optional, Union
 
 from binlogfeed.begin import FIRST, LOG, NOW, check_is_there, place_of, told_beginning
-from binlogfeed.faults import BinlogfeedError, FileFault
+from binlogfeed.faults import BinlogfeedError, FileFault, LogFault
 from binlogfeed.logs import Log, beginning, is_pattern, listed
 from binlogfeed.place import Place
 from binlogfeed.program import LookingRun, Run
@@ -104,6 +104,8 @@ class Watch:
         logs = self._found()
         try:
             yield from self._look(logs)
+        except LogFault as fault:
+            raise fault.among(log.path for log in logs)
         except FileFault:
             # The server takes a log off its index before it purges it. The new index says whether that one was still needed.
             yield from self._look(self._found())
@@ -248,7 +250,10 @@ class Watch:
             return self.place.rest(paths, begins)
         names = [path.name for path in paths]
         start = names.index(self.place.file) if self.place.file in names else 0
-        return [Log(path, begins(path)) for path in paths[start:]]
+        logs = [Log(path, begins(path)) for path in paths[start:]]
+        if logs:
+            self.place.check(logs[0])
+        return logs
 
 
 def marked(path: Path) -> Mark:

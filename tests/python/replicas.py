@@ -15,7 +15,7 @@ from pathlib import Path
 import psql
 import replica
 from binlogfeed import JSON_NULL
-from support import BANK, PROGRAM, SHOP, TOP, FolderTest, bank_rows, without_beginning
+from support import BANK, PROGRAM, SHOP, TOP, FolderTest, bank_rows, without_beginning, without_hints
 
 REPLICA = TOP / "examples/replica/replica.py"
 TABLES = {"shop": TOP / "examples/replica/shop.sql", "bank": TOP / "tests/python/bank.sql"}
@@ -95,7 +95,7 @@ def ended(*words, **options):
         late.start()
         said = process.stderr.read()
         late.cancel()
-    return process.returncode, without_beginning(said)
+    return process.returncode, without_hints(without_beginning(said))
 
 
 def full_line(number, table, before, after, types, key=("id",)):

@@ -38,6 +38,12 @@ def without_beginning(said):
     return rest if isinstance(said, str) else rest.encode("utf-8", "surrogateescape")
 
 
+def without_hints(said):
+    """What a command said, a text or bytes, without the hints below an error's line."""
+    hint = "hint: " if isinstance(said, str) else b"hint: "
+    return said[:0].join(line for line in said.splitlines(keepends=True) if not line.startswith(hint))
+
+
 def told(process, **options):
     """What a command prints until it ends, and what it says but for where it began."""
     out, said = process.communicate(**options)

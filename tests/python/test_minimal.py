@@ -7,7 +7,7 @@ import sys
 
 from binlogfeed import BinLogStreamReader, LogFault
 from replicas import SqliteFiles, ended
-from support import PROGRAM, TOP, FolderTest, without_beginning
+from support import PROGRAM, TOP, FolderTest, without_beginning, without_hints
 
 MINIMAL = TOP / "tests/minimal"
 LOG = MINIMAL / "binlog.000001"
@@ -175,7 +175,7 @@ class Minimal(FolderTest):
 
     def test_strict_follow(self):
         told = self.printed_by_follow("--profile", "strict")
-        self.assertEqual((told.returncode, told.stdout, without_beginning(told.stderr)), (1, "", STRICT))
+        self.assertEqual((told.returncode, told.stdout, without_hints(without_beginning(told.stderr))), (1, "", STRICT))
 
     def test_summary(self):
         environment = {**os.environ, "PYTHONPATH": str(TOP / "python")}

@@ -235,7 +235,7 @@ class Columns(LinesTest):
         """What is right is put in at once, and not taken back to be put in one by one."""
         lines, table, wanted = self.all_lines()
         target = self.server.made(table)
-        options = {"profile": "server", "columns": None, "follow": False, "commit_every": 9, "unfit": "error"}
+        options = {"profile": "server", "columns": None, "follow": False, "commit_every": 9, "unfit": "error", "begin": "first"}
         given = argparse.Namespace(target=target, schema="made", **self.told(lines), **options)
         with mock.patch.object(postgres.Postgres, "rollback", side_effect=AssertionError):
             replica.keep_up(given)

@@ -397,7 +397,7 @@ class Faults(FolderTest):
         strange = "a line feed or a tab"
         for words, status, line in (
             ([self.folder / "missing.000001"], 4, f"cannot open {self.folder}/missing.000001"),
-            ([self.folder / "missing"], 4, f"cannot open {self.folder}/missing"),
+            ([self.folder / "missing"], 4, f"cannot open {self.folder}/missing: No such file or directory"),
             ([self.folder / "none.*"], 4, f"no log matches {self.folder}/none.*"),
             ([self.folder], 6, "binlog.000002 is gone: it should stand between binlog.000001 and binlog.000003"),
             (["--only-events=x", *SHOP], 2, "bad --only-events: x"),
@@ -416,7 +416,7 @@ class Faults(FolderTest):
         with running(command(*SHOP), stdout=subprocess.PIPE, stderr=subprocess.PIPE, env=ENVIRONMENT) as process:
             process.stdout.close()
             said = process.stderr.read()
-        self.assertEqual((process.returncode, said), (4, b"binlogfeed: write fault\n"))
+        self.assertEqual((process.returncode, said), (4, b"binlogfeed: write fault: nobody reads the lines any more\n"))
 
     def test_interrupted(self):
         """Ctrl-C reaches all processes. None of them is left, and none says anything."""
