@@ -32,6 +32,8 @@ class Source(NamedTuple):
     tables: Tables = {}
     # Where to begin if the target keeps no place yet.
     begin: str = FIRST
+    # How many seconds a change waits behind the moment at which it was seen.
+    lag: float = 0.0
 
 
 class Changes:
@@ -44,7 +46,7 @@ class Changes:
     def __init__(self, source: Source, place: Place, again: bool = False) -> None:
         """The changes behind a place, or from where the source is to be begun. `again` says that they were begun before."""
         options = [f"--profile={source.profile}", f"--only-schemas={source.schema}"]
-        self._watch = Watch(source.logs, [source.program, "read", "--follow", "--full", *options], place, source.begin, "the target")
+        self._watch = Watch(source.logs, [source.program, "read", "--follow", "--full", *options], place, source.begin, "the target", source.lag)
         self._watch.begun = again
         self._source = source
         # Values stay as the line has them, but for bytes and the JSON null.

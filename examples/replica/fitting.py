@@ -40,6 +40,9 @@ def for_sqlite(log: str, target: str) -> Converter:
         return whole_or_text if affinity in ("TEXT", "BLOB") else whole
     if kind == "year" and affinity != "TEXT":
         return int
+    if kind in ("float", "double") and affinity == "TEXT":
+        # SQLite's own text of a number has 15 digits, and no sign of -0.0.
+        return real if kind == "float" else double
     charset = charset_of(log)
     return text_or_bytes(charset) if charset in CODECS else OTHERS.get(kind)
 

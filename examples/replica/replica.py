@@ -31,7 +31,7 @@ from binlogfeed.columns import Tables, tables_of  # noqa: E402
 from binlogfeed.filters import add_profile  # noqa: E402
 from binlogfeed.hints import hints_of  # noqa: E402
 from binlogfeed.lines import Change  # noqa: E402
-from binlogfeed.options import only_one, seconds  # noqa: E402
+from binlogfeed.options import LAG_HELP, lag_seconds, only_one, seconds  # noqa: E402
 from binlogfeed.tokens import beginning  # noqa: E402
 from changes import Changes, Source  # noqa: E402
 from postgres import Postgres  # noqa: E402
@@ -217,6 +217,7 @@ def given_words() -> argparse.Namespace:
     parser.add_argument("--begin", default=FIRST, metavar="PLACE", help=begin.HELP)
     parser.add_argument("--follow", action="store_true", help="go on when the logs grow, until SIGTERM")
     parser.add_argument("--interval", type=seconds, default=1.0, metavar="SECONDS", help="how often to look for more (1)")
+    parser.add_argument("--lag", type=lag_seconds, default=0.0, metavar="SECONDS", help=LAG_HELP)
     every = "commit after so many of the log's transactions (1), and behind each look"
     parser.add_argument("--commit-every", type=count, default=1, metavar="N", help=every)
     unfit = "what a value becomes that its column can't hold, such as 0000-00-00 (error)"
@@ -226,7 +227,7 @@ def given_words() -> argparse.Namespace:
 
 def keep_up(given: argparse.Namespace) -> None:
     """Keeps the replica until the logs end, or for ever."""
-    source = Source(given.logs, given.schema, given.program, given.profile, given_columns(given.columns), given.begin)
+    source = Source(given.logs, given.schema, given.program, given.profile, given_columns(given.columns), given.begin, given.lag)
     target = opened(given.target, given.schema, given.unfit)
     try:
         replica = Replica(target, source, given.commit_every)

@@ -16,7 +16,7 @@ from binlogfeed.faults import BinlogfeedError
 from binlogfeed.filters import add_filters, add_profile, filter_words
 from binlogfeed.follow import Follower
 from binlogfeed.hints import hints_of
-from binlogfeed.options import only_one, seconds
+from binlogfeed.options import LAG_HELP, lag_seconds, only_one, seconds
 from binlogfeed.summary.command import add_summary
 from binlogfeed.version import VERSION
 
@@ -56,6 +56,7 @@ def add_follow(commands: Any) -> None:
     parser.add_argument("--begin", metavar="PLACE", default=FIRST, help=begin.HELP)
     parser.add_argument("--once", action="store_true", help="end where the logs end by now")
     parser.add_argument("--interval", metavar="SECONDS", type=seconds, default=1.0, help="how often to look for more (1)")
+    parser.add_argument("--lag", metavar="SECONDS", type=lag_seconds, default=0.0, help=LAG_HELP)
     parser.add_argument("--status", metavar="SECONDS", type=seconds, help="say on standard error how far it is, so often")
     parser.add_argument("--program", metavar="PATH", default="binlogfeed", help="the program (binlogfeed)")
     parser.add_argument("--full", action="store_true", help="print full lines")
@@ -68,7 +69,7 @@ def follow(given: argparse.Namespace) -> None:
     """Prints lines until something ends it, or the logs end."""
     words = [*(["--full"] if given.full else []), f"--profile={given.profile}", *filter_words(given)]
     begin.say_on_standard_error("binlogfeed")
-    follower = Follower(given.logs, given.state, words, given.program, begin=given.begin)
+    follower = Follower(given.logs, given.state, words, given.program, begin=given.begin, lag=given.lag)
     stopped = threading.Event()
     if given.once:
         stopped.set()

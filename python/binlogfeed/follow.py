@@ -38,10 +38,11 @@ class Follower:
         program: str = "binlogfeed",
         out: BinaryIO | None = None,
         begin: str = FIRST,
+        lag: float = 0.0,
     ) -> None:
         """A follower of the logs at a place (an index, its folder, or a pattern), which keeps its own place in a file.
 
-        Where there is no such file yet, `begin` says where it begins.
+        Where there is no such file yet, `begin` says where it begins. No line comes earlier than `lag` seconds after it was seen.
         """
         self._logs = place
         self._state = state
@@ -49,7 +50,7 @@ class Follower:
         self._out: BinaryIO = out or open(sys.stdout.fileno(), "wb", buffering=0, closefd=False)
         self._lock = _locked(state)
         self._kept = read_state(state)
-        self._watch = Watch(place, [program, "read", "--follow", *words], self._kept, begin, str(state))
+        self._watch = Watch(place, [program, "read", "--follow", *words], self._kept, begin, str(state), lag)
         self._said_none = False
         self._writing = False
 

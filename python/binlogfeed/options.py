@@ -5,6 +5,8 @@ import argparse
 import threading
 from typing import Any
 
+LAG_HELP = "give no line earlier than so long after its transaction was seen whole in the log (0)"
+
 
 def only_one() -> type[argparse.Action]:
     """What takes one place of logs. A shell makes several words of a pattern without quotes."""
@@ -24,6 +26,11 @@ def only_one() -> type[argparse.Action]:
 def is_a_wait(seconds: float) -> bool:
     """Whether one can wait for so many seconds, and does wait: no number below 0 or beyond all clocks, and nan isn't one, either."""
     return 0 < seconds <= threading.TIMEOUT_MAX
+
+
+def lag_seconds(word: str) -> float:
+    """A number of seconds, of which 0 is one, as argparse takes it."""
+    return 0.0 if word == "0" else seconds(word)
 
 
 def seconds(word: str) -> float:

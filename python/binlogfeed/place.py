@@ -45,14 +45,18 @@ class Place:
                 raise LogsGone(f"binlogfeed: {self.file} is gone, and wasn't read to its end: {left}")
         check_without_gap(rest)
         logs = [Log(path, begins(path)) for path in rest]
-        if logs:
-            self.check(logs[0])
+        self.check(logs)
         return logs
 
-    def check(self, log: Log) -> None:
-        """Raises `LogsGone` where a log has the name of this place's file, and is another."""
-        if self.begins and log.name == self.file and log.begins != self.begins:
-            raise LogsGone(f"binlogfeed: {self.file} is gone: another log has its name")
+    def check(self, logs: Sequence[Log]) -> None:
+        """Raises `LogsGone` where the first of these logs has the name of this place's file, and is another.
+
+        The last log may be a copy that is made anew, whose first event isn't whole yet.
+        """
+        if self.begins and logs and logs[0].name == self.file:
+            begins = logs[0].begins
+            if begins != self.begins and (begins is not None or len(logs) > 1):
+                raise LogsGone(f"binlogfeed: {self.file} is gone: another log has its name")
 
     def behind(self, token: str, logs: Sequence[Log]) -> Place:
         """The place behind a change of these logs. All changes before it were taken."""

@@ -62,6 +62,7 @@ class BinLogStreamReader(Generic[Given]):
     - `program`: the program, by its path, or by its name: that installed with this package, or else PATH's.
     - `blocking`: whether the reader waits for more at the logs' end, and goes on when they grow. It looks each `interval`
       seconds.
+    - `lag`: no event is given earlier than so many seconds after its transaction was seen whole in the log.
 
     An event that the log can't give, and whatever else ends a reading early, is an exception behind the last event.
     """
@@ -97,6 +98,7 @@ class BinLogStreamReader(Generic[Given]):
         program: Path = ...,
         blocking: bool = ...,
         interval: float = ...,
+        lag: float = ...,
         **others: Any,
     ) -> None: ...
 
@@ -130,6 +132,7 @@ class BinLogStreamReader(Generic[Given]):
         program: Path = ...,
         blocking: bool = ...,
         interval: float = ...,
+        lag: float = ...,
         **others: Any,
     ) -> None: ...
 
@@ -162,6 +165,7 @@ class BinLogStreamReader(Generic[Given]):
         program: Path = "binlogfeed",
         blocking: bool = False,
         interval: float = 0.1,
+        lag: float = 0.0,
         **others: Any,
     ) -> None:
         """A reader. The program starts with the first event that is asked for."""
@@ -172,6 +176,9 @@ class BinLogStreamReader(Generic[Given]):
         self._command = [os.fspath(program), "read", "--full", f"--profile={profile}", *filters]
         if not is_a_wait(interval):
             raise ValueError(f"interval: a number of seconds above 0 is wanted, not {interval!r}")
+        if lag and not is_a_wait(lag):
+            raise ValueError(f"lag: a number of seconds is wanted, not {lag!r}")
+        self._lag = lag
         # A token by itself, which the program takes over a list of files.
         self._token_alone = resume if isinstance(resume, str) and not resume.startswith("{") else None
         self._start = _start(resume, resume_stream, log_file, log_pos)
@@ -356,11 +363,11 @@ class BinLogStreamReader(Generic[Given]):
         paths = [files] if isinstance(files, (str, os.PathLike)) else files
         is_place = paths is not files and is_place_of_logs(paths[0], self._blocking)
         is_begun_within = self._token_alone is None and (self._start.file is not None or self._begin != FIRST)
-        if self._blocking or is_place or is_begun_within:
+        if self._blocking or is_place or is_begun_within or self._lag:
             if not paths:
                 raise WordsRefused("binlogfeed: no file is given")
             logs = paths[0] if is_place else _with_start([pathlib.Path(path) for path in paths], self._start)
-            watch = Watch(logs, [*self._command, "--follow"], self._start, self._begin)
+            watch = Watch(logs, [*self._command, "--follow"], self._start, self._begin, lag=self._lag)
             self._run, blocks = watch, self._watched(watch)
         else:
             resume = [] if self._token_alone is None else [f"--from={self._token_alone}"]

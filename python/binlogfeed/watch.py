@@ -1,19 +1,20 @@
 """Watches logs that grow: gives the lines that are new, look after look, by a run of the program that goes on."""
 from __future__ import annotations
 
-import json
 import os
 import threading
 import time
 from collections.abc import Generator, Iterator, Sequence
 from pathlib import Path
-from typing import Any, NamedTuple, Optional, Union
+from typing import NamedTuple, Optional, Union
 
 from binlogfeed.begin import FIRST, LOG, NOW, check_is_there, place_of, told_beginning
-from binlogfeed.faults import BinlogfeedError, FileFault, LogFault
+from binlogfeed.faults import BinlogfeedError, FileFault, LogFault, LogLost, TokenRefused
+from binlogfeed.lag import Lag, last_members
 from binlogfeed.logs import Log, beginning, is_pattern, listed
 from binlogfeed.place import Place
 from binlogfeed.program import LookingRun, Run
+from binlogfeed.tokens import token_parts
 
 # At a rotation or a purge a server takes its index away, and puts another in its place some milliseconds later. For so many
 # seconds logs that aren't there are looked for again, each time after such a pause, before anything is said of them.
@@ -21,8 +22,6 @@ PATIENCE = 1.0
 PAUSE = 0.01
 # Where the logs are quiet, a program that was killed is noticed within so many seconds.
 CHECK = 1.0
-# A line's last two members begin here. A text in JSON has no bare quotes, and no other member has that name behind it.
-LAST_MEMBERS = b',"timestamp":'
 
 Logs = Union[str, "os.PathLike[str]", Sequence[Path]]
 
@@ -50,11 +49,18 @@ class Watch:
     """
 
     def __init__(
-        self, logs: Logs, command: Sequence[str | os.PathLike[str]], place: Place, begin: str = FIRST, kept_in: str = ""
+        self,
+        logs: Logs,
+        command: Sequence[str | os.PathLike[str]],
+        place: Place,
+        begin: str = FIRST,
+        kept_in: str = "",
+        lag: float = 0.0,
     ) -> None:
         """A watch of logs from a place on. The command, `read --follow` with its options, is run with the first look.
 
         Where the place is none, `begin` says where that is (binlogfeed.begin). `kept_in` tells people where the place was kept.
+        No line is given earlier than `lag` seconds behind the moment at which the last byte of its transaction was seen.
         """
         self._logs = logs
         self._command = list(command)
@@ -68,6 +74,8 @@ class Watch:
         # The run that looks for the logs' end.
         self._skipping: Optional[Run] = None
         self._closed = False
+        self._lag = Lag(lag)
+        self._said_cut = False
         # The logs that the run was told last, and how all logs were when they were looked at.
         self._told: list[Log] = []
         self._seen: dict[Path, Seen] = {}
@@ -102,10 +110,20 @@ class Watch:
         """The lines that are new by now, in blocks of whole lines. Raises what ended the reading early behind the lines before it."""
         self.begin()
         logs = self._found()
+        if self._is_cut(logs):
+            self._say_cut()
+            return
         try:
             yield from self._look(logs)
         except LogFault as fault:
             raise fault.among(log.path for log in logs)
+        except (LogLost, TokenRefused) as error:
+            if not self._may_grow(logs, error):
+                raise
+            # Nothing is asked again before the log has changed.
+            self._finished = {log.path: self._seen[log.path].mark for log in logs}
+            self._say_cut()
+            return
         except FileFault:
             # The server takes a log off its index before it purges it. The new index says whether that one was still needed.
             yield from self._look(self._found())
@@ -129,9 +147,33 @@ class Watch:
             ending.wait(min(left, CHECK))
         return True
 
+    def _is_last(self, logs: Sequence[Log]) -> bool:
+        """Whether the place is in the last of all logs, and says which log that is."""
+        return len(logs) == 1 and logs[0].name == self.place.file and self.place.begins is not None
+
+    def _is_cut(self, logs: Sequence[Log]) -> bool:
+        """Whether the last log has a beginning of what was read of it. Where another log stands behind it, it won't grow any more."""
+        if not self._is_last(logs):
+            return False
+        (log,), resume = logs, self.place.resume
+        return log.begins is None or (resume is not None and self._seen[log.path].mark.size <= token_parts(resume).position)
+
+    def _may_grow(self, logs: Sequence[Log], error: LogLost | TokenRefused) -> bool:
+        """Whether the program said of the last log that it hasn't what was read of it. It is the same one by its first event."""
+        if isinstance(error, TokenRefused):
+            return self._is_last(logs) and error.name in ("TokenNoTransaction", "TokenNoChange")
+        return self._is_last(logs) and error.file == self.place.file
+
+    def _say_cut(self) -> None:
+        """Says once that the last log is shorter than it was."""
+        if not self._said_cut:
+            self._said_cut = True
+            LOG.warning(f"{self.place.file} is shorter than what was read of it: waiting until it is as long again, as a new copy will be")
+
     def end(self) -> None:
         """Ends the watch, and a look that goes on, at any time and from any thread. No line is given any more."""
         self._closed = True
+        self._lag.end()
         for run in (self._skipping, self._run):
             if run is not None:
                 run.end()
@@ -166,6 +208,7 @@ class Watch:
         if whole:
             self._place = self.place.at_end(logs)
             self._finished = marks
+            self._said_cut = False
             self.reached = logs[-1].name, marks[logs[-1].path].size
 
     def _asked(self, logs: list[Log]) -> Generator[bytes, None, bool]:
@@ -177,7 +220,8 @@ class Watch:
             if self._closed:  # by another thread, which saw no run yet
                 self._run.end()
         self._told = logs
-        lines = self._run.look([] if paths == told else paths)
+        sizes = {log.name: self._seen[log.path].mark.size for log in logs}
+        lines = self._lag.held(self._run.look([] if paths == told else paths), sizes)
         while True:
             try:
                 block = next(lines)
@@ -251,8 +295,7 @@ class Watch:
         names = [path.name for path in paths]
         start = names.index(self.place.file) if self.place.file in names else 0
         logs = [Log(path, begins(path)) for path in paths[start:]]
-        if logs:
-            self.place.check(logs[0])
+        self.place.check(logs)
         return logs
 
 
@@ -271,9 +314,3 @@ def _last_end(blocks: Iterator[bytes]) -> int | None:
     for last in blocks:
         pass
     return int(last.splitlines()[-1].split(b"\t")[1]) if last else None
-
-
-def last_members(lines: bytes) -> dict[str, Any]:
-    """The last two members of the last of these lines: `timestamp` and `token`."""
-    members: dict[str, Any] = json.loads(b"{" + lines[lines.rindex(LAST_MEMBERS) + 1 :])
-    return members

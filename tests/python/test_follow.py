@@ -432,16 +432,22 @@ class Purged(ServerTest):
         self.assertIn("another log has its name", caught.exception.line)
 
     def test_a_log_that_lost_its_end_while_it_is_followed(self):
+        """The server began another one behind it."""
         follower = self.follower()
         self.log("binlog.000001", log(1, 2))
         follower.catch_up()
         self.log("binlog.000001", log(1))
+        self.log("binlog.000002", log(3))
+        self.index("binlog.000001", "binlog.000002")
         with self.assertRaises(LogLost) as caught:
             follower.catch_up()
         self.assertEqual(caught.exception.line, "binlogfeed: file shorter: binlog.000001")
 
     def test_a_log_that_lost_its_end(self):
+        """The server began another one behind it."""
         self.log("binlog.000001", log(1)[:370])
+        self.log("binlog.000002", log(2))
+        self.index("binlog.000001", "binlog.000002")
         with self.assertRaises(TokenRefused) as caught:
             self.followed()
         self.assertEqual(caught.exception.name, "TokenNoTransaction")

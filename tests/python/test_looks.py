@@ -254,6 +254,8 @@ class Watching(FolderTest):
         self.put("binlog.000001", logs.A)
         self.assertEqual(self.lines(watch), b"")
         self.put("binlog.000001", logs.A[:-1])
+        self.put("binlog.000002", logs.A)
+        self.index("binlog.000001", "binlog.000002")
         with self.assertRaises(LogLost) as caught:
             self.lines(watch)
         self.assertEqual((caught.exception.status, caught.exception.file), (3, "binlog.000001"))

@@ -3,6 +3,8 @@ import argparse
 import calendar
 import datetime
 import json
+import math
+import sqlite3
 import struct
 import time
 import unittest
@@ -235,7 +237,7 @@ class Columns(LinesTest):
         """What is right is put in at once, and not taken back to be put in one by one."""
         lines, table, wanted = self.all_lines()
         target = self.server.made(table)
-        options = {"profile": "server", "columns": None, "follow": False, "commit_every": 9, "unfit": "error", "begin": "first"}
+        options = {"profile": "server", "columns": None, "follow": False, "commit_every": 9, "unfit": "error", "begin": "first", "lag": 0.0}
         given = argparse.Namespace(target=target, schema="made", **self.told(lines), **options)
         with mock.patch.object(postgres.Postgres, "rollback", side_effect=AssertionError):
             replica.keep_up(given)
@@ -324,6 +326,20 @@ class Fitting(LinesTest):
             affinity = fitting.affinity_of(declared)
             kept = {"TEXT": ["text", "text"], "BLOB": ["text", "integer"], "REAL": ["real", "real"]}
             self.assertEqual(found, kept.get(affinity, ["integer", "integer"]), declared)
+
+    def test_negative_zero(self):
+        """SQLite has none in a REAL column. A column without a type has it, and so has a text, which keeps all digits."""
+        connection = sqlite3.connect(":memory:")
+        connection.execute("CREATE TABLE t (a REAL, b, c BLOB, d TEXT, e TEXT)")
+        double, single = struct.pack("<d", -0.0), struct.pack("<f", 0.1)
+        declared = ("REAL", "", "BLOB", "TEXT", "TEXT")
+        logged = (("double", double),) * 4 + (("float", single),)
+        values = [fitting.for_sqlite(log, target)(raw) for (log, raw), target in zip(logged, declared)]
+        connection.execute("INSERT INTO t VALUES (?, ?, ?, ?, ?)", values)
+        (row,) = connection.execute("SELECT * FROM t")
+        self.assertEqual([math.copysign(1, value) for value in row[:3]], [1, -1, -1])
+        self.assertEqual(row[3:], ("-0.0", "0.1"))
+        self.assertEqual(fitting.for_sqlite("double", "TEXT")(struct.pack("<d", 0.1 + 0.2)), "0.30000000000000004")
 
     def test_json(self):
         for document, text in (
