@@ -29,7 +29,7 @@ from binlogfeed.summary.page import as_page
 from binlogfeed.summary.reading import logs_of, summed_up
 from binlogfeed.summary.sizes import Sizes, class_bounds, class_of
 from binlogfeed.summary.text import as_text, bar, shown_width
-from binlogfeed.summary.times import Times, spoken
+from binlogfeed.summary.times import Period, Times, round_marks, spoken
 from binlogfeed.summary.told import byte_sizes, change_sizes
 from binlogfeed.summary.units import Limit, Unit, lines_within
 from support import BANK, PROGRAM, SECONDS, SHOP, TOP, FolderTest, running
@@ -618,6 +618,26 @@ class Telling(FolderTest):
         self.assertIn("25 others: 25 inserts, 0 updates, 0 deletes", text)
         self.assertIn("s.t40", text)
         self.assertEqual(len(re.findall(r"^  s\.t\d+ ", as_text(found, 80), re.MULTILINE)), 40)
+        # Its list is folded behind the tables of the picture.
+        page = as_page(found)
+        before, folded = page.split("<details><summary>25 others</summary>")
+        self.assertEqual((before.count("<td data-head=\"Table\">s.t"), folded.count("<td data-head=\"Table\">s.t")), (15, 25))
+
+    def test_one_of_each(self):
+        """One log is no logs."""
+        found = summed_up([self.put("binlog.000001", logs.A)], (), PROGRAM)
+        page = as_page(found)
+        for name in ("change", "transaction with them", "table", "log", "change in 1 second, at most"):
+            self.assertIn(f"<dt>{name}</dt><dd>1</dd>", page)
+        self.assertNotRegex(page, r"<dt>[^<]*s</dt><dd>1</dd>")
+
+    def test_the_same_step(self):
+        """The page's columns are the text's rows."""
+        found = summed_up(BANK, (), PROGRAM)
+        rows = re.search(r"(?m)^Changes over time.*\n  From .*\n((?:  \d.*\n)+)", as_text(found, 80))[1].splitlines()
+        numbers = re.search(r"<details><summary>Numbers</summary>.*?</details>", as_page(found), re.DOTALL)[0]
+        self.assertEqual(len(rows), numbers.count("<tr>") - 1)
+        self.assertGreater(len(rows), 1)
 
 
 class Terminal(FolderTest):
@@ -707,5 +727,25 @@ class Parts(TestCase):
                 for period, following in zip(periods, periods[1:]):
                     self.assertEqual(period.start + period.width, following.start)
         self.assertEqual(Times().periods(5), [])
+
+    def test_peaks(self):
+        """The second with the most changes, and of several the first."""
+        self.assertIsNone(Times().peak())
+        times = Times()
+        times.add({100: 2, 105: 9, 103: 9})
+        times.add({100: 1})
+        self.assertEqual(times.peak(), (103, 1, 9))
+
+    def test_marks(self):
+        """Times are marked that are round: whole minutes, and then whole parts of an hour and of a day."""
+        for start, width, count, wanted in (
+            (1_700_000_015, 5, 30, [5, 17, 29]),
+            (1_699_999_980, 10, 30, [0, 6, 12, 18, 24]),
+            (1_699_999_200, 60, 30, [0, 5, 10, 15, 20, 25]),
+            (1_700_000_000, 1, 1, [0]),
+            (1_700_000_015, 5, 3, [0, 1, 2]),
+        ):
+            periods = [Period(start + width * number, width, 1) for number in range(count)]
+            self.assertEqual(round_marks(periods, 6), wanted)
         self.assertEqual([spoken(width) for width in (1, 10, 60, 7_200, 86_400, 1_209_600)],
                          ["1 second", "10 seconds", "1 minute", "2 hours", "1 day", "2 weeks"])  # fmt: skip

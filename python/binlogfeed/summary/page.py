@@ -8,13 +8,14 @@ from binlogfeed.summary.gtids import interval_text
 from binlogfeed.summary.pictures import Bar, Part, bars, columns, safe, sign, strip
 from binlogfeed.summary.reading import Summary
 from binlogfeed.summary.style import STYLE
-from binlogfeed.summary.times import spoken, start_text, utc
+from binlogfeed.summary.times import round_marks, spoken, start_text, utc
 from binlogfeed.summary.told import (
     ENDINGS,
     FAULT,
     FILTERED,
     GAPS,
     KINDS,
+    MOST_PERIODS,
     Large,
     byte_sizes,
     change_sizes,
@@ -22,12 +23,13 @@ from binlogfeed.summary.told import (
     largest_by_bytes,
     largest_by_changes,
     logs_text,
+    named,
     numbers_text,
     size_text,
 )
 
 MOST_BARS = 15
-MOST_PERIODS = 60
+TICKS = 6
 MOST_GAPS = 200
 
 
@@ -93,13 +95,16 @@ def _figure(picture: str, caption: str = "") -> str:
 def _overview(summary: Summary) -> str:
     """How much there is, and the first and the last change."""
     changes, tables = summary.changes, summary.changes.tables()
-    tiles = (
-        (f"{changes.total:,}", "changes"),
-        (f"{changes.sizes.total:,}", "transactions with them"),
-        (f"{len(tables):,}", "tables"),
-        (f"{len(summary.logs):,}", "logs"),
+    tiles = [
+        (f"{changes.total:,}", named(changes.total, "change")),
+        (f"{changes.sizes.total:,}", f"{named(changes.sizes.total, 'transaction')} with them"),
+        (f"{len(tables):,}", named(len(tables), "table")),
+        (f"{len(summary.logs):,}", named(len(summary.logs), "log")),
         (f"{summary.size:,}", "bytes of logs"),
-    )
+    ]
+    peak = changes.times.peak()
+    if peak is not None:
+        tiles.append((f"{peak.count:,}", f"{named(peak.count, 'change')} in {spoken(peak.width)}, at most"))
     told = "".join(f"<div><dt>{name}</dt><dd>{number}</dd></div>" for number, name in tiles)
     ends = (("First", changes.first), ("Last", changes.last))
     rows = [_change_row(name, change) for name, change in ends if change is not None]
@@ -126,7 +131,7 @@ def _times(summary: Summary) -> str:
     width = spoken(periods[0].width)
     rows = [(name, f"{count:,}") for name, count in counts]
     numbers = f"<details><summary>Numbers</summary>{_table(('From', 'Changes'), rows, (1,))}</details>"
-    picture = columns(f"Changes over time, {width} for each column", "changes", counts)
+    picture = columns(f"Changes over time, {width} for each column", "changes", counts, round_marks(periods, TICKS))
     return _section("Changes over time", _figure(picture, f"Each column is {width}.") + numbers)
 
 
@@ -142,7 +147,11 @@ def _tables(summary: Summary) -> str:
         drawn.append(_kinds_bar(f"{len(rows) - MOST_BARS:,} others", others))
     legend = "".join(f"<li>{sign(kind)} {kind}s</li>" for kind in KINDS)
     cells = [(safe(name), *(f"{count:,}" for count in (*counts, sum(counts)))) for name, counts in rows]
-    table = _table(("Table", "Inserts", "Updates", "Deletes", "All"), cells, (1, 2, 3, 4), "tables")
+    heads = ("Table", "Inserts", "Updates", "Deletes", "All")
+    table = _table(heads, cells[:MOST_BARS], (1, 2, 3, 4), "tables")
+    if len(cells) > MOST_BARS:
+        rest = _table(heads, cells[MOST_BARS:], (1, 2, 3, 4), "tables")
+        table += f"<details><summary>{len(cells) - MOST_BARS:,} others</summary>{rest}</details>"
     figure = _figure(bars("Changes by table and kind", drawn))
     return _section("Changes by table", f'<ul class="legend">{legend}</ul>{figure}{table}')
 

@@ -17,7 +17,6 @@ PLOT, PLOT_TOP, AXIS = 220, 12, 26
 LETTER = 8
 # What is longer is shortened in a picture: the page's tables have it whole.
 LONGEST_NAME = 34
-TICKS = 5
 MOST_GAPS = 500
 LEAST_PERCENT, WIDEST_PERCENT = 0.25, 12
 
@@ -82,8 +81,8 @@ def _bar(row: Bar, most: int, top: int) -> str:
     )
 
 
-def columns(title: str, noun: str, counts: Sequence[tuple[str, int]]) -> str:
-    """Columns side by side, with a scale at their left and some of their names below."""
+def columns(title: str, noun: str, counts: Sequence[tuple[str, int]], marks: Sequence[int]) -> str:
+    """Columns side by side, with a scale at their left, and below them the names of those that are marked."""
     most = max(count for _, count in counts)
     top = _rounded_up(most)
     described = f"{len(counts):,} columns from {counts[0][0]} to {counts[-1][0]}, the highest {most:,} {noun}"
@@ -98,7 +97,7 @@ def columns(title: str, noun: str, counts: Sequence[tuple[str, int]]) -> str:
             f'<rect class="all" x="{each * (number + 0.5) - width / 2:.3f}%" y="{PLOT_TOP + PLOT - height:.1f}"'
             f' width="{width:.3f}%" height="{height:.1f}"/></g>'
         )
-    drawn += _names_below([name for name, _ in counts])
+    drawn += _names_below([name for name, _ in counts], marks)
     labels = [f"{round(top * share):,}" for share in (0, 0.5, 1)] if top > 1 else ["0", "", "1"]
     return f'<div class="plot">{_scale(labels)}{_picture(title, described, PLOT_TOP + PLOT + AXIS, drawn)}</div>'
 
@@ -125,15 +124,14 @@ def _scale(labels: Sequence[str]) -> str:
     return f'<svg class="scale" aria-hidden="true" width="{width}" height="{PLOT_TOP + PLOT + AXIS}">{texts}</svg>'
 
 
-def _names_below(names: Sequence[str]) -> str:
-    """Some of the columns' names, below them. Where there is little room only the first and the last are shown."""
+def _names_below(names: Sequence[str], marks: Sequence[int]) -> str:
+    """Some of the columns' names, below them. Where there is little room only the first and the last of these are shown."""
     last = len(names) - 1
-    shown = sorted({round(last * number / (TICKS - 1)) for number in range(TICKS)})
     drawn = ""
-    for number in shown:
+    for number in marks:
         kind = "start" if number == 0 and last else "end" if number == last and last else "middle"
         at = 0 if kind == "start" else 100 if kind == "end" else 100 * (number + 0.5) / len(names)
-        rare = " rare" if number not in (0, last) else ""
+        rare = " rare" if number not in (marks[0], marks[-1]) else ""
         place = f'x="{at:.3f}%" y="{PLOT_TOP + PLOT + AXIS - 8}"'
         drawn += f'<text class="{kind}{rare}" {place}>{escape(names[number])}</text>'
     return drawn

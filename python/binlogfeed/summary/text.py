@@ -15,6 +15,7 @@ from binlogfeed.summary.told import (
     FILTERED,
     GAPS,
     KINDS,
+    MOST_PERIODS,
     Large,
     byte_sizes,
     change_sizes,
@@ -29,7 +30,6 @@ from binlogfeed.summary.told import (
 
 # Eighths of a character, up to a whole one.
 EIGHTHS = " ▏▎▍▌▋▊▉█"
-MOST_PERIODS = 24
 MOST_LARGE = 5
 MOST_GAPS = 50
 # A bar has at most so many characters, and names that would leave fewer than these stand on a line of their own.
@@ -75,6 +75,9 @@ def _changes(summary: Summary) -> list[str]:
     for name, change in (("First", changes.first), ("Last ", changes.last)):
         if change is not None:
             lines += _change(name, change)
+    peak = changes.times.peak()
+    if peak is not None:
+        lines.append(f"{INDENT}Most   {utc(peak.start)}  {counted(peak.count, 'change')} in {spoken(peak.width)}")
     return lines
 
 

@@ -2,7 +2,7 @@
 from __future__ import annotations
 
 from collections import Counter
-from collections.abc import Mapping
+from collections.abc import Mapping, Sequence
 from datetime import datetime, timezone
 from typing import NamedTuple, Optional
 
@@ -62,6 +62,14 @@ class Times:
         self._counts = wider
         self._step += 1
 
+    def peak(self) -> Period | None:
+        """The period with the most changes, by the step in which they are counted: a second, unless there are many of them."""
+        if not self._counts:
+            return None
+        at, count = max(self._counts.items(), key=lambda item: (item[1], -item[0]))
+        step = STEPS[self._step]
+        return Period(at * step, step, count)
+
     def periods(self, most: int) -> list[Period]:
         """Periods of one width from the first change to the last, at most so many. Some may have no change."""
         if self.earliest is None or self.latest is None:
@@ -74,6 +82,15 @@ class Times:
         for at, count in self._counts.items():
             counts[at * step // width] += count
         return [Period(at * width, width, counts[at]) for at in range(self.earliest // width, self.latest // width + 1)]
+
+
+def round_marks(periods: Sequence[Period], most: int) -> list[int]:
+    """Which of these periods begin at whole minutes, or more seldom; at round seconds, where they are short. Else the first and the last."""
+    for width in (*(width for width in WIDTHS if width >= MINUTE), *WIDTHS):
+        marks = [number for number, period in enumerate(periods) if period.start % width == 0]
+        if 2 <= len(marks) <= most:
+            return marks
+    return sorted({0, len(periods) - 1})
 
 
 def spoken(width: int) -> str:

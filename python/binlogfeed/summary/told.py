@@ -17,7 +17,7 @@ ENDINGS = {
     "xid": "committed, as with InnoDB",
     "commit": "committed by the statement COMMIT",
     "rollback": "rolled back: its changes aren't counted",
-    "statement": "a statement outside of a transaction",
+    "statement": "a statement outside of a transaction, such as CREATE TABLE",
 }
 FILTERED = "The filters choose changes. Bytes, endings and GTIDs are those of all transactions."
 GAPS = (
@@ -26,6 +26,8 @@ GAPS = (
     " gaps, too."
 )
 FAULT = "What stands at this place and behind it isn't counted."
+# The text and the page tell times by the same step, which makes so many periods at most.
+MOST_PERIODS = 30
 # Sizes in bytes are told from the class that ends here.
 LEAST_BYTES_CLASS = 3
 POWERS = ("", "k", "M", "G", "T", "P")
@@ -56,9 +58,14 @@ def size_text(summary: Summary) -> str:
     return f"{counted(len(summary.logs), 'log')}, {counted(summary.size, 'byte')}"
 
 
+def named(count: int, noun: str) -> str:
+    """What such a number counts."""
+    return f"{noun}{'' if count == 1 else 's'}"
+
+
 def counted(count: int, noun: str) -> str:
     """A number of things."""
-    return f"{count:,} {noun}{'' if count == 1 else 's'}"
+    return f"{count:,} {named(count, noun)}"
 
 
 def change_sizes(summary: Summary) -> list[tuple[str, int]]:
