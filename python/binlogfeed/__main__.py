@@ -25,6 +25,7 @@ GRACE = 5.0
 PAUSE = 0.1
 # Ends a write of the main thread. The system itself ignores it, so it does no harm where it comes too late.
 ENDS_WRITES = signal.SIGURG
+ABOUT = "Follows the binary logs of a MySQL server, or says what happened in logs."
 HELP = """LOGS is the server's index file (binlog.index), the folder that has one, or a pattern in quotes ('/copies/binlog.*').
 The place in FILE is kept once the lines before it are written and flushed. After a kill the last lines may come again; a
 line's token tells them. One process uses FILE at a time, and FILE.lock says so. SIGTERM ends it behind a look, with status 0.
@@ -35,7 +36,7 @@ were still to be read are gone, and 70 where the program can't be started. docs/
 
 def given_words() -> argparse.Namespace:
     """Reads the command line. `run` of what it answers is the command's function."""
-    parser = argparse.ArgumentParser(prog="python3 -m binlogfeed", description=__doc__)
+    parser = argparse.ArgumentParser(prog="python3 -m binlogfeed", description=ABOUT)
     parser.add_argument("--version", action="version", version=f"binlogfeed {VERSION}", help="print the version")
     commands = parser.add_subparsers(dest="command", required=True)
     add_follow(commands)

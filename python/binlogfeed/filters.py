@@ -4,14 +4,22 @@ from __future__ import annotations
 import argparse
 
 PROFILES = ("strict", "server")
-FILTERS = ("only-events", "only-tables", "ignored-tables", "only-schemas", "ignored-schemas", "auto-position")
+# As the program's own help says them.
+FILTERS = {
+    "only-events": "only changes of these kinds: insert, update, delete",
+    "only-tables": "only changes of tables with these names, in any schema",
+    "ignored-tables": "no changes of tables with these names, in any schema",
+    "only-schemas": "only changes of tables in these schemas",
+    "ignored-schemas": "no changes of tables in these schemas",
+    "auto-position": "no changes of transactions with these GTIDs",
+}
 
 
 def add_filters(parser: argparse.ArgumentParser) -> None:
     """Gives a command the filters."""
-    for name in FILTERS:
+    for name, told in FILTERS.items():
         metavar = "SET" if name == "auto-position" else "LIST"
-        parser.add_argument(f"--{name}", metavar=metavar, help="that of `binlogfeed read`")
+        parser.add_argument(f"--{name}", metavar=metavar, help=told)
 
 
 def add_profile(parser: argparse.ArgumentParser) -> None:

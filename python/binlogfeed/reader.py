@@ -380,7 +380,10 @@ class BinLogStreamReader(Generic[Given]):
 
     def _ended(self, run: Run) -> Iterator[Optional[bytes]]:
         """The lines of a run that ends, and None behind them."""
-        yield from run.blocks()
+        try:
+            yield from run.blocks()
+        except LogFault as fault:
+            raise fault.among(log.path for log in self._listed)
         if not self._closed:
             yield None
 

@@ -10,8 +10,9 @@ from unittest import mock
 import logs
 from binlogfeed import BinLogStreamReader, FileFault, LogFault, Place, TokenRefused, listed
 from binlogfeed import follow as following
+from binlogfeed.filters import FILTERS
 from binlogfeed.follow import write_state
-from binlogfeed.hints import hints_of
+from binlogfeed.hints import OF_FAULTS, hints_of
 from binlogfeed.watch import Watch
 from built.check import command
 from built.terminal import LOGS, lay_out, run_at_terminal
@@ -144,6 +145,10 @@ class Hints(CommandTest):
                 with self.assertRaises(LogFault) as caught:
                     list(BinLogStreamReader(folder / "logs" / name, program=PROGRAM, profile="strict"))
                 hints = hints_of(caught.exception)
+                if name == "index":
+                    # Its first bytes tell more.
+                    self.assertIn("an index", hints.pop(0))
+                    hints = [OF_FAULTS["BadMagic"]]
                 self.assertEqual(said.splitlines()[1], f"hint: {hints[0]}")
         path = self.put("log", logs.A)
         for token in ("154.1@log", "153.9@log", "153.1@other"):
@@ -162,6 +167,25 @@ class Hints(CommandTest):
         self.log("binlog.000001", logs.appended(log(), logs.event(40)))
         said = said.replace(":371:", ":153:")
         self.assertEqual(self.run_command(REPLICA, "--program", PROGRAM, "sqlite:x", "s", self.data), (1, b"", said))
+
+    def test_reader(self):
+        """A fault has its file's path, over a list and over a folder, so that its hints can be had."""
+        path = self.put("packed.000001", b"\x1f\x8b\x08\0")
+        for files in ([path], f"{self.folder}/packed.0*"):
+            with self.assertRaises(LogFault) as caught:
+                list(BinLogStreamReader(files, program=PROGRAM))
+            self.assertEqual(caught.exception.path, path)
+            self.assertEqual(hints_of(caught.exception)[0], "it is a file that gzip has packed: unpack it")
+
+    def test_filters(self):
+        """The help of the commands says of each filter what the program's own does."""
+        theirs = subprocess.run([PROGRAM, "read", "--help"], capture_output=True, text=True, check=True).stdout
+        for name, told in FILTERS.items():
+            self.assertRegex(theirs, rf"(?im)^ +--{name} <[A-Z]+> +{told}$")
+        ours = subprocess.run([sys.executable, "-m", "binlogfeed", "follow", "--help"], env=ENVIRONMENT, capture_output=True, text=True, check=True)
+        words = " ".join(ours.stdout.split())
+        for name, told in FILTERS.items():
+            self.assertRegex(words, f"--{name} [A-Z]+ {told}")
 
     def test_files_that_are_no_logs(self):
         """Their first bytes tell what they are."""
