@@ -156,7 +156,11 @@ class Watch:
         if not self._is_last(logs):
             return False
         (log,), resume = logs, self.place.resume
-        return log.begins is None or (resume is not None and self._seen[log.path].mark.size <= token_parts(resume).position)
+        if log.begins is None or resume is None:
+            return log.begins is None
+        # A change stands behind its position, and the end of a transaction at it.
+        at = token_parts(resume)
+        return self._seen[log.path].mark.size < at.position + (at.count > 0)
 
     def _may_grow(self, logs: Sequence[Log], error: LogLost | TokenRefused) -> bool:
         """Whether the program said of the last log that it hasn't what was read of it. It is the same one by its first event."""

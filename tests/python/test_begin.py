@@ -127,11 +127,16 @@ class Reader(FolderTest):
             self.assertEqual(self.tokens(begin=begin, resume=wanted[4]), wanted[5:])
 
     def test_now(self):
-        path = self.put("binlog.000001", logs.worked_log(2))
+        path, rest = self.put("binlog.000001", logs.worked_log(2)), logs.worked_log(3)[589:]
         events = BinLogStreamReader(f"{self.folder}/binlog.0*", program=PROGRAM, blocking=True, begin="now", interval=0.01)
         self.in_time(events.close)
         self.addCleanup(events.close)
-        late = threading.Timer(0.5, path.write_bytes, (logs.worked_log(3),))
+
+        def grow():
+            with open(path, "ab") as file:
+                file.write(rest)
+
+        late = threading.Timer(0.5, grow)
         late.start()
         self.assertEqual(next(events).token, "589.1@binlog.000001")
 

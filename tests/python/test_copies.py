@@ -7,11 +7,14 @@ import subprocess
 import sys
 import threading
 import time
+from unittest import mock
 
 import logs
 from binlogfeed import BinLogStreamReader, LogFault, LogLost, LogsGone, Place, TokenRefused
 from binlogfeed import lag as lagging
-from binlogfeed.follow import read_state
+from binlogfeed.begin import LOG
+from binlogfeed.follow import read_state, write_state
+from binlogfeed.logs import beginning
 from binlogfeed.watch import Watch
 from support import PROGRAM, SECONDS, SHOP, TOP, FolderTest, running
 from test_follow import ENVIRONMENT, ServerTest, line, log
@@ -58,6 +61,22 @@ class Anew(ServerTest):
             self.assertEqual(read_state(self.state), kept)
         self.log(FIRST, log(1, 2, 3))
         self.assertEqual(self.followed(), line(3, 589, FIRST))
+
+    def test_a_place_at_the_end_of_a_transaction(self):
+        """The log is as long as that place says, so nothing is said; where it is shorter, it is waited for."""
+        write_state(self.state, Place(FIRST, beginning(self.data / FIRST), f"589.0@{FIRST}"))
+        follower = self.follower()
+        with mock.patch.object(LOG, "warning") as said:
+            follower.catch_up()
+            said.assert_not_called()
+            for end in (588, 300, 0):
+                self.log(FIRST, self.whole[:end])
+                follower.catch_up()
+            said.assert_called_once()
+        self.log(FIRST, log(1, 2, 3))
+        follower.catch_up()
+        follower.close()
+        self.assertEqual(read_state(self.state).token, f"589.1@{FIRST}")
 
     def test_where_another_log_stands_behind_it(self):
         """It won't grow any more, so lines were given of what it lost."""
