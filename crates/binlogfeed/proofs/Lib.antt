@@ -19,3 +19,5 @@ pub mod LooksOnce
 pub mod FollowedLooks
 pub mod TurnedLists
 pub mod Following
+pub mod EachLook
+pub mod Growth

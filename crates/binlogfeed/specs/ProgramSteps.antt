@@ -8,7 +8,6 @@ use Rattle.binlogfeed.specs.Endings.{EndsTask, EndsWords}
 use Rattle.binlogfeed.specs.Words.{texts}
 use Rattle.binlogfeed.specs.declared.program.Used.{Used}
 use Rattle.binlogfeed.specs.declared.words.Task.{Task}
-use Rattle.binlog_frame.specs.Logs.{Contents}
 use Rattle.binlog_profile.specs.declared.profile.Profile.{Profile}
 
 module _ {V : Type 0} (W : writer.Ghosts V) where

@@ -1,4 +1,5 @@
 use Rattle.binlogfeed.proofs.Ends.{ends, ends_by_write, whole_is_beginning}
+use Rattle.binlogfeed.proofs.Growth.{grows_part}
 use Rattle.line_output.proofs.Sending.{appends_kept}
 use Rattle.binlogfeed.proofs.ending.finish.Goals as goal
 
@@ -22,3 +23,15 @@ returns-in-Ok-flush-clause-answers g c = λ output start left.
     let new = g.W.Write.contents c.flush.new.self in
     ends output start old new c.args.waiting.now c.args.answer (c.has_failed_write.ensures.no c.if-has_failed_write.false) left
     (appends_kept old mid new c.args.waiting.now c.in-Ok.ensures.ok c.in-Ok-flush.ensures.bytes)
+
+-- what was written stays
+pub returns-in-Err-clause-grows : goal.returns-in-Err-clause-grows
+returns-in-Err-clause-grows g c = grows_part (g.W.Write.contents c.args.out.now) (g.W.Write.contents c.write_text.new.out) c.args.waiting.now c.in-Err.ensures.err
+
+pub returns-in-Err-flush-clause-grows : goal.returns-in-Err-flush-clause-grows
+returns-in-Err-flush-clause-grows g c =
+    (c.args.waiting.now, appends_kept (g.W.Write.contents c.args.out.now) (g.W.Write.contents c.write_text.new.out) (g.W.Write.contents c.flush.new.self) c.args.waiting.now c.in-Ok.ensures.ok c.in-Err-flush.ensures.bytes)
+
+pub returns-in-Ok-flush-clause-grows : goal.returns-in-Ok-flush-clause-grows
+returns-in-Ok-flush-clause-grows g c =
+    (c.args.waiting.now, appends_kept (g.W.Write.contents c.args.out.now) (g.W.Write.contents c.write_text.new.out) (g.W.Write.contents c.flush.new.self) c.args.waiting.now c.in-Ok.ensures.ok c.in-Ok-flush.ensures.bytes)

@@ -1,4 +1,4 @@
-use Rattle.std.proofs.Common.{Some, codes, subst, inr, refl, sym, ◌∙◌}
+use Rattle.std.proofs.Common.{Some, codes, subst, refl, sym, ◌∙◌}
 use Rattle.clap.specs.Words.{Text, found_of, rows_of}
 use Rattle.binlog_json.specs.declared.style.Style.{Style}
 use Rattle.binlogfeed.specs.KeyWords.{IsKeyFault, value_given}

@@ -1,4 +1,4 @@
-use Rattle.std.proofs.Common.{refl, Some, ap, codes, inl, inr, sym, ◌∙◌}
+use Rattle.std.proofs.Common.{refl, Some, ap, codes, inr, sym, ◌∙◌}
 use Rattle.clap.specs.Words.{found_of, rows_of}
 use Rattle.binlogfeed.specs.Words.{texts}
 use Rattle.binlogfeed.specs.declared.words_fault.WordsFault.TheVariants.{OutOfMemory}

@@ -15,15 +15,15 @@ use denote.Steps.{opens, closes}
 use denote.Triple.Walked.{Stays, stay_ref, Goes-ref, walk_of, says, ends_at}
 use Rattle.binlogfeed.specs.declared.looks.Looks.{Looks}
 use Rattle.binlogfeed.specs.contracts.looks.Looks.{the_row as R}
-use Rattle.binlogfeed.specs.contracts.looks.Looks.note as f
-use Rattle.binlogfeed.proofs.looks.Looks.note.Statement.{statement}
-use Rattle.binlogfeed.proofs.looks.Looks.note.Code as code
+use Rattle.binlogfeed.specs.contracts.looks.Looks.add as f
+use Rattle.binlogfeed.proofs.looks.Looks.add.Statement.{statement}
+use Rattle.binlogfeed.proofs.looks.Looks.add.Code as code
 
 abbrev stayed : Stays f.ended.signature.params f.ended.kept
 stayed = (stay_ref (0 ∷ []) tt (plain (λ _. R)), tt)
 
-pub note_spec : {M : Type 1} → statement M
-note_spec 𝓤 𝓛 𝓜 𝓡 wired =
+pub add_spec : {M : Type 1} → statement M
+add_spec 𝓤 𝓛 𝓜 𝓡 wired =
     let c = f.clauses 𝓛 𝓜.mem 𝓡.returns in let W = walk_of 𝓛 f.ended stayed c in
     proved 𝓛 f.ended stayed c 𝓜 𝓡 (Goes-ref 𝓛 1 0 tt (plain (λ _. R)), tt)
     f.Key.name code.function (code.unfolded 𝓤 𝓛.H 𝓜 𝓡 wired)
