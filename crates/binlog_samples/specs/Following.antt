@@ -1,6 +1,8 @@
 -- Runs that follow: the lists on their input, the looks that these ask for, what looks give and write, and how such runs end.
-use Rattle.std.specs.Prelude.{◌≡◌, ℕ, List, [], ◌∷◌, ◌++◌, drop, map, Bool, true, Some, None, Ok, Err, codes}
+use Rattle.std.specs.Prelude.{◌≡◌, ℕ, List, [], ◌∷◌, ◌++◌, drop, take, map, Bool, true, false, Some, None, Ok, Err, codes}
 use Rattle.binlog_frame.specs.declared.open_fault.OpenFault.TheVariants as opening
+use Rattle.binlog_select.specs.declared.filter.Filter.{Filter}
+use Rattle.clap.specs.Words.{Text}
 use Rattle.binlog_json.specs.declared.style.Style.{Style}
 use Rattle.binlog_feed.specs.Changes.{RowChange}
 use Rattle.binlog_feed.specs.ChangeMachine.{RemainingChanges}
@@ -9,16 +11,16 @@ use Rattle.binlog_feed.specs.Parsing.{LogFile}
 use Rattle.binlog_feed.specs.declared.fault.FeedFault.TheVariants as reading
 use Rattle.binlog_feed.specs.declared.fault.GoOnFault.TheVariants as going
 use Rattle.binlog_feed.specs.declared.start.Start.TheVariants.{Beginning, After}
-use Rattle.binlogfeed.specs.Follow.{FailsAs, WritesText, EndsAs, blank_text, follow_status_of, input_text, list_status_of, refusal_status_of, list_refusal_text}
-use Rattle.binlogfeed.specs.Lists.{BeginsWithList, HasNoLineFeed, HasNoList, line_text, list_text}
-use Rattle.binlogfeed.specs.Looks.{AreParts, BeginsFollowing, Look, first_look, gone_by, joined_parts, looks_text}
+use Rattle.binlogfeed.specs.Follow.{EachKeepsLast, FailsAs, ReadsLists, WroteEach, WritesText, looks_made, blank_text, follow_status_of, input_text, list_status_of, refusal_status_of, list_refusal_text}
+use Rattle.binlogfeed.specs.Lists.{BeginsWithList, HasNoList, list_text}
+use Rattle.binlogfeed.specs.Looks.{AllHonest, AreParts, BeginsFollowing, EndsBehindStart, HasLast, Look, ReachesLast, first_look, gone_by, joined_parts, looks_text}
 use Rattle.binlogfeed.specs.Turns.{Turns, lists_text}
 use Rattle.binlogfeed.specs.declared.fault.RunFault.TheVariants as run
 use Rattle.binlogfeed.specs.declared.follow_fault.FollowFault.TheVariants.{Input, Unopened, NotBegun, Refused, Ended}
 use Rattle.binlogfeed.specs.declared.lists.ListFault.TheVariants as lists
-use Rattle.binlog_samples.specs.Changes.{Brief, brief, first_change}
+use Rattle.binlog_samples.specs.Changes.{brief, first_change}
 use Rattle.binlog_samples.specs.Statuses.{two_names, second_is_bad}
-use Rattle.binlog_samples.specs.Tokens.{first_name, third_name, token, first_file, second_file, third_file, second_change, third_change}
+use Rattle.binlog_samples.specs.Tokens.{first_name, second_name, third_name, token, first_file, second_file, third_file, second_change, third_change}
 use Rattle.binlog_profile.specs.declared.profile.Profile.TheVariants.{Strict}
 
 -- ---- lists
@@ -66,10 +68,20 @@ TurnsOfLists =
 abbrev pub TurnsOfFiles : Type 0
 TurnsOfFiles = Turns (a_path ∷ []) [] 0 (a_path ∷ []) (a_names ∷ []) × Turns (a_path ∷ []) ([] ∷ []) 0 (a_path ∷ []) (a_names ∷ a_names ∷ [])
 
+-- Two lists that stand one behind the other are not one list of a path that has an empty line in it.
+abbrev pub TwoListsAreNotOne : Type 0
+TwoListsAreNotOne =
+    (bytes left : List ℕ) (paths : List Text) (looks : List (List (List ℕ))) (lists : ReadsLists [] bytes left 0 paths looks)
+    → lists.lists ≡ ((97 ∷ 10 ∷ 10 ∷ 98 ∷ []) ∷ []) ∷ [] → ⊥
+
 -- ---- what looks give
 
 abbrev pub look_at : List LogFile → Look
 look_at files = record { names = map LogFile.name files; contents = record { profile = Strict; files = map LogFile.bytes files }; honest = true; failures = 0 }
+
+-- a look at the first bytes of the first file
+abbrev pub cut_look : ℕ → Look
+cut_look count = look_at (record first_file { bytes = take count first_file.bytes } ∷ [])
 
 abbrev pub all : RowChange → Bool
 all change = true
@@ -117,6 +129,37 @@ JoinedParts =
 abbrev pub EmptyLooks : Type 0
 EmptyLooks = ((style : Style) → looks_text style ([] ∷ [] ∷ []) ≡ 10 ∷ 10 ∷ []) × (blank_text 0 ≡ []) × (blank_text 2 ≡ 10 ∷ 10 ∷ [])
 
+-- a look that isn't there any more has left its text: an empty line at least
+abbrev pub LooksAreWritten : Type 0
+LooksAreWritten =
+    (style : Style) (chosen : Filter) → WroteEach style chosen Beginning 0 (look_at one_file ∷ []) (Some []) (Some []) → ⊥
+
+-- ---- the last file of a look
+
+-- it may be any file of the next list, and has to be one
+abbrev pub LastFilesStay : Type 0
+LastFilesStay =
+    HasLast two_names (third_name ∷ second_name ∷ []) × (HasLast two_names (first_name ∷ []) → ⊥)
+    × ((chosen : Filter) → EachKeepsLast chosen Beginning (look_at (third_file ∷ []) ∷ look_at one_file ∷ []) → ⊥)
+
+-- it has all that was read of it, and may have more
+abbrev pub LastFilesReach : Type 0
+LastFilesReach =
+    ReachesLast (look_at both_files) (look_at one_file) × (ReachesLast (cut_look 371) (look_at one_file)) × (ReachesLast (cut_look 370) (look_at one_file) → ⊥)
+    × ((chosen : Filter) → EachKeepsLast chosen Beginning (cut_look 370 ∷ look_at one_file ∷ []) → ⊥)
+
+-- Looks at files that are honest, and a start behind which their faults stand: so the promises of looks aren't empty.
+abbrev pub LooksAreHonest : Type 0
+LooksAreHonest =
+    AllHonest (look_at last_files ∷ earlier_looks) × (AllHonest (record (look_at one_file) { honest = false } ∷ []) → ⊥)
+    × EndsBehindStart all (After (token 371 0 first_name)) (look_at one_file)
+
+-- a list that was refused is no look that was made, and neither is a first one that didn't begin
+abbrev pub MadeLooks : Type 0
+MadeLooks =
+    (looks_made (Err (Refused going.FileGone)) (look_at last_files ∷ earlier_looks) ≡ earlier_looks) × (looks_made (Ok tt) earlier_looks ≡ earlier_looks)
+    × (looks_made (Err (Ended run.Write)) earlier_looks ≡ earlier_looks) × (looks_made (Err (NotBegun run.OutOfMemory)) (look_at one_file ∷ []) ≡ [])
+
 -- ---- how runs end
 
 abbrev pub TextsOfRefusals : Type 0
@@ -152,8 +195,9 @@ TextsOfEnds =
     × WritesText (Some (97 ∷ [])) (Some (97 ∷ 98 ∷ 10 ∷ 99 ∷ [])) (98 ∷ 10 ∷ []) (99 ∷ 100 ∷ 10 ∷ []) (Err (Ended run.Write))
     × (WritesText (Some (97 ∷ [])) (Some (97 ∷ 98 ∷ [])) (98 ∷ 10 ∷ []) (99 ∷ 10 ∷ []) (Err (Ended run.Write)) → ⊥)
 
--- the device is named only where a read failed, and without a look only the output
+-- the device is named only where a read failed, and by a file of the list, and without a look only the output
 abbrev pub FailuresOfEnds : Type 0
 FailuresOfEnds =
-    (FailsAs (Err (Ended (run.Read 0))) (look_at one_file ∷ []) → ⊥) × FailsAs (Err (Ended (run.Read 0))) (record (look_at one_file) { failures = 1 } ∷ [])
+    (FailsAs (Err (Ended (run.Read 1))) (record (look_at one_file) { failures = 1 } ∷ []) → ⊥)
+    × (FailsAs (Err (Ended (run.Read 0))) (look_at one_file ∷ []) → ⊥) × FailsAs (Err (Ended (run.Read 0))) (record (look_at one_file) { failures = 1 } ∷ [])
     × (FailsAs (Err (Ended (run.Read 0))) [] → ⊥) × FailsAs (Err (Ended run.Write)) []

@@ -46,8 +46,8 @@ FrontEnds =
     × (EndsInFront (take 126 first_log) → ⊥) × (EndsInFront without_magic → ⊥) × (EndsInFront without_format → ⊥)
 
 -- what is told of that event: that the file ends before it, or the fault in its place
-abbrev pub Tells : Type 0
-Tells =
+abbrev pub TellsUnfound : Type 0
+TellsUnfound =
     TellsIfEvents (take 4 first_log) (Ok None) × TellsIfEvents without_format (Err frame_faults.NoFormat) × TellsIfEvents without_magic (Err frame_faults.BadMagic)
     × (TellsIfEvents first_log (Ok None) → ⊥) × (TellsIfEvents without_format (Ok None) → ⊥) × (TellsIfEvents without_format (Err frame_faults.BadFormat) → ⊥)
     × (TellsIfEvents first_log (Err frame_faults.NoFormat) → ⊥)

@@ -1,6 +1,8 @@
-use Rattle.std.proofs.Common.{rules, ℕ, List, [], ◌∷◌, ◌≡◌, ◌<◌, zero, suc, length, refl, arith, inl, inr}
+use Rattle.std.proofs.Common.{rules, ℕ, List, [], ◌∷◌, ◌≡◌, ◌<◌, zero, suc, length, refl, arith, inl, inr, subst}
 use Rattle.std.specs.Prelude.{codes, ◌≢◌}
 use Rattle.binlog_frame.specs.Files.{AreLastParts, IsLastPart}
+use Rattle.binlog_feed.specs.Units.{Each}
+use Rattle.binlogfeed.specs.Lists.{IsPath}
 use Rattle.binlogfeed.specs.Turns.{Turns}
 use Rattle.binlogfeed.specs.Turns.Turns.{Waiting, Given, Blank, Again, Other}
 use Rattle.binlog_samples.specs.Following.{a_path, b_path, a_names, b_names}
@@ -33,3 +35,9 @@ returns-clause-turns_of_lists c =
     let a_again = Again _ 1 (a_path ∷ []) _ a_names a_first (λ e. search rules) a_part in
     let b_first = Other _ 1 (a_path ∷ []) _ (b_path ∷ []) b_names a_again (λ e. search rules) b_part in
     (Blank ([] ∷ []) 1 blank, Again _ 1 (b_path ∷ []) _ b_names b_first (λ e. search rules) b_part)
+
+-- the second byte of that path is a line feed
+pub returns-clause-two_lists : goal.returns-clause-two_lists
+returns-clause-two_lists c bytes left paths looks lists is =
+    let each = subst (Each (Each IsPath)) is lists.each in
+    each.0.0.1.1.0 refl
