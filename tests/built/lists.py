@@ -58,6 +58,7 @@ def lay_out(folder: Path) -> None:
     put(folder, ["other"], b"no log")
     put(folder, ["zeros/log"], A + bytes(100))
     put(folder, ["encrypted/log"], b"\xfd" + worked_log(2)[1:])
+    put(folder, ["headless/log"], appended(MAGIC, insert(1), insert(2)))
 
 
 # Inputs that end: so does the run, with status 0. A list without its empty line asks for no look.
@@ -133,6 +134,7 @@ REFUSED = (
     Case(["log"], b"zeros/log\n\n", LOG + MARK, 1, "log fault at log:371: BadLength"),
     Case(["tail/log"], b"zeros/log\n\n", LOG + MARK, 1, "log fault at log:371: BadLength"),
     Case(["log"], b"encrypted/log\n\n", LOG + MARK, 1, "log fault at log:0: BadMagic"),
+    Case(["log"], b"headless/log\n\n", LOG + MARK, 1, "log fault at log:4: NoFormat"),
     Case([], b"\xff\n\n", b"", 4, "cannot read the list of files"),
     Case([], b"log\n\xff\n\n", b"", 4, "cannot read the list of files"),
     Case(["log"], b"\nlog\n\xff\n\n", LOG + 2 * MARK, 4, "cannot read the list of files"),
