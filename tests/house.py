@@ -293,6 +293,12 @@ def types_round_an_event() -> Iterator[Item]:
     yield from (Item(name) for name in sorted((told | {name for name in named_in(told) if holds_header(name)}) - OWN_TYPES))
 
 
+def proofs_that_set_looks() -> Iterator[Item]:
+    """The proofs by hand that can set what `Looks` has: whoever adds one could note a look that never was."""
+    proofs = sorted(TOP.glob("crates/*/proofs/**/Proof.antt"))
+    yield from (Item(str(path.relative_to(TOP))) for path in proofs if "looks.Looks" in path.read_text(encoding="utf-8"))
+
+
 FIGURES = {
     "calls_between_main_and_the_feed": lambda: calls_between("calls_between_main_and_the_feed", MAIN, FEED),
     "calls_between_the_feed_and_the_file": lambda: calls_between("calls_between_the_feed_and_the_file", FEED, FILE),
@@ -305,6 +311,7 @@ FIGURES = {
     "public_calls_with_over_16_clauses": calls_with_many_clauses,
     "functions_over_40_lines": long_functions,
     "files_over_800_lines": long_files,
+    "proofs_that_set_looks": proofs_that_set_looks,
     "unreachables": unreachables,
     "flat_wrong_bodies": flat_wrong_bodies,
     "lines_of_proofs": proof_lines,
