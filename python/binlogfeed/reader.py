@@ -286,7 +286,7 @@ class BinLogStreamReader(Generic[Given]):
                 self._given = batch[-1].token
                 yield batch
             raise
-        if batch:
+        if batch and self._at_end:
             self._given = batch[-1].token
             yield batch
 

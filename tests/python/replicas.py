@@ -116,6 +116,8 @@ class LinesTest(FolderTest):
     def told(self, lines):
         """The options of a replica of these lines, which are of the schema `made`."""
         log = self.put("binlog.000001", SHOP[0].read_bytes())
+        # As long as the lines' tokens say at least, without taking the room.
+        os.truncate(log, 1 << 30)
         told = self.put("lines", "".join(f"{line}\n" for line in lines).encode())
         program = self.put("teller", TELLER.format(python=sys.executable, lines=str(told)).encode())
         program.chmod(0o700)

@@ -219,6 +219,26 @@ class Batches(FolderTest):
         path.write_bytes(logs.worked_log(5))
         self.assertEqual([one.token for one in next(batches)], [f"{153 + 218 * at}.1@binlog.000001" for at in (3, 4)])
 
+    def test_closed(self):
+        """Nothing is given any more, also of a list that was begun."""
+        path, read = self.put("binlog.000001", logs.worked_log(30)), []
+
+        def close(value):
+            read.append(value)
+            if len(read) == 10:
+                events.close()
+            return value
+
+        events = BinLogStreamReader(path, program=PROGRAM, convert={"t.id": close})
+        self.assertEqual(list(events.batches(rows=10**9, seconds=1e6)), [])
+
+    def test_a_place_where_transactions_end(self):
+        """`end_log_pos` ends the last list."""
+        path = self.put("binlog.000001", logs.worked_log(9))
+        with BinLogStreamReader(path, program=PROGRAM, end_log_pos=153 + 218 * 4) as events:
+            self.assertEqual([len(batch) for batch in events.batches(rows=10**9, seconds=1e6)], [4])
+            self.assertEqual(events.place.token, f"{153 + 218 * 3}.1@binlog.000001")
+
     def test_a_fault(self):
         """The whole transactions before it are given first."""
         path = self.put("binlog.000001", logs.appended(logs.worked_log(3), logs.event(40)))
