@@ -2,7 +2,7 @@ use Rattle.std.proofs.Common.{rules, Bool, ◌≡◌, ◌<◌, ◌≤◌, ℕ, L
 use Rattle.std.specs.Prelude.{drop, slice_get}
 use Rattle.binlog_frame.specs.Logs.{content}
 use Rattle.binlog_feed.specs.Growing.{last_file}
-use Rattle.binlog_feed.specs.UnitMachine.{take_kind, take_text}
+use Rattle.binlog_feed.specs.UnitMachine.{take_kind, text_kind}
 use Rattle.binlogfeed.specs.Looks.{HasLast, ReachesLast}
 use Rattle.binlogfeed.specs.Lines.{change_lines_as}
 use Rattle.binlog_samples.specs.Statuses.{two_names}
@@ -62,7 +62,7 @@ returns-clause-last_files_stay c = (
 
 -- the first file is cut before the end of its transaction
 cut_short : ReachesLast (cut_look 370) (look_at one_file) → ⊥
-unfolding on_bytes take_kind take_text
+unfolding on_bytes take_kind text_kind
 cut_short h =
     let there : h.file < 1 = h.last.found.0 in
     let first : h.file ≡ 0 = omega (arith, there) in
@@ -71,7 +71,7 @@ cut_short h =
     omega (arith, reaches, bytes)
 
 pub returns-clause-last_files_reach : goal.returns-clause-last_files_reach
-unfolding on_bytes take_kind take_text
+unfolding on_bytes take_kind text_kind
 returns-clause-last_files_reach c = (
   record { file = 0; last = record { name = first_name; named = refl; found = search rules }; reaches = search rules },
   record { file = 0; last = record { name = first_name; named = refl; found = search rules }; reaches = search rules },
