@@ -2,10 +2,11 @@
 ghost use Rattle.std.specs.Prelude.{◌≡◌, ◌<◌, Some, length, slice_get, IfOk, IfSome, OnOk};
 ghost use Rattle.binlog_table.specs.Value.{view as cell_view};
 ghost use Rattle.binlog_feed.specs.Changes.{view};
-ghost use Rattle.binlog_json.specs.Keys.{HasTypes, has_key as is_of_key, is_text, key_text_as as text_of_key, key_text_of, value_as, value_in, value_in_either, TellsIfSome, TellsKey, either_text, given_text, image_key_text, is_one_of_keys};
+ghost use Rattle.binlog_json.specs.Keys.{HasTypes, is_text, key_text_as as text_of_key, key_text_of, value_as, value_in, value_in_either, TellsIfSome, TellsKey, either_text, given_text, image_key_text, is_one_of_keys};
 ghost use Rattle.binlog_json.specs.Written.{text_if};
 ghost use Rattle.binlog_json.specs.Growth.{Gains, Prints};
 ghost use Rattle.binlog_json.specs.NamedValues.{as_key};
+ghost use Rattle.binlog_json.specs.declared.style.Style.TheVariants.{Plain};
 
 use crate::append::append_comma;
 use crate::full_image::type_at;
@@ -201,7 +202,7 @@ pub fn has_key(
     table: &str,
     key: &str,
 ) -> Result<bool, AllocError>
-    ensures { IfOk result (λ has. has ≡ is_of_key schema.now table.now key.now (view change.now)) }
+    ensures { IfOk result (TellsKey Plain schema.now table.now key.now (view change.now)) }
 {
     has_key_as(Style::Plain, alloc, change, schema, table, key)
 }

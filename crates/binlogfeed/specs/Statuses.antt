@@ -8,7 +8,7 @@ use Rattle.binlog_feed.specs.Parsing.{files_of}
 use Rattle.binlog_feed.specs.Tokens.{Judgement}
 use Rattle.binlog_feed.specs.Tokens.Judgement.{Fits}
 use Rattle.binlogfeed.specs.Faults.{status_of, IsNamed}
-use Rattle.binlogfeed.specs.Runs.{Output, AnswersIfBegun, ReadsFailed, units_output, begun_output_as, history_output_as}
+use Rattle.binlogfeed.specs.Runs.{Output, AnswersIfBegun, ReadsFailed, units_output, begun_output, history_output}
 use Rattle.binlogfeed.specs.declared.fault.RunFault.{RunFault}
 use Rattle.binlogfeed.specs.declared.words.Task.{Task}
 use Rattle.binlogfeed.specs.declared.words.Task.TheVariants.{Transactions, Read, History}
@@ -22,8 +22,8 @@ run_status_of (Err fault) = status_of fault
 -- what a task has to write of files with these names and contents
 abbrev pub output_of : Task → List (List ℕ) → Contents → Output
 output_of Transactions names contents = units_output names contents
-output_of (Read filter start style) names contents = begun_output_as style names contents filter start
-output_of (History schema table key style) names contents = history_output_as style names contents schema.now table.now (string_bytes key)
+output_of (Read filter start style) names contents = begun_output style names contents filter start
+output_of (History schema table key style) names contents = history_output style names contents schema.now table.now (string_bytes key)
 
 -- how the start of a task is judged over them
 abbrev pub judgement_of : Task → List (List ℕ) → Contents → Judgement

@@ -1,8 +1,9 @@
 //! A line for each row change of a list of files that has a key.
 ghost use Rattle.std.specs.Prelude.{IfErr};
 ghost use Rattle.binlog_frame.specs.Sources.{Keeps};
+ghost use Rattle.binlog_json.specs.declared.style.Style.TheVariants.{Plain};
 ghost use Rattle.binlogfeed.specs.Faults.{IsNamed};
-ghost use Rattle.binlogfeed.specs.RunAnswers.{AnswersKey, AnswersKeyAs};
+ghost use Rattle.binlogfeed.specs.RunAnswers.{AnswersKey};
 ghost use Rattle.binlogfeed.specs.Runs.{ReadsFailed};
 
 use crate::fault::RunFault;
@@ -29,7 +30,7 @@ pub fn run_history<L: Logs, W: Write>(
     window: Vec<u8>,
     out: &mut W,
 ) -> (L, Result<u64, RunFault>)
-    ensures answers { AnswersKey L.Logs W.Write schema.now table.now key.now logs out.old out.new result }
+    ensures answers { AnswersKey L.Logs W.Write Plain schema.now table.now key.now logs out.old out.new result }
 
     // Over any source.
     ensures source { Keeps L.Logs logs result.0 }
@@ -51,7 +52,7 @@ pub fn run_history_as<L: Logs, W: Write>(
     window: Vec<u8>,
     out: &mut W,
 ) -> (L, Result<u64, RunFault>)
-    ensures answers { AnswersKeyAs L.Logs W.Write style schema.now table.now key.now logs out.old out.new result }
+    ensures answers { AnswersKey L.Logs W.Write style schema.now table.now key.now logs out.old out.new result }
 
     // Over any source.
     ensures source { Keeps L.Logs logs result.0 }

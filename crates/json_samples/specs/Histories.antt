@@ -6,7 +6,7 @@ use Rattle.binlog_feed.specs.Parsing.{LogFile}
 use Rattle.binlog_feed.specs.Changes.{RowChange}
 use Rattle.binlog_json.specs.declared.style.Style.{Style}
 use Rattle.binlog_json.specs.declared.style.Style.TheVariants.{Plain, Full}
-use Rattle.binlog_json.specs.Keys.{history_as}
+use Rattle.binlog_json.specs.Keys.{history}
 use Rattle.json_samples.specs.Bytes.{hex, utf8}
 use Rattle.json_samples.specs.Lines.{source, keyed_body}
 use Rattle.binlog_profile.specs.declared.profile.Profile.TheVariants.{Strict}
@@ -52,7 +52,7 @@ files =
 
 -- the changes with these numbers have the key
 abbrev pub Found : Style → String → List ℕ → Type 0
-Found style key numbers = map (λ (c : RowChange). c.number) (history_as style files (codes "s") (codes "t") (utf8 key)) ≡ numbers
+Found style key numbers = map (λ (c : RowChange). c.number) (history style files (codes "s") (codes "t") (utf8 key)) ≡ numbers
 
 -- one of two changes has the key, by its full values and by its plain ones
 abbrev pub FullKey : Type 0

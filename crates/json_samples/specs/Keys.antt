@@ -7,7 +7,7 @@ use Rattle.binlog_table.specs.declared.row_view.Side.TheVariants.{Before, After}
 use Rattle.binlog_feed.specs.Changes.{RowChange}
 use Rattle.binlog_json.specs.declared.style.Style.{Style}
 use Rattle.binlog_json.specs.declared.style.Style.TheVariants.{Plain, Full}
-use Rattle.binlog_json.specs.Keys.{key_text_as, has_key_as}
+use Rattle.binlog_json.specs.Keys.{key_text_as, has_key}
 use Rattle.json_samples.specs.Bytes.{hex, utf8}
 use Rattle.json_samples.specs.Lines.{keyed_change, keyed_update, year_change, charsets_change}
 
@@ -36,7 +36,7 @@ MissingColumns =
 -- ---- changes that have a key
 
 abbrev pub has : Style → String → RowChange → Bool
-has style key change = has_key_as style (codes "s") (codes "t") (utf8 key) change
+has style key change = has_key style (codes "s") (codes "t") (utf8 key) change
 
 -- both rows' keys; the key of the other style; a table and a schema of another name
 abbrev pub KeysOfUpdate : Type 0
@@ -46,5 +46,5 @@ KeysOfUpdate =
     × (has Plain "[\"é\",-5,{\"base64\":\"AP8AAA==\"},\"2024\"]" keyed_update ≡ false)
     × (has Full "[{\"base64\":\"6Q==\"},4294967291,{\"base64\":\"AP8=\"},\"2024\"]" keyed_update ≡ false)
     × (has Plain "[{\"base64\":\"6Q==\"},4294967291,{\"base64\":\"AP8=\"},\"2024\"]" keyed_update ≡ true)
-    × (has_key_as Full (codes "full") (codes "t") (utf8 "[2]") charsets_change ≡ true) × (has_key_as Full (codes "full") (codes "u") (utf8 "[2]") charsets_change ≡ false)
-    × (has_key_as Full (codes "s") (codes "t") (utf8 "[2]") charsets_change ≡ false)
+    × (has_key Full (codes "full") (codes "t") (utf8 "[2]") charsets_change ≡ true) × (has_key Full (codes "full") (codes "u") (utf8 "[2]") charsets_change ≡ false)
+    × (has_key Full (codes "s") (codes "t") (utf8 "[2]") charsets_change ≡ false)

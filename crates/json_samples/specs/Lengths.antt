@@ -10,6 +10,7 @@ use Rattle.binlog_feed.specs.Changes.{RowChange}
 use Rattle.binlog_types.specs.declared.charsets.Charset.TheVariants.{Latin1, Utf8mb4}
 use Rattle.binlog_json.specs.FullValues.{full_data}
 use Rattle.binlog_json.specs.Keys.{key_text_of, has_key}
+use Rattle.binlog_json.specs.declared.style.Style.TheVariants.{Plain}
 use Rattle.binlog_json.specs.Values.{bytes_data}
 use Rattle.json_samples.specs.Bytes.{utf8}
 use Rattle.json_samples.specs.Lines.{keyed_update, inserted, table_in}
@@ -71,7 +72,7 @@ KeysOfManyColumns =
     × (key_text_of nine_columns After ≡ Some (utf8 "[null,1,2,3,4,5,6,7,8]"))
 
 abbrev pub has_plain : String → RowChange → Bool
-has_plain key change = has_key (codes "s") (codes "t") (utf8 key) change
+has_plain key change = has_key Plain (codes "s") (codes "t") (utf8 key) change
 
 -- and is found by all of them
 abbrev pub ManyColumnsFound : Type 0

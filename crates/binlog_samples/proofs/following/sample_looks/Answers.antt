@@ -4,7 +4,7 @@ use Rattle.binlog_frame.specs.Logs.{content}
 use Rattle.binlog_feed.specs.Growing.{last_file}
 use Rattle.binlog_feed.specs.UnitMachine.{take_kind, text_kind}
 use Rattle.binlogfeed.specs.Looks.{HasLast, ReachesLast}
-use Rattle.binlogfeed.specs.Lines.{change_lines_as}
+use Rattle.binlogfeed.specs.Lines.{change_lines}
 use Rattle.binlog_samples.specs.Statuses.{two_names}
 use Rattle.binlog_samples.specs.Tokens.{first_name, second_name, third_name}
 use Rattle.binlog_samples.specs.Following.{both_files, cut_look, given, last_files, look_at, one_file}
@@ -41,7 +41,7 @@ some_text front text more lines is none =
 pub returns-clause-looks_are_written : goal.returns-clause-looks_are_written
 returns-clause-looks_are_written c style chosen wrote =
     let (front, text, more, is_text, ends, written) = wrote.0 (refl, tt) tt tt in
-    some_text ([] ++ front) text more (change_lines_as style is_text.part) is_text.text_is written
+    some_text ([] ++ front) text more (change_lines style is_text.part) is_text.text_is written
 
 -- no later file has the name
 none_has : (names later : List (List ℕ)) (first last : List ℕ) → slice_get names (last_file names) ≡ Some last → later ≡ first ∷ [] → (first ≡ last → ⊥) → HasLast names later → ⊥
