@@ -12,6 +12,7 @@ pub mod Choosing
 pub mod KeyParts
 pub mod Found
 pub mod Stopping
+pub mod Gone
 pub mod Refusing
 pub mod InputLines
 pub mod Looked
