@@ -14,6 +14,7 @@ pub mod Continuations
 pub mod FileLaws
 pub mod Profiles
 pub mod Following
+pub mod FollowEnds
 pub mod Frames
 pub mod Growing
 pub mod Sources

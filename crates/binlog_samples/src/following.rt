@@ -2,6 +2,9 @@
 ghost use Rattle.binlog_samples.specs.Following.{ListTexts, ListsBegin, NoLists, CutLists, TurnsOfLists, TurnsOfFiles, TwoListsAreNotOne};
 ghost use Rattle.binlog_samples.specs.Following.{PartsOfLooks, BeginsAtEnd, GoneFiles, JoinedParts, EmptyLooks, LastFilesReach, LastFilesStay, LooksAreHonest, LooksAreWritten, MadeLooks};
 ghost use Rattle.binlog_samples.specs.Following.{TextsOfRefusals, StatusesOfRefusals, StatusesOfEnds, TextsOfEnds, FailuresOfEnds};
+ghost use Rattle.binlog_samples.specs.FollowEnds.{EndsWithoutFault, EndsWithFault, EndsByDevice, FaultsAtStarts, FilesNamed, FailuresOfEither, FailuresOfRefusals};
+ghost use Rattle.binlog_samples.specs.FollowEnds.{FailuresOfBeginnings, LooksNotBegun, BlanksWritten, ListsRefused, LooksContinue, RefusedAsShorter, RefusedForReading};
+ghost use Rattle.binlog_samples.specs.FollowEnds.{NextIsRefused, LookedAtIsNotRefused, AllListsLookedAt, ListLeft, LooksSupplied};
 
 /// Which bytes are lists, and which files each of them has looked at.
 pub fn sample_lists()
@@ -35,4 +38,35 @@ pub fn sample_follow_ends()
     ensures statuses_of_ends { StatusesOfEnds }
     ensures texts_of_ends { TextsOfEnds }
     ensures failures_of_ends { FailuresOfEnds }
+{}
+
+/// How the newest look ends, and which files and devices the ends name.
+pub fn sample_look_ends()
+    ensures ends_without_fault { EndsWithoutFault }
+    ensures ends_with_fault { EndsWithFault }
+    ensures ends_by_device { EndsByDevice }
+    ensures faults_at_starts { FaultsAtStarts }
+    ensures files_named { FilesNamed }
+    ensures failures_of_either { FailuresOfEither }
+    ensures failures_of_refusals { FailuresOfRefusals }
+    ensures failures_of_beginnings { FailuresOfBeginnings }
+    ensures looks_not_begun { LooksNotBegun }
+    ensures blanks_written { BlanksWritten }
+{}
+
+/// Which lists are refused behind a look, and why.
+pub fn sample_refused_lists()
+    ensures lists_refused { ListsRefused }
+    ensures looks_continue { LooksContinue }
+    ensures refused_as_shorter { RefusedAsShorter }
+    ensures refused_for_reading { RefusedForReading }
+{}
+
+/// Which lists a run has looked at where it ends, and what it is supposed to hold.
+pub fn sample_looked_at()
+    ensures next_is_refused { NextIsRefused }
+    ensures looked_at_is_not_refused { LookedAtIsNotRefused }
+    ensures all_lists_looked_at { AllListsLookedAt }
+    ensures list_left { ListLeft }
+    ensures looks_supplied { LooksSupplied }
 {}

@@ -21,7 +21,10 @@ pub use commits::sample_commits;
 pub use continuations::sample_continuations;
 pub use feeds::sample_feeds;
 pub use files::sample_files;
-pub use following::{sample_follow_ends, sample_lists, sample_looks};
+pub use following::{
+    sample_follow_ends, sample_lists, sample_look_ends, sample_looked_at, sample_looks,
+    sample_refused_lists,
+};
 pub use frames::sample_frames;
 pub use growing::sample_growing;
 pub use laws::sample_laws;

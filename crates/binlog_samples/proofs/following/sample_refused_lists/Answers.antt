@@ -1,0 +1,155 @@
+use Rattle.std.proofs.Common.{rules, ◌≡◌, ◌<◌, ◌≤◌, ℕ, zero, suc, List, [], ◌∷◌, ◌++◌, length, length-append, take, Some, refl, ap, ◌∙◌, subst, inl, inr, arith}
+use Rattle.std.specs.Prelude.{◌≢◌, slice_get}
+use Rattle.binlog_frame.specs.Closing.{closed}
+use Rattle.binlog_frame.specs.Logs.{Contents, content}
+use Rattle.binlog_frame.specs.Splitting.{EndsInFront}
+use Rattle.binlog_feed.specs.Continues.{Continues}
+use Rattle.binlog_feed.specs.Growing.{IsShort}
+use Rattle.binlog_feed.specs.Parsing.{LogFile}
+use Rattle.binlog_feed.specs.Places.{begin_file}
+use Rattle.binlog_feed.specs.UnitMachine.{take_kind, text_kind}
+use Rattle.binlogfeed.specs.Looks.{files_at}
+use Rattle.binlog_samples.specs.Statuses.{two_names}
+use Rattle.binlog_samples.specs.Tokens.{first_name, second_name, first_file, second_file, third_file}
+use Rattle.binlog_samples.specs.Files.{rotate_event}
+use Rattle.binlog_samples.specs.Following.{both_files, cut_look, last_files, look_at, one_file}
+use Rattle.binlog_samples.specs.FollowEnds.{changed_look}
+use Rattle.binlog_samples.proofs.OnBytes.{on_bytes}
+use Rattle.binlog_samples.proofs.Paths.{first_of}
+use Rattle.binlog_samples.proofs.following.sample_refused_lists.Goals as goal
+
+-- the two names differ
+names_differ : slice_get two_names 0 ≢ slice_get two_names 1
+names_differ e = search rules
+
+both_differ : (i j : ℕ) → i < j → j < 2 → slice_get two_names i ≢ slice_get two_names j
+both_differ zero zero lt below e = omega (arith, lt)
+both_differ zero (suc zero) lt below e = names_differ e
+both_differ zero (suc (suc j)) lt below e = omega (arith, below)
+both_differ (suc i) zero lt below e = omega (arith, lt)
+both_differ (suc i) (suc zero) lt below e = omega (arith, lt)
+both_differ (suc i) (suc (suc j)) lt below e = omega (arith, below)
+
+pub returns-clause-lists_refused : goal.returns-clause-lists_refused
+returns-clause-lists_refused c = (
+  record { name = second_name; named = refl; absent = first_of (λ i. slice_get (first_name ∷ []) i ≢ Some second_name) names_differ },
+  (λ gone. gone.absent 0 (omega arith) gone.named),
+  (λ gone. gone.absent 1 (omega arith) gone.named),
+  (omega arith, (0, omega arith, refl), λ i j lt below e. omega (arith, lt, below)),
+  (λ duplicate. let below = duplicate.1.1 in omega (arith, below)),
+  (λ duplicate. first_of (λ i. slice_get two_names i ≢ slice_get two_names 1) names_differ duplicate.1.0 duplicate.1.1 duplicate.1.2),
+  (λ never. never),
+)
+
+-- ---- looks that continue, and one that doesn't
+
+both_continue : Continues both_files one_file
+unfolding on_bytes
+both_continue =
+    record {
+      gone = [];
+      kept = [];
+      last = first_file;
+      kept_now = [];
+      last_now = first_file;
+      behind = rotate_event second_name;
+      further = second_file [] ∷ [];
+      earlier_is = refl;
+      later_is = refl;
+      same_kept = refl;
+      same_name = refl;
+      same_profile = refl;
+      same_bytes = refl;
+      new_names = (refl, tt);
+    }
+
+last_continue : Continues last_files both_files
+unfolding on_bytes
+last_continue =
+    record {
+      gone = first_file ∷ [];
+      kept = [];
+      last = second_file [];
+      kept_now = [];
+      last_now = second_file [];
+      behind = [];
+      further = third_file ∷ [];
+      earlier_is = refl;
+      later_is = refl;
+      same_kept = refl;
+      same_name = refl;
+      same_profile = refl;
+      same_bytes = refl;
+      new_names = (refl, tt);
+    }
+
+-- of one file the last one is that
+last_of_one : (file last : LogFile) (gone kept : List LogFile) → file ∷ [] ≡ gone ++ (kept ++ last ∷ []) → last ≡ file
+last_of_one file last [] [] e = cc
+last_of_one file last [] (first ∷ kept) e = let n = ap length e in absurd (omega (arith, n, length-append kept (last ∷ [])))
+last_of_one file last (first ∷ gone) kept e =
+    let n = ap length e in absurd (omega (arith, n, length-append gone (kept ++ last ∷ []), length-append kept (last ∷ [])))
+
+first_of_one : (file now : LogFile) (kept further : List LogFile) → file ∷ [] ≡ kept ++ now ∷ further → now ≡ file
+first_of_one file now [] further e = cc
+first_of_one file now (first ∷ kept) further e = let n = ap length e in absurd (omega (arith, n, length-append kept (now ∷ further)))
+
+cut_file : LogFile
+cut_file = record first_file { bytes = take 370 first_file.bytes }
+
+-- the transaction of the first file ends at 371
+cut_stops : Continues (files_at (cut_look 370)) one_file → ⊥
+unfolding on_bytes cut_file
+cut_stops c =
+    let last : c.last ≡ first_file = last_of_one first_file c.last c.gone c.kept c.earlier_is in
+    let now : c.last_now ≡ cut_file = first_of_one cut_file c.last_now c.kept_now c.further c.later_is in
+    let bytes : closed c.last_now.bytes ≡ take 371 (closed c.last.bytes) ++ c.behind = c.same_bytes in
+    let some = subst (λ (file : LogFile). closed c.last_now.bytes ≡ take 371 (closed file.bytes) ++ c.behind) last bytes in
+    let both = subst (λ (file : LogFile). closed file.bytes ≡ take 371 (closed first_file.bytes) ++ c.behind) now some in
+    let n : 370 ≡ length (take 371 (closed first_file.bytes) ++ c.behind) = ap length both in
+    let front : length (take 371 (closed first_file.bytes)) ≡ 371 = refl in
+    omega (arith, n, front, length-append (take 371 (closed first_file.bytes)) c.behind)
+
+pub returns-clause-looks_continue : goal.returns-clause-looks_continue
+returns-clause-looks_continue c = ((last_continue, (both_continue, tt)), (λ each. cut_stops each.0), (λ each. cut_stops each.1.0))
+
+-- ---- files that are shorter
+
+is_zero : (n : ℕ) → (0 < n → ⊥) → n ≡ 0
+is_zero zero none = refl
+is_zero (suc n) none = absurd (none (omega arith))
+
+-- a list whose first file has the name, as many bytes, and something in place of its first event
+not_short : (names : List (List ℕ)) (contents : Contents) → slice_get names 0 ≡ Some first_name → 371 ≤ length (content contents 0) → (EndsInFront (content contents 0) → ⊥)
+    → IsShort (look_at one_file).names (look_at one_file).contents names contents (begin_file 0) → ⊥
+unfolding on_bytes take_kind text_kind
+not_short names contents first long some short =
+    let there : short.file ≡ 0 = is_zero short.file (λ (lt : 0 < short.file). short.found.2 0 lt (first ∙ short.named)) in
+    elim short.lacks [
+      | inl less ↦
+          let below : length (content contents 0) < 371 = subst (λ (n : ℕ). length (content contents n) < 371) there less in
+          omega (arith, below, long)
+      | inr (risen, ends) ↦ some (subst (λ (n : ℕ). EndsInFront (content contents n)) there ends)
+    ]
+
+pub returns-clause-refused_as_shorter : goal.returns-clause-refused_as_shorter
+unfolding on_bytes take_kind text_kind
+returns-clause-refused_as_shorter c chosen = (
+  (λ honest continues behind some. record { name = first_name; file = 0; named = refl; found = search rules; lacks = inl (omega arith) }),
+  (λ refuses. not_short (cut_look 371).names (cut_look 371).contents refl (omega arith) (λ ends. let none = ends.0 in cc) (refuses (refl, (refl, tt)) tt tt (omega arith))),
+  (λ refuses. not_short (look_at both_files).names (look_at both_files).contents refl (omega arith) (λ ends. let none = ends.0 in cc) (refuses (refl, (refl, tt)) tt tt (omega arith))),
+  (λ refuses. not_short changed_look.names changed_look.contents refl (omega arith) (λ ends. ends.1) (refuses (refl, (refl, tt)) tt tt (omega arith))),
+  (λ honest continues behind some. record { last = record { name = first_name; named = refl; found = search rules }; some = omega arith; long = omega arith; in_front = (refl, refl) }),
+  (λ refuses. let none = (refuses (refl, (refl, tt)) tt tt (omega arith)).in_front.0 in cc),
+  (λ refuses. let told = refuses (refl, (refl, tt)) tt tt (omega arith) in cc),
+)
+
+pub returns-clause-refused_for_reading : goal.returns-clause-refused_for_reading
+returns-clause-refused_for_reading c chosen = (
+  (λ honest continues behind differ. tt),
+  (λ honest continues behind differ. tt),
+  (λ refuses. refuses (refl, (refl, tt)) (both_continue, tt) tt both_differ),
+  (λ refuses. refuses (refl, (refl, tt)) (both_continue, tt) tt both_differ),
+  (λ refuses. refuses (refl, (refl, tt)) (both_continue, tt) tt both_differ),
+  (λ honest continues behind differ. absurd (cut_stops continues.0)),
+)
