@@ -11,7 +11,7 @@ use Rattle.binlog_feed.specs.declared.start.Start.{Start}
 use Rattle.binlog_feed.specs.declared.start.Start.TheVariants.{Beginning, After}
 use Rattle.binlog_feed.specs.declared.what.What.TheVariants.{BadMagic, BadRows}
 use Rattle.binlog_profile.specs.declared.profile.Profile.TheVariants.{Strict, Server}
-use Rattle.binlogfeed.specs.Follow.{AreSupplied, EitherFailed, EndsAs, EndsLists, FailsAs, FollowsLooks, NamesFiles, RefusesForReading, RefusesList, RefusesNext, RefusesShorter, WritesBlanks}
+use Rattle.binlogfeed.specs.Follow.{AreSupplied, EitherFailed, EndsAs, EndsLists, FailsAs, FollowsLooks, NamesFiles, RefusesFirst, RefusesForReading, RefusesList, RefusesNext, RefusesShorter, WritesBlanks}
 use Rattle.binlogfeed.specs.Looks.{EachContinues, EndsBehindStart, Look}
 use Rattle.binlogfeed.specs.declared.fault.RunFault.TheVariants as run
 use Rattle.binlogfeed.specs.declared.fault.TokenRefusal.TheVariants.{NoTransaction}
@@ -101,6 +101,14 @@ LooksNotBegun =
     × (FollowsLooks style chosen start 1 (Some (97 ∷ [])) (Some (97 ∷ [])) (Err (NotBegun run.OutOfMemory)) (look_at one_file ∷ []) → ⊥)
     × (FollowsLooks style chosen start 1 (Some (97 ∷ [])) (Some (97 ∷ 10 ∷ [])) (Err (NotBegun run.OutOfMemory)) [] → ⊥)
     × (FollowsLooks style chosen start 1 (Some (97 ∷ [])) (Some (97 ∷ 10 ∷ [])) (Err (NotBegun run.OutOfMemory)) earlier_looks → ⊥)
+
+-- A token at which no transaction stands is refused, unless it is that of the end of its file. Want of memory refuses any start.
+abbrev pub FirstRefused : Type 0
+FirstRefused =
+    RefusesFirst (look_at one_file) (After (token 370 0 first_name)) (run.Token NoTransaction)
+    × (RefusesFirst (look_at one_file) (After (token 371 0 first_name)) (run.Token NoTransaction) → ⊥)
+    × (RefusesFirst (look_at one_file) (After (token 153 0 first_name)) (run.Token NoTransaction) → ⊥)
+    × RefusesFirst (look_at one_file) (After (token 153 0 first_name)) run.OutOfMemory
 
 -- Two blanks. Where an empty line failed, it is the last one: it may be missing, but not the one before it.
 abbrev pub BlanksWritten : Type 0

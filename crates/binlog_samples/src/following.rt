@@ -3,7 +3,7 @@ ghost use Rattle.binlog_samples.specs.Following.{ListTexts, ListsBegin, NoLists,
 ghost use Rattle.binlog_samples.specs.Following.{PartsOfLooks, BeginsAtEnd, GoneFiles, JoinedParts, EmptyLooks, LastFilesReach, LastFilesStay, LooksAreHonest, LooksAreWritten, MadeLooks};
 ghost use Rattle.binlog_samples.specs.Following.{TextsOfRefusals, StatusesOfRefusals, StatusesOfEnds, TextsOfEnds, FailuresOfEnds};
 ghost use Rattle.binlog_samples.specs.FollowEnds.{EndsWithoutFault, EndsWithFault, EndsByDevice, FaultsAtStarts, FilesNamed, FailuresOfEither, FailuresOfRefusals};
-ghost use Rattle.binlog_samples.specs.FollowEnds.{FailuresOfBeginnings, LooksNotBegun, BlanksWritten, ListsRefused, LooksContinue, RefusedAsShorter, RefusedForReading};
+ghost use Rattle.binlog_samples.specs.FollowEnds.{FailuresOfBeginnings, LooksNotBegun, FirstRefused, BlanksWritten, ListsRefused, LooksContinue, RefusedAsShorter, RefusedForReading};
 ghost use Rattle.binlog_samples.specs.FollowEnds.{NextIsRefused, LookedAtIsNotRefused, AllListsLookedAt, ListLeft, LooksSupplied};
 
 /// Which bytes are lists, and which files each of them has looked at.
@@ -51,6 +51,7 @@ pub fn sample_look_ends()
     ensures failures_of_refusals { FailuresOfRefusals }
     ensures failures_of_beginnings { FailuresOfBeginnings }
     ensures looks_not_begun { LooksNotBegun }
+    ensures first_refused { FirstRefused }
     ensures blanks_written { BlanksWritten }
 {}
 

@@ -1,0 +1,43 @@
+use Rattle.std.proofs.Common.{◌≡◌, refl, inl, inr, arith}
+use Rattle.binlog_feed.specs.Tokens.{judge}
+use Rattle.binlog_feed.specs.Tokens.Judgement.{NoTransaction as no_transaction}
+use Rattle.binlog_feed.specs.declared.fault.OpenFeedFault.{OpenFeedFault}
+use Rattle.binlog_feed.specs.declared.fault.OpenFeedFault.TheVariants as opening
+use Rattle.binlog_feed.specs.declared.start.Start.TheVariants.{After}
+use Rattle.binlog_select.specs.declared.token.Token.{Token}
+use Rattle.binlogfeed.specs.Faults.{fault_of_opening}
+use Rattle.binlogfeed.specs.Follow.{RefusesFirst}
+use Rattle.binlogfeed.specs.Looks.{IsNoEnd, RefusesFollowing}
+use Rattle.binlogfeed.specs.declared.fault.RunFault.TheVariants as run
+use Rattle.binlogfeed.specs.declared.fault.TokenRefusal.TheVariants.{NoTransaction}
+use Rattle.binlog_samples.specs.Tokens.{first_name, token}
+use Rattle.binlog_samples.specs.Following.{look_at, one_file}
+use Rattle.binlog_samples.proofs.OnBytes.{on_bytes}
+use Rattle.binlog_samples.proofs.following.sample_look_ends.Goals as goal
+
+-- only one fault of an opening is told so
+told_so : (place : Token) (fault : OpenFeedFault) → RefusesFollowing (look_at one_file).names (look_at one_file).contents (After place) fault
+    → run.Token NoTransaction ≡ fault_of_opening fault
+    → (judge one_file place ≡ no_transaction) × IsNoEnd one_file (After place) opening.TokenNoTransaction
+told_so place (opening.DuplicateFile file) refuses e = absurd (cc)
+told_so place opening.TokenNoFile refuses e = absurd (cc)
+told_so place opening.TokenNoTransaction refuses e = (refuses.0.1, refuses.1)
+told_so place opening.TokenNoChange refuses e = absurd (cc)
+told_so place (opening.Log fault) refuses e = absurd (cc)
+told_so place (opening.Read file) refuses e = absurd (cc)
+told_so place (opening.WindowTooSmall needed) refuses e = absurd (cc)
+told_so place opening.OutOfMemory refuses e = absurd (cc)
+
+is_refused : (place : Token) → RefusesFirst (look_at one_file) (After place) (run.Token NoTransaction)
+    → (judge one_file place ≡ no_transaction) × IsNoEnd one_file (After place) opening.TokenNoTransaction
+is_refused place (inl e) = absurd (cc)
+is_refused place (inr (fault, refuses, e)) = told_so place fault refuses e
+
+pub returns-clause-first_refused : goal.returns-clause-first_refused
+unfolding on_bytes
+returns-clause-first_refused c = (
+  inr (opening.TokenNoTransaction, ((λ i j lt below. absurd (omega (arith, lt, below)), refl), λ fits. cc), refl),
+  (λ refuses. (is_refused (token 371 0 first_name) refuses).1 refl),
+  (λ refuses. let judged = (is_refused (token 153 0 first_name) refuses).0 in cc),
+  inl refl,
+)
