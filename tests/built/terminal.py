@@ -1,4 +1,4 @@
-"""Hints at a terminal: what stands below the line on standard error there, and that nothing stands there where it is no terminal."""
+"""Hints: what stands below the line on standard error at a terminal, and where the environment asks for it, and nowhere else."""
 import os
 import pty
 import select
@@ -11,12 +11,15 @@ from typing import NamedTuple
 from built.check import SECONDS, Check, Outcome, Wanted, command, differs, run, said
 from logs import MAGIC, SMALL, TABLE_MAP, A, appended, change_lines, event, parts, put, query, rotate
 
+# Asks for hints where there is no terminal; whether what runs these checks asks for them isn't to count.
+ASKS = "BINLOGFEED_HINTS"
+PLAIN = {name: value for name, value in os.environ.items() if name != ASKS}
 # Taken from root, so that it may open only what the file's mode lets it, as any other user.
 ALL_FILES = "-dac_override,-dac_read_search"
 
 
 class Case(NamedTuple):
-    """Words of a run over the files of `lay_out`, its status, its line, and the hint below that at a terminal."""
+    """Words of a run over the files of `lay_out`, its status, its line, and the hint below that."""
 
     words: list[str | bytes]
     status: int
@@ -61,7 +64,10 @@ def lay_out(folder: Path) -> None:
     """Lays out the files that the words of the cases name."""
     begun, xid = SMALL.bytes_of("Begun"), parts("xid")
     put(folder, ["log", "logs/log", "logs/next"], A)
-    put(folder, ["logs/index"], b"./binlog.000001\n")
+    put(folder, ["less/log"], A[:-1])
+    put(folder, ["logs/index"], b"./binlog.000001\n./binlog.000002\n")
+    for name, front in FRONTS.items():
+        put(folder, [f"logs/{name}"], front)
     for kind in (15, 23, 25, 26, 38, 39, 40, 42, 99, 160, 255):
         put(folder, [f"logs/kind{kind}"], appended(A, event(kind)))
     put(folder, ["logs/xa"], appended(A, query("XA START 'a'")))
@@ -81,16 +87,29 @@ def lay_out(folder: Path) -> None:
     (folder / "secret").chmod(0)
 
 
-def judge_case(case: Case, program: Path, folder: Path) -> list[str]:
-    """The line is the same at a terminal and elsewhere; the hint is there at the terminal alone."""
-    lay_out(folder)
-    line = said(case.line)
-    elsewhere = subprocess.run(
-        command(case.words), executable=program, cwd=folder, input=case.stdin, capture_output=True, timeout=SECONDS, check=False
+def run_asking(asks: str | None, program: Path, words: list[str | bytes], folder: Path, stdin: bytes = b"") -> Outcome:
+    """Runs a program that has no terminal, and whose environment asks for hints by this value, or doesn't."""
+    environment = PLAIN if asks is None else {**PLAIN, ASKS: asks}
+    ended = subprocess.run(
+        words, executable=program, cwd=folder, input=stdin, capture_output=True, timeout=SECONDS, check=False, env=environment
     )
-    at_terminal = run_at_terminal(program, command(case.words), folder, case.stdin)
-    reasons = differs(Outcome(elsewhere.returncode, elsewhere.stdout, elsewhere.stderr), Wanted(case.status, None, line))
-    return reasons + differs(at_terminal, Wanted(case.status, elsewhere.stdout, line + case.hint.encode()))
+    return Outcome(ended.returncode, ended.stdout, ended.stderr)
+
+
+def judge_case(case: Case, program: Path, folder: Path) -> list[str]:
+    """The line is the same everywhere; the hint is there at a terminal, and where it is asked for."""
+    lay_out(folder)
+    line, words = said(case.line), command(case.words)
+    elsewhere = run_asking(None, program, words, folder, case.stdin)
+    hinted = Wanted(case.status, elsewhere.stdout, line + case.hint.encode())
+    reasons = differs(elsewhere, Wanted(case.status, None, line))
+    reasons += differs(run_at_terminal(program, words, folder, case.stdin), hinted)
+    return reasons + differs(run_asking("1", program, words, folder, case.stdin), hinted)
+
+
+def judge_asked(value: str, program: Path, folder: Path) -> list[str]:
+    """Nothing but `1` asks for hints."""
+    return differs(run_asking(value, program, command(["read", "missing"]), folder), Wanted(4, b"", said("cannot open missing")))
 
 
 def judge_secret(program: Path, folder: Path) -> list[str]:
@@ -129,6 +148,26 @@ TRY_HELP = "Try 'binlogfeed --help'\n"
 TRY_READ = "Try 'binlogfeed read --help'\n"
 REFUSED = "command line refused"
 NEW_FILE = "and begin with a new file (FLUSH BINARY LOGS)\n"
+
+# Files that are no logs, by what they begin with, and what is said of them.
+FRONTS = {
+    "packed.gz": b"\x1f\x8b\x08\0",
+    "packed.zst": b"\x28\xb5\x2f\xfd\0",
+    "packed.xz": b"\xfd7zXZ\0\0",
+    "packed.bz2": b"BZh9",
+    "encrypted": b"\xfdbin\1",
+    "text": b"Hello, here is binlog 1.\n",
+    "numbers": b"1.00000\n",
+}
+PACKED = "it is a file that {} has packed: unpack it\n"
+NO_LOG = "the file is no binary log: give the logs that the server's index names\n"
+KINDS = {
+    "index": "it is an index, which lists the logs: give the logs in it\n",
+    **{f"packed.{ending}": PACKED.format(by) for ending, by in (("gz", "gzip"), ("zst", "zstd"), ("xz", "xz"), ("bz2", "bzip2"))},
+    "encrypted": "it is an encrypted log: set binlog_encryption=OFF, " + NEW_FILE,
+    "text": NO_LOG,
+    "numbers": NO_LOG,
+}
 
 # Words that are refused: what clap says of them but for its last line, and the help to try.
 WORDS = (
@@ -223,11 +262,7 @@ DAMAGED = "the file is damaged: copy it anew\n"
 
 # Logs with a fault, by the name of the file, with the place and the name of the fault, and what the hint says of it.
 LOGS = (
-    (
-        "index",
-        "0: BadMagic",
-        "the file is no binary log, or an encrypted one: give the logs, or set binlog_encryption=OFF and begin with a new file\n",
-    ),
+    *((name, "0: BadMagic", told) for name, told in KINDS.items()),
     ("headless", "4: NoFormat", "the log is damaged, or of another product: copy it anew\n"),
     ("zeros", "371: BadLength", "the file is damaged (zeros after a full disk, say), or two logs in one: copy it anew\n"),
     ("stopped", "390: EventAfterEnd", NOT_ONE_LOG),
@@ -274,7 +309,7 @@ RUNS = (
         ["read", "--from", "154.1@log", "log"],
         3,
         "token refused: TokenNoTransaction",
-        OTHER_LOG + ", or the server lost the log's end in a crash (sync_binlog isn't 1)\n",
+        OTHER_LOG + ", or the server lost the log's end when its machine lost power or crashed\n",
     ),
     Case(["read", "--from", "153.9@log", "log"], 3, "token refused: TokenNoChange", OTHER_LOG + "\n"),
     Case(["transactions", "log", "logs/log"], 2, "duplicate file log", ONE_NAME),
@@ -300,6 +335,14 @@ RUNS = (
         "hint: the last file of the list before must be in the next list, too: where it was purged before, changes are missing\n",
         b"logs/next\n\n",
     ),
+    Case(
+        ["read", "--follow", "log"],
+        3,
+        "file shorter: log",
+        "hint: the server lost the file's end when its machine lost power or crashed (with sync_binlog=1, too): lines were written of what it "
+        "lost\n",
+        b"less/log\n\n",
+    ),
     Case(["read", "--follow", "log", "logs/log"], 2, "duplicate file log", ONE_NAME),
     Case(["read", "--follow", "log"], 2, "duplicate file log", ONE_NAME, b"log\nlogs/log\n\n"),
     Case(
@@ -312,14 +355,29 @@ RUNS = (
 )
 
 
-def judge_full_device(program: Path, folder: Path) -> list[str]:
-    """The output can't be written."""
-    lay_out(folder)
-    shell = ["sh", "-c", 'exec "$0" read log >/dev/full', str(program)]
-    wanted = said("write fault") + (
+# What can't be written: a device, a file that may not get longer, and a pipe that nobody reads any more.
+OUTPUTS = {
+    'exec "$0" read log >/dev/full': (
         b"hint: the disk is full, or who takes the lines has ended: go on from the token of the last line that was taken\n"
-    )
-    return differs(run_at_terminal(Path("/bin/sh"), shell, folder), Wanted(4, b"", wanted))
+    ),
+    'trap "" XFSZ; ulimit -f 0; exec "$0" read log >file': (
+        b"hint: the disk is full, or the file may not get longer: go on from the token of the last whole line\n"
+    ),
+    'mkfifo lines; exec 3<>lines 4>lines 3<&-; exec "$0" read log >&4': (
+        b"hint: nobody reads the lines any more: go on from the token of the last line that was taken\n"
+    ),
+}
+
+
+def judge_output(script: str, program: Path, folder: Path) -> list[str]:
+    """The output can't be written, and its hint goes by what it is."""
+    lay_out(folder)
+    wanted = Wanted(4, b"", said("write fault") + OUTPUTS[script])
+    shell = ["sh", "-c", script, str(program)]
+    reasons = differs(run_at_terminal(Path("/bin/sh"), shell, folder), wanted)
+    for name in ("lines", "file"):
+        (folder / name).unlink(missing_ok=True)
+    return reasons + differs(run_asking("1", Path("/bin/sh"), shell, folder), wanted)
 
 
 def fault_case(name: str, fault: str, hint: str) -> Case:
@@ -337,9 +395,10 @@ def checks() -> list[Check]:
     paths = [Case(["read", path], 4, f"cannot open {path}", hint) for path, hint in PATHS]
     cases = [*WORDS, *paths, *(fault_case(*log) for log in LOGS), *RUNS]
     return [
-        *[Check(f"at a terminal: {shown(case.words)} {case.line[:40]}", partial(judge_case, case)) for case in cases],
+        *[Check(f"hints: {shown(case.words)} {case.line[:40]}", partial(judge_case, case)) for case in cases],
         Check("at a terminal: a file that may not be read", judge_secret),
-        Check("at a terminal: an output that can't be written", judge_full_device),
+        *[Check(f"hints of an output: {script}", partial(judge_output, script)) for script in OUTPUTS],
+        *[Check(f"no hints for {value!r}", partial(judge_asked, value)) for value in ("", "0", "11", "yes")],
         Check("at a terminal: a run that ends well", judge_success),
         Check("at a terminal: help", judge_help),
         Check("an output at a terminal, and standard error elsewhere", judge_output_alone),

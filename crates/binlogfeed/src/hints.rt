@@ -1,9 +1,10 @@
-//! Hints for the person at a terminal: what stands below the line on standard error, and only where standard error is a terminal.
+//! Hints: what stands below the line on standard error where that is a terminal, or where BINLOGFEED_HINTS=1 asks for them.
 //!
 //! Programs read the line alone, so a hint says nothing that they need. No clause speaks of it. None of this is called where a run goes
 //! well: the loops of a run are compiled as if there were no hints.
 
 mod follow;
+mod kinds;
 mod opening;
 mod run;
 mod words;

@@ -7,6 +7,6 @@ use std::io::IsTerminal;
 use std::process::ExitCode;
 
 fn main(rt: HostRuntime) -> ExitCode {
-    let audience = Audience::of(rt.stderr().is_terminal());
+    let audience = Audience::of(&rt, rt.stderr().is_terminal());
     ExitCode::from(answer(&rt, audience))
 }

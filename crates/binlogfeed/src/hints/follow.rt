@@ -7,17 +7,23 @@ use crate::follow_fault::{FollowFault, fault_of_reading};
 use crate::lists::ListFault;
 use binlog_feed::GoOnFault;
 use std::io::Eprint;
+use std::rt::Files;
 
 /// Says what a fault of a look means, and the path of its file in the list of the look.
 #[cold]
 #[inline(never)]
-pub(crate) fn hint_look<R: Eprint>(rt: &R, audience: Audience, fault: &RunFault, paths: &[String]) {
+pub(crate) fn hint_look<R: Eprint + Files>(
+    rt: &R,
+    audience: Audience,
+    fault: &RunFault,
+    paths: &[String],
+) {
     if audience.is_person() {
         tell_look(rt, fault, paths);
     }
 }
 
-fn tell_look<R: Eprint>(rt: &R, fault: &RunFault, paths: &[String]) {
+fn tell_look<R: Eprint + Files>(rt: &R, fault: &RunFault, paths: &[String]) {
     let path = match file_of(fault) {
         Some(file) => paths.get(file),
         None => None,
@@ -31,7 +37,7 @@ fn tell_look<R: Eprint>(rt: &R, fault: &RunFault, paths: &[String]) {
 /// Says why a list is refused, and the path of the file in it that the line names.
 #[cold]
 #[inline(never)]
-pub(crate) fn hint_refusal<R: Eprint>(
+pub(crate) fn hint_refusal<R: Eprint + Files>(
     rt: &R,
     audience: Audience,
     fault: &GoOnFault,
@@ -49,7 +55,7 @@ pub(crate) fn hint_refusal<R: Eprint>(
         ),
         GoOnFault::FileShorter => give(
             rt,
-            "the server lost the file's end in a crash (sync_binlog isn't 1): lines were written of what it lost",
+            "the server lost the file's end when its machine lost power or crashed (with sync_binlog=1, too): lines were written of what it lost",
         ),
         GoOnFault::Earlier(fault) => tell(rt, &fault_of_reading(*fault), None),
         GoOnFault::Later(fault) => tell_look(rt, &fault_of_reading(*fault), paths),
@@ -59,7 +65,7 @@ pub(crate) fn hint_refusal<R: Eprint>(
 /// Says why no list is taken any more.
 #[cold]
 #[inline(never)]
-pub(crate) fn hint_input<R: Eprint>(rt: &R, audience: Audience, fault: &FollowFault) {
+pub(crate) fn hint_input<R: Eprint + Files>(rt: &R, audience: Audience, fault: &FollowFault) {
     if !audience.is_person() {
         return;
     }

@@ -1,14 +1,26 @@
 //! Hints where a run ends early: what the usual cause is, what to do, and where the file lies that the line names.
 use super::give;
+use super::kinds::kind_at;
 use crate::audience::Audience;
 use crate::fault::{RunFault, TokenRefusal};
 use binlog_feed::What;
+use std::fs;
 use std::io::Eprint;
+use std::os::unix::fs::FileTypeExt;
+use std::rt::Files;
+
+/// What the system calls the standard output of this process.
+const OUTPUT: &str = "/proc/self/fd/1";
 
 /// Says what a fault means, and the path of its file as it was given.
 #[cold]
 #[inline(never)]
-pub(crate) fn hint_run<R: Eprint>(rt: &R, audience: Audience, fault: &RunFault, paths: &[&str]) {
+pub(crate) fn hint_run<R: Eprint + Files>(
+    rt: &R,
+    audience: Audience,
+    fault: &RunFault,
+    paths: &[&str],
+) {
     if audience.is_person() {
         let path = match file_of(fault) {
             Some(file) => paths.get(file).copied(),
@@ -19,8 +31,8 @@ pub(crate) fn hint_run<R: Eprint>(rt: &R, audience: Audience, fault: &RunFault, 
 }
 
 /// Says what a fault means, and the path of its file.
-pub(super) fn tell<R: Eprint>(rt: &R, fault: &RunFault, path: Option<&str>) {
-    give(rt, cause(fault));
+pub(super) fn tell<R: Eprint + Files>(rt: &R, fault: &RunFault, path: Option<&str>) {
+    give(rt, cause(rt, fault, path));
     if let Some(path) = path
         && path.as_bytes().iter().any(|byte| *byte == b'/')
     {
@@ -39,7 +51,7 @@ pub(super) fn file_of(fault: &RunFault) -> Option<usize> {
 }
 
 /// What a fault mostly comes from, and what to do.
-fn cause(fault: &RunFault) -> &'static str {
+fn cause<R: Files>(rt: &R, fault: &RunFault, path: Option<&str>) -> &'static str {
     match fault {
         RunFault::DuplicateFile(_) => {
             "a token names its file without the folder, so no two files of a list may have one name"
@@ -48,21 +60,47 @@ fn cause(fault: &RunFault) -> &'static str {
             "the token's file isn't among the files: give it, or where it was purged take a new copy of the tables"
         }
         RunFault::Token(TokenRefusal::NoTransaction) => {
-            "the token is of another log with that name, or the server lost the log's end in a crash (sync_binlog isn't 1)"
+            "the token is of another log with that name, or the server lost the log's end when its machine lost power or crashed"
         }
         RunFault::Token(TokenRefusal::NoChange) => "the token is of another log with that name",
-        RunFault::Log(fault) => cause_in_log(fault.what),
+        RunFault::Log(fault) => match fault.what {
+            What::BadMagic => cause_of_magic(rt, path),
+            what => cause_in_log(what),
+        },
         RunFault::Read(_) => {
             "the device failed, or the file is one behind the 64th and was purged since the run began: go on from the last line's token"
         }
-        RunFault::Write => {
-            "the disk is full, or who takes the lines has ended: go on from the token of the last line that was taken"
-        }
+        RunFault::Write => cause_of_write(rt),
         RunFault::OutOfMemory => {
             "an event takes its length in memory: free some, and go on from the last line's token"
         }
     }
 }
+
+/// Why the output can't be written, by what it is.
+fn cause_of_write<R: Files>(rt: &R) -> &'static str {
+    if let Ok(about) = fs::metadata(rt, OUTPUT) {
+        if about.is_file() {
+            return "the disk is full, or the file may not get longer: go on from the token of the last whole line";
+        }
+        if about.file_type().is_fifo() || about.file_type().is_socket() {
+            return "nobody reads the lines any more: go on from the token of the last line that was taken";
+        }
+    }
+    "the disk is full, or who takes the lines has ended: go on from the token of the last line that was taken"
+}
+
+/// What a file is that doesn't begin as a log does.
+fn cause_of_magic<R: Files>(rt: &R, path: Option<&str>) -> &'static str {
+    if let Some(path) = path
+        && let Some(kind) = kind_at(rt, path)
+    {
+        return kind;
+    }
+    NO_LOG
+}
+
+const NO_LOG: &str = "the file is no binary log: give the logs that the server's index names";
 
 const DAMAGED: &str = "the file is damaged: copy it anew";
 
@@ -74,9 +112,7 @@ const XA: &str = "XA transactions aren't read";
 /// What a fault of a log mostly comes from, and what to do.
 fn cause_in_log(what: What) -> &'static str {
     match what {
-        What::BadMagic => {
-            "the file is no binary log, or an encrypted one: give the logs, or set binlog_encryption=OFF and begin with a new file"
-        }
+        What::BadMagic => NO_LOG,
         What::NoFormat | What::BadFormat | What::ChecksumUnknown => {
             "the log is damaged, or of another product: copy it anew"
         }
