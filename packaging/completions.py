@@ -1,4 +1,4 @@
-"""Completions for bash and zsh, made from the program's help."""
+"""Completions for bash and zsh, made from the help of the command."""
 from __future__ import annotations
 
 import shlex
@@ -6,7 +6,7 @@ import shlex
 from program_help import Help, Item, Program
 
 BASH = """\
-# Completion of binlogfeed for bash, made from the program's help.
+# Completion of binlogfeed for bash, made from its help.
 _binlogfeed() {{
     local word=${{COMP_WORDS[COMP_CWORD]}} before=${{COMP_WORDS[COMP_CWORD - 1]}} command= words= valued= at
     for ((at = 1; at < COMP_CWORD; at++)); do
@@ -30,7 +30,7 @@ complete -o bashdefault -o default -F _binlogfeed binlogfeed
 
 ZSH = """\
 #compdef binlogfeed
-# Completion of binlogfeed for zsh, made from the program's help.
+# Completion of binlogfeed for zsh, made from its help.
 local curcontext=$curcontext state line
 local -a commands=(
 {commands})
@@ -55,7 +55,7 @@ def bash(program: Program) -> str:
     """The completion for bash."""
     cases = "".join(
         f"    {name})\n        words={shlex.quote(names_of(said.options))}\n"
-        f"        valued={shlex.quote(names_of([option for option in said.options if option.value]))}\n        ;;\n"
+        f"        valued={shlex.quote(names_of([option for option in said.options if option.value and not option.names_a_file]))}\n        ;;\n"
         for name, said in program.commands.items()
     )
     commands = " ".join(command.words for command in program.top.commands)
@@ -70,7 +70,7 @@ def zsh_options(said: Help) -> str:
         about = option.about.replace("\\", "\\\\").replace("[", "\\[").replace("]", "\\]")
         others = f"({' '.join(option.names)})" if len(option.names) > 1 else ""
         for name in option.names:
-            value = f"=[{about}]:{option.value}: " if option.value else f"[{about}]"
+            value = f"=[{about}]:{option.value}:{'_files' if option.names_a_file else ' '}" if option.value else f"[{about}]"
             words.append(shlex.quote(f"{others}{name}{value}"))
     return " \\\n        ".join(words)
 

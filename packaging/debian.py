@@ -29,7 +29,7 @@ Description: change feed over MySQL binary log files
 # Python's bytecode goes with its sources: an upgrade's have the same time, so the old bytecode would pass for theirs.
 SCRIPTS = {
     "postinst": "if command -v py3compile >/dev/null; then\n    py3compile -p binlogfeed || true\nfi",
-    "prerm": "find /usr/lib/python3/dist-packages/binlogfeed -name __pycache__ -prune -exec rm -rf {} +",
+    "prerm": "find /usr/lib/python3/dist-packages/binlogfeed /usr/lib/binlogfeed -name __pycache__ -prune -exec rm -rf {} +",
 }
 
 COPYRIGHT = """\

@@ -1,4 +1,4 @@
-"""The manual page, made from the program's help."""
+"""The manual page, made from the help of the command."""
 from __future__ import annotations
 
 import re

@@ -1,12 +1,22 @@
-"""What the program's own help says: its subcommands, and of each the usage, the arguments, the options and the rest."""
+"""What the help of the command binlogfeed says: its subcommands, and of each the usage, the arguments, the options and the rest.
+
+That of a command in Python has another form, in which argparse lays it out.
+"""
 from __future__ import annotations
 
+import os
 import re
 import subprocess
+import sys
 from pathlib import Path
 from typing import NamedTuple
 
+from binlogfeed.front import help_text, own_commands
+
+TOP = Path(__file__).resolve().parents[1]
 SECTIONS = ("Commands", "Arguments", "Options")
+# How argparse names them, and versions before that of Python 3.10.
+IN_PYTHON = {"positional arguments": "Arguments", "options": "Options", "optional arguments": "Options"}
 
 
 class Item(NamedTuple):
@@ -25,6 +35,11 @@ class Item(NamedTuple):
         """The name of the option's value; empty where it takes none."""
         found = re.search(r"<(.+?)>", self.words)
         return found[1] if found else ""
+
+    @property
+    def names_a_file(self) -> bool:
+        """Whether the option's value is the path of a file."""
+        return self.value in ("FILE", "PATH")
 
 
 class Help(NamedTuple):
@@ -71,14 +86,55 @@ def asked(program: Path, *words: str) -> Help:
     return parsed(ended.stdout)
 
 
+def with_value(item: Item) -> Item:
+    """An option of argparse's as the program's help has it: its value in brackets."""
+    words = re.sub(r"(--[\w-]+) \{?([^\s{}]+)\}?$", lambda it: f"{it[1]} <{it[2].replace(',', '|')}>", item.words)
+    return Item(words, item.about[:1].upper() + item.about[1:])
+
+
+def parsed_in_python(name: str, about: str, text: str) -> Help:
+    """The parts of a help that argparse has laid out."""
+    usage, *blocks = text.rstrip("\n").split("\n\n")
+    sections: dict[str, list[Item]] = {section: [] for section in SECTIONS}
+    rest: list[str] = []
+    for block in blocks:
+        title, _, lines = block.partition(":\n")
+        if title in IN_PYTHON:
+            sections[IN_PYTHON[title]] = [with_value(item) for item in items(lines)]
+        else:
+            rest.append(block)
+    # Of the options the usage shows those that have to be given.
+    wanted = re.sub(r" \[-[^\]]*\]", "", usage[len("usage: ") :])
+    wanted = re.sub(r"(\w+) \[\1 \.\.\.\]", r"\1...", wanted).replace(f"binlogfeed {name}", f"binlogfeed {name} [OPTIONS]")
+    return Help(about, wanted, *sections.values(), "\n\n".join(rest).replace("replica.py ", "binlogfeed replica "))
+
+
+def asked_in_python(program: Path, name: str, about: str) -> Help:
+    """The help of a command in Python."""
+    replica = TOP / "examples/replica/replica.py"
+    command = [sys.executable, "-B", TOP / "python/command.py", program, replica, name, "--help"]
+    # So wide that no line is broken.
+    environment = {**os.environ, "COLUMNS": "10000"}
+    ended = subprocess.run(command, capture_output=True, text=True, check=False, env=environment)
+    if ended.returncode:
+        raise ValueError(f"binlogfeed {name} tells no help: {ended.stderr.strip()}")
+    return parsed_in_python(name, about, ended.stdout)
+
+
 class Program(NamedTuple):
-    """The help of the program, and that of each subcommand. `help` itself has none."""
+    """The help of the command, and that of each subcommand. `help` itself has none."""
 
     top: Help
     commands: dict[str, Help]
 
 
 def told(program: Path) -> Program:
-    """All that the program's help says."""
-    top = asked(program)
-    return Program(top, {item.words: asked(program, item.words) for item in top.commands if item.words != "help"})
+    """All that the help says, of the program's commands and of those in Python."""
+    asked(program)
+    top, in_python = parsed(help_text(program)), own_commands()
+    commands = {
+        item.words: asked_in_python(program, item.words, item.about) if item.words in in_python else asked(program, item.words)
+        for item in top.commands
+        if item.words != "help"
+    }
+    return Program(top, commands)

@@ -1,4 +1,4 @@
-"""The command line: `python3 -m binlogfeed follow --state FILE LOGS`, and `python3 -m binlogfeed summary LOGS`."""
+"""The commands that are in Python: `python3 -m binlogfeed follow --state FILE LOGS` and others, as COMMANDS has them."""
 from __future__ import annotations
 
 import argparse
@@ -7,6 +7,7 @@ import signal
 import sys
 import threading
 import time
+from collections.abc import Sequence
 from pathlib import Path
 from typing import Any
 
@@ -15,7 +16,6 @@ from binlogfeed.begin import FIRST
 from binlogfeed.faults import BinlogfeedError
 from binlogfeed.filters import add_filters, add_profile, filter_words
 from binlogfeed.follow import Follower
-from binlogfeed.hints import hints_of
 from binlogfeed.options import LAG_HELP, lag_seconds, only_one, seconds
 from binlogfeed.summary.command import add_summary
 from binlogfeed.version import VERSION
@@ -23,6 +23,7 @@ from binlogfeed.version import VERSION
 # A look that goes on when SIGTERM comes has so many seconds to come to its end.
 GRACE = 5.0
 PAUSE = 0.1
+CALLED = "python3 -m binlogfeed"
 # Ends a write of the main thread. The system itself ignores it, so it does no harm where it comes too late.
 ENDS_WRITES = signal.SIGURG
 ABOUT = "Follows the binary logs of a MySQL server, or says what happened in logs."
@@ -34,21 +35,21 @@ Exit status: that of `binlogfeed read`; 3 also where FILE keeps no place, 4 wher
 were still to be read are gone, and 70 where the program can't be started. docs/USAGE.md says what to do."""
 
 
-def given_words() -> argparse.Namespace:
-    """Reads the command line. `run` of what it answers is the command's function."""
-    parser = argparse.ArgumentParser(prog="python3 -m binlogfeed", description=ABOUT)
+def command_line(called: str = CALLED) -> argparse.ArgumentParser:
+    """What reads the command line. `run` of what it answers is the command's function."""
+    parser = argparse.ArgumentParser(prog=called, description=ABOUT)
     parser.add_argument("--version", action="version", version=f"binlogfeed {VERSION}", help="print the version")
     commands = parser.add_subparsers(dest="command", required=True)
-    add_follow(commands)
-    add_summary(commands)
-    return parser.parse_args()
+    for add in COMMANDS:
+        add(commands)
+    return parser
 
 
 def add_follow(commands: Any) -> None:
     """Gives the command line the command `follow`."""
     parser: argparse.ArgumentParser = commands.add_parser(
         "follow",
-        help="print the lines of `binlogfeed read` while a server writes its logs",
+        help="prints the lines of `binlogfeed read` while a server writes its logs",
         epilog=HELP,
         formatter_class=argparse.RawDescriptionHelpFormatter,
     )
@@ -109,16 +110,18 @@ def say_status(follower: Follower, every: float) -> None:
         print(follower.status(), file=sys.stderr, flush=True)
 
 
-def main() -> int:
-    """Runs the command. The answer is the exit status."""
-    is_followed = False
+# Each command, by the function that gives it to the command line. Who adds one adds it here alone: help, completions, the manual page
+# and the command `binlogfeed` go by this.
+COMMANDS = (add_follow, add_summary)
+
+
+def main(words: Sequence[str] | None = None, called: str = CALLED) -> int:
+    """Runs the command that words ask for, by default those of this process. The answer is the exit status."""
     try:
-        given = given_words()
-        is_followed = given.run is follow
+        given = command_line(called).parse_args(words)
         given.run(given)
     except BinlogfeedError as error:
-        hints = hints_of(error) if is_followed else []
-        print("\nhint: ".join((error.line, *hints)), file=sys.stderr)
+        print("\nhint: ".join((error.line, *error.hints)), file=sys.stderr)
         return error.status if error.status > 0 else 128 - error.status
     except BrokenPipeError:
         # Nobody takes the lines any more. Python's own flush at the end would fail, too.

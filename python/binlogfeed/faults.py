@@ -4,16 +4,21 @@ from __future__ import annotations
 import re
 from collections.abc import Iterable
 from pathlib import Path
-from typing import Optional
+from typing import Optional, Tuple
 
 # What the program says of a log that it can't take in. A file's name may have any character but a slash.
 LOG_FAULT = re.compile(r"^binlogfeed: log fault at (.*):(\d+): (\w+(?:\(\d+\))?)\Z", re.DOTALL | re.MULTILINE)
 TOKEN_REFUSED = re.compile(r"^binlogfeed: token refused: (\w+)\Z", re.MULTILINE)
 LOG_LOST = re.compile(r"^binlogfeed: file (?:gone|shorter): (.*)\Z", re.DOTALL | re.MULTILINE)
+# What it says below that, where it is asked to: hints, and what is wrong with its words.
+HINT = re.compile(r"^(?:hint|error): (.*)$", re.MULTILINE)
 
 
 class BinlogfeedError(Exception):
-    """A reading ended early. `line` says why, and `status` is the exit status that stands for it."""
+    """A reading ended early. `line` says why, and `status` is the exit status that stands for it.
+
+    `hints` say what it mostly comes from, and what to do. Their words may change.
+    """
 
     status = 70
 
@@ -21,8 +26,14 @@ class BinlogfeedError(Exception):
         """An error with its line."""
         super().__init__(line)
         self.line = line
+        self.hints: Tuple[str, ...] = ()
         if status is not None:
             self.status = status
+
+    def hinted(self, *hints: str | None) -> BinlogfeedError:
+        """The same, with these hints."""
+        self.hints = tuple(hint for hint in hints if hint)
+        return self
 
 
 class LogFault(BinlogfeedError):
@@ -128,6 +139,14 @@ class ConversionFailed(BinlogfeedError):
 
 def told(said: str, status: int) -> BinlogfeedError:
     """The error that an exit status stands for, with what the program said on standard error, and its wrapper before it."""
+    hint = HINT.search(said)
+    if hint is None:
+        return _told(said, status)
+    return _told(said[: hint.start()].rstrip("\n"), status).hinted(*HINT.findall(said))
+
+
+def _told(said: str, status: int) -> BinlogfeedError:
+    """The error that an exit status stands for, with the line that the program said, and what its wrapper said before it."""
     fault = LOG_FAULT.search(said)
     if status == 1 and fault:
         return LogFault(fault[0], fault[1], int(fault[2]), fault[3])

@@ -140,7 +140,7 @@ def beginning(path: Path) -> str | None:
             length = int.from_bytes(header[LENGTH_AT : LENGTH_AT + 4], "little")
             body = log.read(max(0, min(length, 1 << 16) - HEADER_LENGTH))
     except OSError as error:
-        raise FileFault(f"binlogfeed: cannot open {path}") from error
+        raise FileFault(f"binlogfeed: cannot open {path}").hinted(error.strerror) from error
     if len(header) < HEADER_LENGTH or len(body) < length - HEADER_LENGTH:
         return None
     # A flag says that the server has the log open. It is cleared later.

@@ -5,7 +5,6 @@ import contextlib
 import fcntl
 import os
 import subprocess
-import sysconfig
 import tempfile
 import threading
 from collections.abc import Generator, Iterator, Sequence
@@ -13,22 +12,30 @@ from pathlib import Path
 
 from binlogfeed.faults import FileFault, ProgramFailed, ProgramMissing, told
 
+# The place of the program, and of others that are run, in a package that has it: the wheel.
+LIBEXEC = Path(__file__).resolve().parent / "libexec"
+# Asks the program for hints below an error's line, where there is no terminal.
+HINTS = "BINLOGFEED_HINTS"
 BUFFER = 1 << 16
 # A pipe of so many bytes has room for several blocks of lines, which the program writes meanwhile.
 PIPE = 1 << 18
 
+# The program's name, and where it is looked for before PATH.
+NAME = "binlogfeed"
+_own = [LIBEXEC / NAME]
+
 
 def found(program: str | os.PathLike[str]) -> str:
-    """The program's path. One that is named without a folder is that installed with this package, or else PATH's."""
+    """The program's path. One that is named without a folder is that of the command that runs, or of this package, or else PATH's."""
     name = os.fspath(program)
-    if os.sep in name:
+    if name != NAME:
         return name
-    packages = Path(__file__).resolve().parents[1]
-    for scheme in sysconfig.get_scheme_names():
-        beside = Path(sysconfig.get_path("scripts", scheme), name)
-        if Path(sysconfig.get_path("platlib", scheme)).resolve() == packages and os.access(beside, os.X_OK):
-            return str(beside)
-    return name
+    return next((str(own) for own in _own if os.access(own, os.X_OK)), name)
+
+
+def use(program: Path) -> None:
+    """Has a program be the one that is found: that of the command `binlogfeed`."""
+    _own.insert(0, program)
 
 
 class Program:
@@ -42,7 +49,9 @@ class Program:
         self._said = tempfile.TemporaryFile()
         command = [found(command[0]), *command[1:]]
         try:
-            self._process = subprocess.Popen(command, bufsize=BUFFER, stdin=stdin, stdout=subprocess.PIPE, stderr=self._said)
+            self._process = subprocess.Popen(
+                command, bufsize=BUFFER, stdin=stdin, stdout=subprocess.PIPE, stderr=self._said, env={**os.environ, HINTS: "1"}
+            )
         except OSError as error:
             self._said.close()
             raise ProgramMissing(f"binlogfeed: the program can't be started: {error}") from error

@@ -308,7 +308,7 @@ def marked(path: Path) -> Mark:
     try:
         found = path.stat()
     except OSError as error:
-        raise FileFault(f"binlogfeed: cannot open {path}") from error
+        raise FileFault(f"binlogfeed: cannot open {path}").hinted(error.strerror) from error
     return Mark(found.st_dev, found.st_ino, found.st_size, found.st_mtime_ns)
 
 

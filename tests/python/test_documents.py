@@ -15,6 +15,13 @@ PURCHASE = (
 )
 NEW, PAID = PURCHASE % "None", PURCHASE % "datetime.datetime(2024, 5, 6, 8, 0, tzinfo=datetime.timezone.utc)"
 LAST_ROW = "purchase {'customer': 1, 'id': 1, 'paid': '1714982400', 'placed': '2024-05-06 07:08:09.125', 'total': '9.80'}"
+# Where the command finds what it runs.
+PLACES = {
+    "PROGRAM": "program/binlogfeed",
+    "PYTHON": "python3",
+    "COMMAND": "python/command.py",
+    "REPLICA": "examples/replica/replica.py",
+}
 README_SHOWS = f"""\
 2592.1@binlog.000001 WriteRowsEvent [{{'values': {NEW}}}]
 3114.1@binlog.000001 UpdateRowsEvent [{{'before_values': {NEW}, 'after_values': {PAID}}}]
@@ -36,12 +43,16 @@ class Documents(FolderTest):
     """The documents' examples."""
 
     def setUp(self):
-        """A folder with the repository's parts. Its program is the one that is tested."""
+        """A folder with the repository's parts, and the command as an archive has it. Its program is the one that is tested."""
         super().setUp()
         for name in ("python", "examples"):
             (self.folder / name).symlink_to(TOP / name)
-        wrapper = self.put("binlogfeed", f'#!/bin/sh\nexec {PROGRAM} "$@"\n'.encode())
-        wrapper.chmod(0o700)
+        command = (TOP / "packaging/command.sh").read_text(encoding="utf-8")
+        for name, place in PLACES.items():
+            command = command.replace(f"@{name}@", place)
+        (self.folder / "program").mkdir()
+        (self.folder / "program/binlogfeed").symlink_to(Path(PROGRAM).absolute())
+        self.put("binlogfeed", command.encode()).chmod(0o700)
 
     def shown(self, command):
         """What a command prints."""

@@ -12,7 +12,8 @@ from binlogfeed import BinLogStreamReader, FileFault, LogFault, Place, TokenRefu
 from binlogfeed import follow as following
 from binlogfeed.filters import FILTERS
 from binlogfeed.follow import write_state
-from binlogfeed.hints import OF_FAULTS, hints_of
+from binlogfeed.faults import told
+from binlogfeed.hints import hints_of
 from binlogfeed.watch import Watch
 from built.check import command
 from built.terminal import LOGS, lay_out, run_at_terminal
@@ -136,26 +137,35 @@ class Hints(CommandTest):
     """What stands below an error's line."""
 
     def test_the_programs_own(self):
-        """Each fault has the hint here that the program gives at a terminal."""
-        for name, fault, _ in LOGS:
-            with self.subTest(fault=fault), tempfile.TemporaryDirectory() as room:
-                folder = Path(room)
-                lay_out(folder)
-                said = run_at_terminal(Path(PROGRAM), command(["read", f"logs/{name}"]), folder).stderr.decode()
+        """Each error has the hints that the program gives at a terminal."""
+        for name, fault, hint in LOGS:
+            with self.subTest(name=name, fault=fault), tempfile.TemporaryDirectory() as room:
+                lay_out(Path(room))
+                path = Path(room, "logs", name)
                 with self.assertRaises(LogFault) as caught:
-                    list(BinLogStreamReader(folder / "logs" / name, program=PROGRAM, profile="strict"))
-                hints = hints_of(caught.exception)
-                if name == "index":
-                    # Its first bytes tell more.
-                    self.assertIn("an index", hints.pop(0))
-                    hints = [OF_FAULTS["BadMagic"]]
-                self.assertEqual(said.splitlines()[1], f"hint: {hints[0]}")
+                    list(BinLogStreamReader([path], program=PROGRAM, profile="strict"))
+                self.assertEqual(hints_of(caught.exception), [hint[:-1], f"the file is {path}"])
+                self.assertEqual(caught.exception.line, f"binlogfeed: log fault at {name}:{fault}")
         path = self.put("log", logs.A)
         for token in ("154.1@log", "153.9@log", "153.1@other"):
             said = run_at_terminal(Path(PROGRAM), command(["read", "--from", token, "log"]), self.folder).stderr.decode()
             with self.assertRaises(TokenRefused) as caught:
                 list(BinLogStreamReader([path], program=PROGRAM, resume=token))
             self.assertEqual([f"hint: {hint}" for hint in hints_of(caught.exception)], said.splitlines()[1:])
+            self.assertEqual(len(hints_of(caught.exception)), 1)
+
+    def test_lines_and_hints(self):
+        """What the program says is parted into the wrapper's lines, its own and the hints, whatever a file's name has."""
+        said = "binlogfeed: built in 900 seconds\nbinlogfeed: log fault at a:1: Xa:0: BadMagic\nhint: it is an index\nhint: the file is /b/a:1: Xa"
+        fault = told(said, 1)
+        self.assertIsInstance(fault, LogFault)
+        self.assertEqual((fault.file, fault.position, fault.what), ("a:1: Xa", 0, "BadMagic"))
+        self.assertEqual(fault.line, "binlogfeed: log fault at a:1: Xa:0: BadMagic")
+        self.assertEqual(fault.hints, ("it is an index", "the file is /b/a:1: Xa"))
+        refused = told("binlogfeed: command line refused\nerror: unexpected argument '--ful' found\n\n  tip: there is --full\n\nTry 'binlogfeed'", 2)
+        self.assertEqual((refused.line, refused.hints), ("binlogfeed: command line refused", ("unexpected argument '--ful' found",)))
+        plain = told("binlogfeed: cannot open a", 4)
+        self.assertEqual((plain.line, plain.hints), ("binlogfeed: cannot open a", ()))
 
     def test_follow(self):
         """No terminal is needed."""

@@ -9,6 +9,7 @@ import pty
 import re
 import shlex
 import shutil
+import sqlite3
 import subprocess
 import sys
 import tarfile
@@ -26,6 +27,9 @@ README = (TOP / "README.md").read_text(encoding="utf-8")
 SET_ASIDE = ("PYTHON", "PIP_", "SOURCE_DATE_EPOCH")
 USUAL = {name: value for name, value in os.environ.items() if not name.startswith(SET_ASIDE)}
 BARE = {"HOME": "/nonexistent", "LC_ALL": "C.UTF-8", "PATH": "/usr/bin:/bin", "PYTHONDONTWRITEBYTECODE": "1"}
+REPLICA = TOP / "examples/replica/replica.py"
+# The commands that are in Python. The tests below see that help, manual page and completions have these, and whatever else there is.
+IN_PYTHON = ["follow", "summary", "replica"]
 
 
 def copied(folder):
@@ -89,7 +93,8 @@ class Package(unittest.TestCase):
             # Python 3.12 and 3.13 warn where none is chosen, and older ones may have none.
             archive.extraction_filter = getattr(tarfile, "data_filter", None)
             archive.extractall(cls.room / "archive")
-        cls.program = cls.room / "deb/usr/bin/binlogfeed"
+        cls.command = cls.room / "deb/usr/bin/binlogfeed"
+        cls.program = cls.room / "deb/usr/lib/binlogfeed/binlogfeed"
         cls.unpacked = cls.room / "archive" / f"binlogfeed-{cls.version()}"
 
     @classmethod
@@ -98,13 +103,62 @@ class Package(unittest.TestCase):
         text = (TOP / "python/binlogfeed/version.py").read_text(encoding="utf-8")
         return re.search(r'(?m)^VERSION = "(.+)"$', text)[1]
 
-    def judge_program(self, program, folder):
-        """The program is the one that was built, and does what the README shows, in a folder with the examples."""
+    def judge_program(self, command, program, folder):
+        """The program is the one that was built, and the command does by it what the README shows, in a folder with the examples."""
         self.assertEqual(program.read_bytes(), Path(PROGRAM).read_bytes())
         lines = (TOP / "examples/shop/read.jsonl").read_text(encoding="utf-8")
-        self.assertEqual(ran([program, *READ], cwd=folder, env=BARE), lines)
+        self.assertEqual(ran([command, *READ], cwd=folder, env=BARE), lines)
         for words in shell_lines():
-            self.assertEqual(ran([program, *words], cwd=folder, env=BARE), ran([PROGRAM, *words], cwd=TOP))
+            self.assertEqual(ran([command, *words], cwd=folder, env=BARE), ran([PROGRAM, *words], cwd=TOP))
+        for words in (["read", "a b", ""], ["history", "--key"], ["transactions", "--profile=x", "f"], ["reed"], []):
+            wanted = subprocess.run(["binlogfeed", *words], executable=PROGRAM, cwd=folder, env=BARE, capture_output=True, check=False)
+            for asks, said in ((None, lambda text: text.partition(b"\n")[0] + b"\n"), ("0", lambda text: text)):
+                environment = BARE if asks is None else {**BARE, "BINLOGFEED_HINTS": asks}
+                came = subprocess.run([command, *words], cwd=folder, env=environment, capture_output=True, check=False)
+                self.assertEqual((came.returncode, came.stdout), (wanted.returncode, wanted.stdout), words)
+                self.assertEqual(said(came.stderr), wanted.stderr, words)
+                self.assertEqual(asks is None, came.stderr != wanted.stderr, words)
+        self.judge_place(command, program, folder)
+
+    def judge_place(self, command, program, folder):
+        """The program takes the place of the command."""
+        log = folder / "examples/shop/binlog.000001"
+        options = {"stdin": subprocess.PIPE, "stdout": subprocess.PIPE, "env": BARE}
+        with running([command, "read", "--follow", "--only-tables=none", log], **options) as process:
+            self.assertEqual(process.stdout.readline(), b"\n")
+            self.assertEqual(Path(f"/proc/{process.pid}/exe").resolve(), program.resolve())
+            process.stdin.close()
+            self.assertEqual(process.wait(), 0)
+
+    def judge_commands(self, command, program, folder, **environment):
+        """What is in Python is there by the same command, and takes the same program."""
+        environment, room = {**BARE, **environment}, Path(tempfile.mkdtemp(dir=self.room))
+        logs = "examples/shop/binlog.*"
+        digest = hashlib.sha256(program.read_bytes()).hexdigest()
+        said = ran([command, "--version"], env=environment, cwd=folder)
+        self.assertEqual(said, f"binlogfeed {self.version()}\nprogram {program.resolve()}, sha256 {digest}\n")
+        told = ran([command, "--help"], env=environment, cwd=folder)
+        self.assertEqual([ran([command, word], env=environment, cwd=folder) for word in ("-h", "help")], [told, told])
+        for name in ["read", "history", "transactions", *IN_PYTHON]:
+            self.assertRegex(told, rf"(?m)^  {name} +[A-Z]")
+            usage = ran([command, name, "--help"], env=environment, cwd=folder)
+            self.assertRegex(usage, rf"(?m)^[Uu]sage: binlogfeed {name} \[")
+            self.assertEqual(ran([command, "help", name], env=environment, cwd=folder), usage)
+        words = [command, "follow", "--once", "--state", room / "state", logs]
+        ended = subprocess.run(words, env=environment, cwd=folder, capture_output=True, text=True, check=False)
+        self.assertEqual((ended.returncode, ended.stdout), (0, (TOP / "examples/shop/read.jsonl").read_text(encoding="utf-8")))
+        ended = subprocess.run([*words, "--only-events=x"], env=environment, cwd=folder, capture_output=True, text=True, check=False)
+        self.assertEqual((ended.returncode, ended.stdout), (2, ""))
+        self.assertIn("binlogfeed: bad --only-events: x\nhint: --only-events takes insert, update and delete, ", ended.stderr)
+        wanted = (TOP / "examples/shop/summary.txt").read_text(encoding="utf-8")
+        self.assertEqual(ran([command, "summary", logs], env=environment, cwd=folder), wanted)
+        made = sqlite3.connect(room / "shop.db")
+        made.executescript((TOP / "examples/replica/shop.sql").read_text(encoding="utf-8"))
+        words = [command, "replica", f"sqlite:{room}/shop.db", "shop", logs]
+        ended = subprocess.run(words, env=environment, cwd=folder, capture_output=True, text=True, check=False)
+        self.assertEqual((ended.returncode, ended.stdout), (0, ""), ended.stderr)
+        self.assertEqual(made.execute("select id, total from purchase order by id").fetchall(), [(1, "9.80"), (3, "35.55")])
+        made.close()
 
     def judge_python(self, command, folder, **environment):
         """The package says its version, and the README's example finds the program and runs."""
@@ -171,7 +225,8 @@ class Made(Package):
         self.assertEqual(rows[-1], [f"{info}/RECORD", "", ""])
         sources = {name.removeprefix("python/") for name, data in self.before.items() if data is not None}
         package = {name for name in sources if name.startswith("binlogfeed/")}
-        self.assertEqual({name for name in content if name.startswith("binlogfeed/")}, package)
+        beside = {"binlogfeed/libexec/binlogfeed", *(f"binlogfeed/libexec/replica/{path.name}" for path in REPLICA.parent.glob("*.py"))}
+        self.assertEqual({name for name in content if name.startswith("binlogfeed/")}, package | beside)
 
     def test_one_time(self):
         """All that is packed has one time, which may be given."""
@@ -234,16 +289,41 @@ class Archive(Package):
     """The .tar.gz."""
 
     def test_commands(self):
-        self.judge_program(self.unpacked / "binlogfeed", self.unpacked)
+        command, program = self.unpacked / "binlogfeed", self.unpacked / "libexec/binlogfeed"
+        self.judge_program(command, program, self.unpacked)
         path = f"{self.unpacked}:{BARE['PATH']}"
         self.judge_python([sys.executable], self.unpacked, PYTHONPATH=str(self.unpacked / "python"), PATH=path)
+        (self.room / "python").mkdir()
+        (self.room / "python/python3").symlink_to(sys.executable)
+        path = f"{self.room}/python:{BARE['PATH']}"
+        self.judge_commands(command, program, self.unpacked, PATH=path)
+        # By a link, too, and where the folder has modules of other names.
+        (self.room / "link").symlink_to(command)
+        (self.room / "argparse.py").write_text("raise SystemExit(9)")
+        self.assertEqual(ran([self.room / "link", "--version"], cwd=self.room, env={**BARE, "PATH": path})[:11], "binlogfeed ")
+
+    def test_without_python(self):
+        """What the program does needs none; the rest says that it is missing."""
+        folder = self.room / "tools"
+        folder.mkdir()
+        for name in ("dirname", "readlink"):
+            (folder / name).symlink_to(shutil.which(name))
+        environment = {**BARE, "PATH": str(folder)}
+        command = self.unpacked / "binlogfeed"
+        self.assertEqual(ran([command, *READ], cwd=TOP, env=environment), (TOP / "examples/shop/read.jsonl").read_text(encoding="utf-8"))
+        self.assertEqual(ran([command, "--version"], env=environment), f"binlogfeed {self.version()}\n")
+        for words in (["--help"], ["help", "read"]):
+            self.assertEqual(ran([command, *words], env=environment), ran(["binlogfeed", *words], executable=PROGRAM))
+        ended = subprocess.run([command, "follow"], env=environment, capture_output=True, text=True, check=False)
+        said = "binlogfeed: follow is none of read, history and transactions, and all else needs python3, which isn't there\n"
+        self.assertEqual((ended.returncode, ended.stdout, ended.stderr), (70, "", said))
 
     def test_content(self):
         """It has what the checkout has, at the same places, and the program, its manual page and its completions."""
         content = {name for name, data in tree(self.unpacked).items() if data is not None}
         sources = {name for name, data in self.before.items() if data is not None and not name.startswith("packaging/")}
         completions = {"share/bash-completion/completions/binlogfeed", "share/zsh/vendor-completions/_binlogfeed"}
-        self.assertEqual(content - sources, {"binlogfeed", "share/man/man1/binlogfeed.1.gz", *completions})
+        self.assertEqual(content - sources, {"binlogfeed", "libexec/binlogfeed", "share/man/man1/binlogfeed.1.gz", *completions})
         for name in sources:
             self.assertEqual((self.unpacked / name).read_bytes(), self.before[name])
             self.assertEqual(os.access(self.unpacked / name, os.X_OK), os.access(TOP / name, os.X_OK), name)
@@ -254,10 +334,14 @@ class Debian(Package):
 
     def test_commands(self):
         documents = self.room / "deb/usr/share/doc/binlogfeed"
-        self.judge_program(self.program, documents)
+        self.judge_program(self.command, self.program, documents)
         packages = str(self.room / "deb/usr/lib/python3/dist-packages")
-        path = f"{self.program.parent}:{BARE['PATH']}"
+        path = f"{self.command.parent}:{BARE['PATH']}"
         self.judge_python([sys.executable], documents, PYTHONPATH=packages, PATH=path)
+
+    @unittest.skipUnless(os.access("/usr/bin/python3", os.X_OK), "there is no /usr/bin/python3 (apt-get install python3)")
+    def test_commands_in_python(self):
+        self.judge_commands(self.command, self.program, self.room / "deb/usr/share/doc/binlogfeed")
 
     def test_fields(self):
         wanted = {"Package": "binlogfeed", "Version": self.version(), "Architecture": "amd64"}
@@ -269,7 +353,8 @@ class Debian(Package):
         """All is root's, all may be read, and what runs may be run."""
         lines = ran(["dpkg-deb", "--contents", self.deb]).splitlines()
         runs = [line.split()[5] for line in lines if line.startswith("-rwxr-xr-x root/root ")]
-        self.assertLessEqual({"./usr/bin/binlogfeed", "./usr/lib/binlogfeed/whole_lines.py"}, set(runs))
+        own = {"./usr/bin/binlogfeed", "./usr/lib/binlogfeed/binlogfeed", "./usr/lib/binlogfeed/whole_lines.py"}
+        self.assertLessEqual(own, set(runs))
         for line in lines:
             self.assertRegex(line, r"^(drwxr-xr-x|-rw[x-]r-[x-]r-[x-]) root/root ")
 
@@ -279,12 +364,14 @@ class Debian(Package):
         self.assertEqual({path.name for path in (self.room / "control").iterdir()}, {"control", "postinst", "prerm"})
         installed = self.room / "installed"
         shutil.copytree(self.room / "deb/usr/lib/python3/dist-packages", installed)
+        shutil.copytree(self.room / "deb/usr/lib/binlogfeed", installed / "lib")
         before = tree(installed)
         for folder in {path.parent for path in installed.rglob("*.py")}:
             (folder / "__pycache__").mkdir()
             (folder / "__pycache__/reader.pyc").touch()
         script = (self.room / "control/prerm").read_text(encoding="utf-8")
-        ran(["sh", "-c", script.replace("/usr/lib/python3/dist-packages", str(installed))])
+        script = script.replace("/usr/lib/python3/dist-packages", str(installed)).replace("/usr/lib/binlogfeed", f"{installed}/lib")
+        ran(["sh", "-c", script])
         self.assertEqual(tree(installed), before)
         for name in ("postinst", "prerm"):
             self.assertTrue(os.access(self.room / "control" / name, os.X_OK))
@@ -343,6 +430,11 @@ class Installed(Package):
         """Installs a package for the time of a test."""
         self.pip("install", "--no-deps", "--force-reinstall", *words)
 
+    def libexec(self):
+        """The folder of the program, in the venv."""
+        code = "import sysconfig; print(sysconfig.get_path('platlib'))"
+        return Path(ran([*self.python, "-c", code], env=BARE).strip(), "binlogfeed/libexec")
+
     def tearDown(self):
         """Takes it away again."""
         subprocess.run([*self.python, "-m", "pip", "uninstall", "--yes", "binlogfeed"], capture_output=True, check=False)
@@ -350,8 +442,10 @@ class Installed(Package):
     def test_wheel(self):
         empty = set(tree(self.venv))
         self.install(self.wheel)
-        self.judge_program(self.venv / "bin/binlogfeed", TOP)
+        command, program = self.venv / "bin/binlogfeed", self.libexec() / "binlogfeed"
+        self.judge_program(command, program, TOP)
         self.judge_python(self.python, TOP)
+        self.judge_commands(command, program, TOP)
         self.pip("check")
         self.pip("uninstall", "--yes", "binlogfeed")
         self.assertEqual({name for name in tree(self.venv) if "__pycache__" not in name} - empty, set())
@@ -361,7 +455,7 @@ class Installed(Package):
         for words in (["--no-build-isolation"], ["--editable"], []):
             self.install(*words, self.checkout / "python")
             self.assertEqual(tree(self.checkout), self.before, words)
-            self.judge_python(self.python, TOP, PATH=f"{self.program.parent}:{BARE['PATH']}")
+            self.judge_python(self.python, TOP, PATH=f"{self.command.parent}:{BARE['PATH']}")
         place = ran([*self.python, "-c", "print(__import__('binlogfeed').__file__)"], env=BARE)
         self.assertTrue(Path(place).is_relative_to(self.venv), place)
 
@@ -382,19 +476,20 @@ class Installed(Package):
         (other / "binlogfeed").chmod(0o755)
         code = "from binlogfeed.program import found; print(found('binlogfeed'), found('./binlogfeed'), found('sh'))"
         shown = ran([*self.python, "-c", code], env={**BARE, "PATH": f"{other}:{BARE['PATH']}"}, cwd=other)
-        self.assertEqual(shown.split(), [str(self.venv / "bin/binlogfeed"), "./binlogfeed", "sh"])
+        self.assertEqual(shown.split(), [str(self.libexec() / "binlogfeed"), "./binlogfeed", "sh"])
 
 
 def help_of(name):
-    """The help of a subcommand, or of the program alone (`""`)."""
-    return ran(["binlogfeed", *name.split(), "--help"], executable=PROGRAM)
+    """The help of a subcommand, or of the command alone (`""`)."""
+    command = [sys.executable, TOP / "python/command.py", PROGRAM, REPLICA, *name.split(), "--help"]
+    return ran(command, env={**os.environ, "COLUMNS": "10000"})
 
 
 def helps():
-    """The options of each subcommand, and of the program alone (`""`), as its help has them."""
+    """The options of each subcommand, and of the command alone (`""`), as its help has them."""
     def options(name):
-        part = help_of(name).partition("\nOptions:\n")[2].partition("\n\n")[0]
-        return set(re.findall(r"(?m)^ {2}(?: {4}|-\w, )(--[\w-]+)", part))
+        part = re.split(r"\n(?:Options|options|optional arguments):\n", help_of(name))[1].partition("\n\n")[0]
+        return set(re.findall(r"(?m)^ {2}(?: {4}|-\w, )?(--[\w-]+)", part))
 
     part = help_of("").partition("\nCommands:\n")[2].partition("\n\n")[0]
     commands = re.findall(r"(?m)^ {2}(\w+) ", part)
@@ -402,7 +497,7 @@ def helps():
 
 
 class FromHelp(Package):
-    """The manual page and the completions, which are made from the program's help."""
+    """The manual page and the completions, which are made from the help of the command."""
 
     @classmethod
     def setUpClass(cls):
@@ -416,9 +511,11 @@ class FromHelp(Package):
 
     def test_helps(self):
         """The tests below see what there is to see."""
-        self.assertLessEqual({"", "read", "history", "transactions"}, set(self.helps))
+        self.assertLessEqual({"", "read", "history", "transactions", *IN_PYTHON}, set(self.helps))
         self.assertLessEqual({"--help", "--from", "--only-tables", "--follow"}, self.helps["read"])
-        self.assertEqual(self.helps[""], {"--help"})
+        self.assertLessEqual({"--help", "--state", "--begin", "--profile"}, self.helps["follow"])
+        self.assertLessEqual({"--help", "--columns", "--commit-every"}, self.helps["replica"])
+        self.assertEqual(self.helps[""], {"--help", "--version"})
 
     def test_manual(self):
         """Each subcommand has its part, with all that its help says."""
@@ -428,8 +525,11 @@ class FromHelp(Package):
         for name, options in self.helps.items():
             part = page if not name else page.partition(f"\n.SH BINLOGFEED {name.upper()}\n")[2].partition("\n.SH ")[0]
             for option in options:
-                self.assertRegex(part, rf"(?m)^\.TP\n\.B (-\w, )?{option}( <\w+>)?\n\S")
-            for line in help_of(name).splitlines():
+                self.assertRegex(part, rf"(?m)^\.TP\n\.B (-\w, )?{option}( <[\w|]+>)?\n\S")
+            if name in IN_PYTHON:
+                self.assertRegex(part, rf"\n\.B binlogfeed {name} \[OPTIONS\] ")
+                self.assertNotIn("replica.py", part)
+            for line in [] if name in IN_PYTHON else help_of(name).splitlines():
                 if line not in ("Commands:", "Arguments:", "Options:"):
                     for piece in re.split(r" {2,}", line.removeprefix("Usage: ").strip()):
                         self.assertIn(piece.rstrip(":").lower(), part.lower())
@@ -454,9 +554,10 @@ class FromHelp(Package):
         return shown.split()
 
     def test_bash(self):
-        self.assertEqual(self.offered("re"), ["read"])
+        self.assertEqual(self.offered("rea"), ["read"])
+        self.assertEqual(self.offered("fo"), ["follow"])
         self.assertEqual(self.offered("read", "--on"), ["--only-events", "--only-tables", "--only-schemas"])
-        self.assertEqual(set(self.offered("")), {*self.helps, "help", "-h", "--help"} - {""})
+        self.assertEqual(set(self.offered("")), {*self.helps, "help", "-h", "--help", "--version"} - {""})
         self.assertEqual(set(self.offered("help", "")), {*self.helps, "help"} - {""})
         for name in self.helps.keys() - {""}:
             self.assertEqual(set(self.offered(name, "-")), {*self.helps[name], "-h"})
@@ -499,7 +600,8 @@ class FromHelp(Package):
 
     # What is typed, and what the program is then given. A tab completes.
     TYPED = (
-        ("binlogfeed re\t", ["read"]),
+        ("binlogfeed rea\t", ["read"]),
+        ("binlogfeed fol\t--state binl\t", ["follow", "--state", "binlog.000001"]),
         ("binlogfeed tr\tbinl\t", ["transactions", "binlog.000001"]),
         ("binlogfeed read --fo\tbinl\t", ["read", "--follow", "binlog.000001"]),
         ("binlogfeed history --sch\tshop --k\t1 two\t", ["history", "--schema", "shop", "--key", "1", "two words"]),

@@ -24,7 +24,7 @@ def add_summary(commands: Any) -> None:
     """Gives the command line the command."""
     parser: argparse.ArgumentParser = commands.add_parser(
         "summary",
-        help="say what happened in logs: changes by table and time, transactions by size, gaps in GTIDs",
+        help="says what happened in logs: changes by table and time, transactions by size, gaps in GTIDs",
         epilog=HELP,
         formatter_class=argparse.RawDescriptionHelpFormatter,
     )
