@@ -184,7 +184,8 @@ class Minimal(FolderTest):
         self.assertIn("8 changes in 7 transactions", told)
         self.assertRegex(told, r"d\.t +2 +1 +1 +4 ")
         strict = subprocess.run([*command, "--profile", "strict", LOG], env=environment, capture_output=True, text=True, check=False)
-        self.assertEqual((strict.returncode, without_beginning(strict.stderr)), (1, STRICT))
+        self.assertEqual((strict.returncode, without_hints(strict.stderr)), (1, STRICT))
+        self.assertIn("\nhint: the names of the columns aren't in the log: read it with --profile server, ", strict.stderr)
         self.assertIn("0 changes", strict.stdout)
 
 
