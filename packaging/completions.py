@@ -51,11 +51,16 @@ def names_of(options: list[Item]) -> str:
     return " ".join(name for option in options for name in option.names)
 
 
+def valued(options: list[Item]) -> list[Item]:
+    """Those that take a value of which nothing is known. The path of a file is completed."""
+    return [option for option in options if option.value and not option.names_a_file]
+
+
 def bash(program: Program) -> str:
     """The completion for bash."""
     cases = "".join(
         f"    {name})\n        words={shlex.quote(names_of(said.options))}\n"
-        f"        valued={shlex.quote(names_of([option for option in said.options if option.value and not option.names_a_file]))}\n        ;;\n"
+        f"        valued={shlex.quote(names_of(valued(said.options)))}\n        ;;\n"
         for name, said in program.commands.items()
     )
     commands = " ".join(command.words for command in program.top.commands)

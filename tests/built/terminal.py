@@ -339,8 +339,8 @@ RUNS = (
         ["read", "--follow", "log"],
         3,
         "file shorter: log",
-        "hint: the server lost the file's end when its machine lost power or crashed (with sync_binlog=1, too): lines were written of what it "
-        "lost\n",
+        "hint: the server lost the file's end when its machine lost power or crashed (with sync_binlog=1, too): "
+        "lines were written of what it lost\n",
         b"less/log\n\n",
     ),
     Case(["read", "--follow", "log", "logs/log"], 2, "duplicate file log", ONE_NAME),

@@ -40,7 +40,8 @@ def judge_version(program: Path, folder: Path) -> list[str]:
     """The version is that of the package, with the program that is run."""
     version = (PROGRAM.parent / "python/binlogfeed/version.py").read_text(encoding="utf-8").split('"')[-2]
     digest = hashlib.sha256(BUILT.read_bytes()).hexdigest()
-    return differs(run_wrapper(program, ["--version"], folder), Wanted(0, f"binlogfeed {version}\nprogram {BUILT}, sha256 {digest}\n".encode()))
+    wanted = f"binlogfeed {version}\nprogram {BUILT}, sha256 {digest}\n"
+    return differs(run_wrapper(program, ["--version"], folder), Wanted(0, wanted.encode()))
 
 
 def judge_follow(program: Path, folder: Path) -> list[str]:

@@ -156,14 +156,15 @@ class Hints(CommandTest):
 
     def test_lines_and_hints(self):
         """What the program says is parted into the wrapper's lines, its own and the hints, whatever a file's name has."""
-        said = "binlogfeed: built in 900 seconds\nbinlogfeed: log fault at a:1: Xa:0: BadMagic\nhint: it is an index\nhint: the file is /b/a:1: Xa"
-        fault = told(said, 1)
+        line, wrapper = "binlogfeed: log fault at a:1: Xa:0: BadMagic", "binlogfeed: built in 900 seconds"
+        fault = told(f"{wrapper}\n{line}\nhint: it is an index\nhint: the file is /b/a:1: Xa", 1)
         self.assertIsInstance(fault, LogFault)
         self.assertEqual((fault.file, fault.position, fault.what), ("a:1: Xa", 0, "BadMagic"))
-        self.assertEqual(fault.line, "binlogfeed: log fault at a:1: Xa:0: BadMagic")
+        self.assertEqual(fault.line, line)
         self.assertEqual(fault.hints, ("it is an index", "the file is /b/a:1: Xa"))
-        refused = told("binlogfeed: command line refused\nerror: unexpected argument '--ful' found\n\n  tip: there is --full\n\nTry 'binlogfeed'", 2)
-        self.assertEqual((refused.line, refused.hints), ("binlogfeed: command line refused", ("unexpected argument '--ful' found",)))
+        line, wrong = "binlogfeed: command line refused", "unexpected argument '--ful' found"
+        refused = told(f"{line}\nerror: {wrong}\n\n  tip: there is --full\n\nTry 'binlogfeed --help'", 2)
+        self.assertEqual((refused.line, refused.hints), (line, (wrong,)))
         plain = told("binlogfeed: cannot open a", 4)
         self.assertEqual((plain.line, plain.hints), ("binlogfeed: cannot open a", ()))
 
