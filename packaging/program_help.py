@@ -88,7 +88,8 @@ def asked(program: Path, *words: str) -> Help:
 
 def with_value(item: Item) -> Item:
     """An option of argparse's as the program's help has it: its value in brackets."""
-    words = re.sub(r"(--[\w-]+) \{?([^\s{}]+)\}?$", lambda it: f"{it[1]} <{it[2].replace(',', '|')}>", item.words)
+    words = re.sub(r"(-\w) [^\s,]+, ", r"\1, ", item.words)
+    words = re.sub(r"(--[\w-]+) \{?([^\s{}]+)\}?$", lambda it: f"{it[1]} <{it[2].replace(',', '|')}>", words)
     return Item(words, item.about[:1].upper() + item.about[1:])
 
 
