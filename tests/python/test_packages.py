@@ -28,7 +28,8 @@ SET_ASIDE = ("PYTHON", "PIP_", "SOURCE_DATE_EPOCH")
 USUAL = {name: value for name, value in os.environ.items() if not name.startswith(SET_ASIDE)}
 BARE = {"HOME": "/nonexistent", "LC_ALL": "C.UTF-8", "PATH": "/usr/bin:/bin", "PYTHONDONTWRITEBYTECODE": "1"}
 REPLICA = TOP / "examples/replica/replica.py"
-# The commands that are in Python. The tests below see that help, manual page and completions have these, and whatever else there is.
+# The program's own commands, and those in Python that there are at least.
+OF_PROGRAM = ["read", "history", "transactions"]
 IN_PYTHON = ["follow", "summary", "replica"]
 
 
@@ -139,7 +140,7 @@ class Package(unittest.TestCase):
         self.assertEqual(said, f"binlogfeed {self.version()}\nprogram {program.resolve()}, sha256 {digest}\n")
         told = ran([command, "--help"], env=environment, cwd=folder)
         self.assertEqual([ran([command, word], env=environment, cwd=folder) for word in ("-h", "help")], [told, told])
-        for name in ["read", "history", "transactions", *IN_PYTHON]:
+        for name in [*OF_PROGRAM, *IN_PYTHON]:
             self.assertRegex(told, rf"(?m)^  {name} +[A-Z]")
             usage = ran([command, name, "--help"], env=environment, cwd=folder)
             self.assertRegex(usage, rf"(?m)^[Uu]sage: binlogfeed {name} \[")
@@ -511,7 +512,7 @@ class FromHelp(Package):
 
     def test_helps(self):
         """The tests below see what there is to see."""
-        self.assertLessEqual({"", "read", "history", "transactions", *IN_PYTHON}, set(self.helps))
+        self.assertLessEqual({"", *OF_PROGRAM, *IN_PYTHON}, set(self.helps))
         self.assertLessEqual({"--help", "--from", "--only-tables", "--follow"}, self.helps["read"])
         self.assertLessEqual({"--help", "--state", "--begin", "--profile"}, self.helps["follow"])
         self.assertLessEqual({"--help", "--columns", "--commit-every"}, self.helps["replica"])
@@ -526,10 +527,10 @@ class FromHelp(Package):
             part = page if not name else page.partition(f"\n.SH BINLOGFEED {name.upper()}\n")[2].partition("\n.SH ")[0]
             for option in options:
                 self.assertRegex(part, rf"(?m)^\.TP\n\.B (-\w, )?{option}( <[\w|]+>)?\n\S")
-            if name in IN_PYTHON:
+            if name and name not in OF_PROGRAM:
                 self.assertRegex(part, rf"\n\.B binlogfeed {name} \[OPTIONS\] ")
                 self.assertNotIn("replica.py", part)
-            for line in [] if name in IN_PYTHON else help_of(name).splitlines():
+            for line in help_of(name).splitlines() if name in ["", *OF_PROGRAM] else []:
                 if line not in ("Commands:", "Arguments:", "Options:"):
                     for piece in re.split(r" {2,}", line.removeprefix("Usage: ").strip()):
                         self.assertIn(piece.rstrip(":").lower(), part.lower())
