@@ -7,12 +7,13 @@ import signal
 import sys
 import threading
 import time
-from collections.abc import Sequence
+from functools import partial
 from pathlib import Path
 from typing import Any
 
 from binlogfeed import begin
 from binlogfeed.begin import FIRST
+from binlogfeed.debezium import NAME, lines_of
 from binlogfeed.faults import BinlogfeedError
 from binlogfeed.filters import add_filters, add_profile, filter_words
 from binlogfeed.follow import Follower
@@ -23,7 +24,7 @@ from binlogfeed.version import VERSION
 # A look that goes on when SIGTERM comes has so many seconds to come to its end.
 GRACE = 5.0
 PAUSE = 0.1
-CALLED = "python3 -m binlogfeed"
+FORMATS = PLAIN, FULL, DEBEZIUM = ("plain", "full", "debezium")
 # Ends a write of the main thread. The system itself ignores it, so it does no harm where it comes too late.
 ENDS_WRITES = signal.SIGURG
 ABOUT = "Follows the binary logs of a MySQL server, or says what happened in logs."
@@ -61,7 +62,9 @@ def add_follow(commands: Any) -> None:
     parser.add_argument("--lag", metavar="SECONDS", type=lag_seconds, default=0.0, help=LAG_HELP)
     parser.add_argument("--status", metavar="SECONDS", type=seconds, help="say on standard error how far it is, so often")
     parser.add_argument("--program", metavar="PATH", default="binlogfeed", help="the program (binlogfeed)")
-    parser.add_argument("--full", action="store_true", help="print full lines")
+    parser.add_argument("--format", choices=FORMATS, default=PLAIN, help="what is printed: plain lines, full ones, or Debezium's (plain)")
+    parser.add_argument("--full", dest="format", action="store_const", const=FULL, help="print full lines")
+    parser.add_argument("--name", metavar="NAME", default=NAME, help=f"what Debezium's lines call the source ({NAME})")
     add_profile(parser)
     add_filters(parser)
     parser.set_defaults(run=follow)
@@ -69,9 +72,10 @@ def add_follow(commands: Any) -> None:
 
 def follow(given: argparse.Namespace) -> None:
     """Prints lines until something ends it, or the logs end."""
-    words = [*(["--full"] if given.full else []), f"--profile={given.profile}", *filter_words(given)]
+    words = [*([] if given.format == PLAIN else ["--full"]), f"--profile={given.profile}", *filter_words(given)]
     begin.say_on_standard_error("binlogfeed")
-    follower = Follower(given.logs, given.state, words, given.program, begin=given.begin, lag=given.lag)
+    form = partial(lines_of, name=given.name) if given.format == DEBEZIUM else None
+    follower = Follower(given.logs, given.state, words, given.program, begin=given.begin, lag=given.lag, form=form)
     stopped = threading.Event()
     if given.once:
         stopped.set()

@@ -7,6 +7,7 @@ from collections.abc import Iterator
 from typing import Any, NamedTuple, Optional, TextIO, Union
 
 from binlogfeed.as_json import json_of
+from binlogfeed.debezium import NAME, Names, Record, records_of
 from binlogfeed.lines import Form, Image, Parts
 from binlogfeed.tokens import are_of_one_transaction, token_parts
 from binlogfeed.values import Column
@@ -60,6 +61,10 @@ class Event:
         """The event as a line of JSON. Values that JSON hasn't are told as binlogfeed.as_json says."""
         return json_of(self._members())
 
+    def to_debezium(self, name: str = NAME) -> list[Record]:
+        """The event as Debezium tells it, by the name of its source: the values of its records. There is none but of rows."""
+        return []
+
     def _members(self) -> dict[str, Any]:
         """What `to_json` tells of this kind of event."""
         return {
@@ -94,7 +99,7 @@ class Event:
 class RowsEvent(Event):
     """Changes of one or more rows of a table, of one kind and of one transaction, which stand together."""
 
-    __slots__ = ("rows", "_form")
+    __slots__ = ("rows", "lines", "_form")
 
     # As the lines have it, and what `dump` calls the rows.
     kind = ""
@@ -102,8 +107,10 @@ class RowsEvent(Event):
 
     def __init__(self, change: Parts) -> None:
         """The event of a change."""
-        self._form, before, after, self.timestamp, self.gtid, self.token, self.committed = change
+        self._form, before, after, self.timestamp, self.gtid, self.token, self.committed, line = change
         self.rows: list[dict[str, Any]] = [self._row(before, after)]
+        # The full line of each row, where the reader keeps them.
+        self.lines: Optional[list[bytes]] = None if line is None else [line]
 
     @staticmethod
     def _row(before: Image, after: Image) -> dict[str, Any]:
@@ -112,7 +119,7 @@ class RowsEvent(Event):
 
     def takes(self, change: Parts) -> bool:
         """Takes a change that stands behind those of the event, where it is one more row of the same. Answers whether it is."""
-        form, before, after, timestamp, _, token, _ = change
+        form, before, after, timestamp, _, token, _, line = change
         if (
             form is not self._form
             or timestamp != self.timestamp
@@ -121,6 +128,8 @@ class RowsEvent(Event):
         ):
             return False
         self.rows.append(self._row(before, after))
+        if self.lines is not None and line is not None:
+            self.lines.append(line)
         self.token = token
         return True
 
@@ -165,6 +174,17 @@ class RowsEvent(Event):
         if len(self.rows) != 1:
             raise ValueError(f"the event has {len(self.rows)} rows: take them from `rows`, or have the reader give one by one (`together=False`)")
         return self.rows[0]
+
+    def to_debezium(self, name: str = NAME) -> list[Record]:
+        """The event as Debezium tells it, by the name of its source: a record for each row, two where an update changes the key.
+
+        The values are those of the lines, whatever the reader was asked to make of them.
+        """
+        if self.lines is None:
+            raise ValueError("to_debezium needs the event's lines: give the reader keep_lines=True")
+        form = self._form
+        names = Names(form.names, form.words, form.key) if form.names else None
+        return [record for line in self.lines for record in records_of(line, name, names)]
 
     def _members(self) -> dict[str, Any]:
         """The table, and each row as it was and as it is then, too."""

@@ -7,7 +7,7 @@ import os
 import sys
 import threading
 import time
-from collections.abc import Iterable, Sequence
+from collections.abc import Callable, Iterable, Sequence
 from pathlib import Path
 from typing import BinaryIO, TextIO
 
@@ -39,10 +39,12 @@ class Follower:
         out: BinaryIO | None = None,
         begin: str = FIRST,
         lag: float = 0.0,
+        form: Callable[[bytes], bytes] | None = None,
     ) -> None:
         """A follower of the logs at a place (an index, its folder, or a pattern), which keeps its own place in a file.
 
         Where there is no such file yet, `begin` says where it begins. No line comes earlier than `lag` seconds after it was seen.
+        `form` makes what is printed of the program's lines.
         """
         self._logs = place
         self._state = state
@@ -51,6 +53,7 @@ class Follower:
         self._lock = _locked(state)
         self._kept = read_state(state)
         self._watch = Watch(place, [program, "read", "--follow", *words], self._kept, begin, str(state), lag)
+        self._form = form
         self._said_none = False
         self._writing = False
 
@@ -121,7 +124,7 @@ class Follower:
         """Writes whole lines. Within a long look the place is kept, too."""
         written, due = 0, time.monotonic() + KEEP_SECONDS
         for lines in blocks:
-            self._write(lines)
+            self._write(lines if self._form is None else self._form(lines))
             written += len(lines)
             if written >= KEEP_BYTES or time.monotonic() >= due:
                 self._keep()

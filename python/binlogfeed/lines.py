@@ -60,7 +60,7 @@ class Step(NamedTuple):
 class Form:
     """What many lines say alike: the table with its key and columns, and the kind of the change; with what makes Python's values."""
 
-    __slots__ = ("kind", "schema", "table", "columns", "key", "names", "has_documents", "always", "with_bytes")
+    __slots__ = ("kind", "schema", "table", "columns", "key", "names", "words", "has_documents", "always", "with_bytes")
 
     def __init__(self, said: str, style: Style, convert: Mapping[str, Convert], tables: Tables) -> None:
         """The form of a part of a line. `convert` has the caller's own conversions, and `tables` the columns that it gives."""
@@ -78,6 +78,8 @@ class Form:
         self.key: tuple[str, ...] = fit.key
         # The names that a line has, each with that which was given.
         self.names = fit.names
+        # What makes names of the numbers of an ENUM or a SET, by the column's name in the line.
+        self.words = fit.words
         # Documents may have numbers that no float holds.
         self.has_documents = any(map(is_document, self.columns))
         chosen: dict[str, Convert] = {}
@@ -112,18 +114,19 @@ class Form:
 
 
 # A change of a row, as its line has it, with Python's values: the form, the row before and after, the timestamp, the GTID, the
-# token, and the time of the commit. There is one for each line, and a tuple is made five times as fast as an object.
-Parts = tuple[Form, Image, Image, int, Optional[str], str, Optional[int]]
+# token, the time of the commit, and the line itself where it is kept. There is one for each line, and a tuple is made five times as
+# fast as an object.
+Parts = tuple[Form, Image, Image, int, Optional[str], str, Optional[int], Optional[bytes]]
 
 
 class Change:
     """A change's parts by their names, for who doesn't need them so fast."""
 
-    __slots__ = ("form", "before", "after", "timestamp", "gtid", "token", "committed")
+    __slots__ = ("form", "before", "after", "timestamp", "gtid", "token", "committed", "line")
 
     def __init__(self, parts: Parts) -> None:
         """The change of these parts."""
-        self.form, self.before, self.after, self.timestamp, self.gtid, self.token, self.committed = parts
+        self.form, self.before, self.after, self.timestamp, self.gtid, self.token, self.committed, self.line = parts
 
 
 def loads_exactly(text: bytes) -> Any:
@@ -138,8 +141,10 @@ def exact_images(text: str) -> tuple[Image, Image]:
     return after, before
 
 
-def reader_of_lines(style: Style, convert: Mapping[str, Convert], tables: Tables | None = None) -> Callable[[bytes], Parts]:
-    """What takes a line apart, with values in this style.
+def reader_of_lines(
+    style: Style, convert: Mapping[str, Convert], tables: Tables | None = None, keep_lines: bool = False
+) -> Callable[[bytes], Parts]:
+    """What takes a line apart, with values in this style, and keeps it where it is asked to.
 
     `convert` has the caller's own conversions, by `table.column` or `schema.table.column`, and `tables` the columns that it gives.
     """
@@ -203,7 +208,7 @@ def reader_of_lines(style: Style, convert: Mapping[str, Convert], tables: Tables
             for place in nulls:
                 image, _, column = place.partition(".")
                 (after if image == "after" else before)[column] = json_null
-        return form, before, after, timestamp, gtid, token, committed
+        return form, before, after, timestamp, gtid, token, committed, line if keep_lines else None
 
     return with_names(taken_apart) if tables else taken_apart
 
@@ -214,14 +219,14 @@ def with_names(taken_apart: Callable[[bytes], Parts]) -> Callable[[bytes], Parts
     def named(line: bytes) -> Parts:
         """The parts of a line's change. Its rows are in the table's order then."""
         try:
-            form, before, after, timestamp, gtid, token, committed = taken_apart(line)
+            form, before, after, timestamp, gtid, token, committed, kept = taken_apart(line)
         except ColumnsMismatch as mismatch:
             raise mismatch.at(json.loads(b"{" + line[line.rindex(TIMESTAMP_BYTES) + 1 :])["token"]) from None
         names = form.names
         if names:
             before = before and {name: before[own] for own, name in names if own in before}
             after = after and {name: after[own] for own, name in names if own in after}
-        return form, before, after, timestamp, gtid, token, committed
+        return form, before, after, timestamp, gtid, token, committed, kept
 
     return named
 

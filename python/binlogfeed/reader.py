@@ -59,6 +59,7 @@ class BinLogStreamReader(Generic[Given]):
     - `naive_timestamps`: whether a TIMESTAMP, which is in UTC, has no time zone.
     - `raw_values`: whether values stay as a full line has them, but for bytes.
     - `json_null`: what a JSON document is that is null, such as `JSON_NULL`. Without it that is None, as NULL is.
+    - `keep_lines`: whether an event has its lines, which `to_debezium` needs.
     - `program`: the program, by its path, or by its name: that installed with this package, or else PATH's.
     - `blocking`: whether the reader waits for more at the logs' end, and goes on when they grow. It looks each `interval`
       seconds.
@@ -93,6 +94,7 @@ class BinLogStreamReader(Generic[Given]):
         naive_timestamps: bool = ...,
         raw_values: bool = ...,
         json_null: Any = ...,
+        keep_lines: bool = ...,
         columns: GivenColumns | None = ...,
         profile: str = ...,
         program: Path = ...,
@@ -127,6 +129,7 @@ class BinLogStreamReader(Generic[Given]):
         naive_timestamps: bool = ...,
         raw_values: bool = ...,
         json_null: Any = ...,
+        keep_lines: bool = ...,
         columns: GivenColumns | None = ...,
         profile: str = ...,
         program: Path = ...,
@@ -160,6 +163,7 @@ class BinLogStreamReader(Generic[Given]):
         naive_timestamps: bool = False,
         raw_values: bool = False,
         json_null: Any = None,
+        keep_lines: bool = False,
         columns: GivenColumns | None = None,
         profile: str = "server",
         program: Path = "binlogfeed",
@@ -195,7 +199,7 @@ class BinLogStreamReader(Generic[Given]):
         self._blocking = blocking
         self._interval = interval
         style = Style(raw_values, naive_timestamps, on_bad_value, json_null)
-        self._taken_apart = reader_of_lines(style, dict(convert or {}), tables_of(columns))
+        self._taken_apart = reader_of_lines(style, dict(convert or {}), tables_of(columns), keep_lines)
         self._run: Union[Run, Watch, None] = None
         self._steps = self._read()
         self._events = self._singly()

@@ -37,6 +37,8 @@ def loops(path: str) -> None:
     both: BinLogStreamReader[Event] = BinLogStreamReader(path, only_events=[RowsEvent, GtidEvent])
     for one in both:
         print(one.rows if isinstance(one, RowsEvent) else one.gtid)
+    for kept in BinLogStreamReader(path, keep_lines=True):
+        print(kept.lines, [record["op"] for record in kept.to_debezium("shop")])
     last = BinLogStreamReader(path).fetchone()
     if last is not None:
         print(last.rows)
