@@ -1,13 +1,16 @@
 """The examples that are one program each: killed at random moments, each gives the bank's rows as its server told them."""
 import json
 import os
+import shutil
+import socket
 import sqlite3
 import subprocess
 import sys
+import time
 import unittest
 
 from killed import Killed, loaded
-from support import PROGRAM, SHOP, TOP, FolderTest, bank_rows
+from support import PROGRAM, SECONDS, SHOP, TOP, FolderTest, bank_rows
 
 SHOP_LOGS = str(SHOP[0].parent / "binlog.0*")
 KEYS = {"account": "id", "journal": "seq"}
@@ -41,11 +44,36 @@ class ExampleTest(FolderTest):
         self.assertEqual(kills.run(), [])
 
 
+def free_port():
+    """A port of this machine that nobody listens at."""
+    with socket.socket() as taken:
+        taken.bind(("127.0.0.1", 0))
+        return taken.getsockname()[1]
+
+
+class ServerTest(ExampleTest):
+    """A test with a server of its own, which listens at a port."""
+
+    def serve(self, *command):
+        """Starts a server, and waits until it listens."""
+        self.server = subprocess.Popen(command, cwd=self.folder, stdout=subprocess.DEVNULL, stderr=subprocess.DEVNULL)
+        self.addCleanup(self.server.wait)
+        self.addCleanup(self.server.kill)
+        until = time.monotonic() + SECONDS
+        while time.monotonic() < until and self.server.poll() is None:
+            try:
+                socket.create_connection(("127.0.0.1", self.port)).close()
+                return
+            except ConnectionRefusedError:
+                time.sleep(0.05)
+        self.fail(f"{command[0]} doesn't listen")
+
+
 class Sizes(unittest.TestCase):
     """The examples are short, and none is left out of their page."""
 
     def test_lines(self):
-        for name in ("search_index/search_index.py",):
+        for name in ("search_index/search_index.py", "cache/cache.py"):
             lines = (TOP / "examples" / name).read_text(encoding="utf-8").splitlines()
             self.assertLessEqual(sum(map(bool, map(str.strip, lines))), 40, name)
 
@@ -88,3 +116,78 @@ class SearchIndex(ExampleTest):
     def test_killed(self):
         main = loaded("search_index/search_index.py").main
         self.killed(main, lambda target: [str(self.folder / target)], self.judged, 60)
+
+
+@unittest.skipUnless(shutil.which("redis-server"), "there is no redis-server (apt-get install redis-server)")
+class Cache(ServerTest):
+    """The cache in Redis."""
+
+    def setUp(self):
+        """Starts a server."""
+        super().setUp()
+        self.port = free_port()
+        words = {"--port": str(self.port), "--bind": "127.0.0.1", "--save": "", "--appendonly": "no", "--dir": str(self.folder)}
+        self.serve("redis-server", *(word for option in words.items() for word in option))
+
+    def asked(self, *words):
+        """What the server answers to a command."""
+        with socket.create_connection(("127.0.0.1", self.port)) as connection, connection.makefile("rb") as answers:
+            texts = [word.encode() for word in words]
+            connection.sendall(b"*%d\r\n" % len(texts) + b"".join(b"$%d\r\n%s\r\n" % (len(text), text) for text in texts))
+            return self.answer(answers)
+
+    def answer(self, answers):
+        """The next answer."""
+        line = answers.readline()[:-2]
+        if line[:1] == b"*":
+            return [self.answer(answers) for _ in range(int(line[1:]))]
+        if line[:1] == b"$":
+            return None if line == b"$-1" else answers.read(int(line[1:]) + 2)[:-2].decode()
+        self.assertIn(line[:1], (b"+", b":"))
+        return line[1:].decode()
+
+    def rows(self):
+        """All rows of the cache, by their names."""
+        names = [name for name in self.asked("KEYS", "*") if name != "binlogfeed:place"]
+        return {name: json.loads(self.asked("GET", name)) for name in names}
+
+    def test_shop(self):
+        for _ in range(2):
+            self.ran("cache/cache.py", "127.0.0.1", str(self.port), SHOP_LOGS)
+        rows = self.rows()
+        names = ["customer:1", "customer:3", "line:1:1", "line:3:1", "product:CUP-0007", "product:POT-0003", "product:TEA-0001"]
+        self.assertEqual(sorted(rows), [f"shop:{name}" for name in [*names, "purchase:1", "purchase:3"]])
+        cup = {"price": "10.80", "sku": "CUP-0007", "tags": ["sale"], "title": 'Cup "Blue"', "weight": 0.3499999940395355}
+        self.assertEqual(rows["shop:product:CUP-0007"], cup)
+
+    def test_a_second_process(self):
+        """Who finds another place than its own ends, and changes nothing."""
+        self.ran("cache/cache.py", "127.0.0.1", str(self.port), SHOP_LOGS)
+        cache = loaded("cache/cache.py")
+        connection = socket.create_connection(("127.0.0.1", self.port))
+        redis = connection.makefile("rwb")
+        self.addCleanup(connection.close)
+        self.addCleanup(redis.close)
+        kept = cache.watched(redis)
+        self.assertEqual(json.loads(kept)["token"], "2072.1@binlog.000002")
+        self.asked("SET", "binlogfeed:place", "another")
+        with self.assertRaises(SystemExit):
+            cache.asked(redis, ("MULTI",), ("SET", "binlogfeed:place", "mine"), ("EXEC",))
+        self.assertEqual(self.asked("GET", "binlogfeed:place"), "another")
+
+    def judged(self, target):
+        """What is wrong with a cache of the bank."""
+        wanted = {}
+        for (table, key), row in rows_by_name().items():
+            changed = {"opened": row["opened"] and int(row["opened"])} if table == "account" else {"at": row["at"].replace(" ", "T").replace(".000000", "")}
+            wanted[f"bank:{table}:{key}"] = {**row, **changed}
+        rows = self.rows()
+        return [] if rows == wanted else [f"{len(rows)} rows", str(next(it for it in wanted.items() if rows.get(it[0]) != it[1]))]
+
+    def words(self, target):
+        """What an example is given for an empty cache."""
+        self.asked("FLUSHALL")
+        return ["127.0.0.1", str(self.port)]
+
+    def test_killed(self):
+        self.killed(loaded("cache/cache.py").main, self.words, self.judged, 60)
