@@ -1,5 +1,4 @@
 """Publishes each change in a server's logs to a stream of NATS JetStream, once: broker.py HOST PORT LOGS [--follow]"""
-import io
 import json
 import socket
 import sys
@@ -12,11 +11,10 @@ sys.path.insert(0, str(Path(__file__).resolve().parents[2] / "python"))
 from binlogfeed import BinLogStreamReader  # noqa: E402
 
 INBOX = f"_INBOX.{uuid4().hex}"
-CONNECT = f'CONNECT {{"verbose":false,"headers":true,"no_responders":true}}\r\nSUB {INBOX} 1\r\n'
 STREAM = '{"name":"binlogfeed","subjects":["binlogfeed.>"],"storage":"file"}'
 
 
-def asked(nats: io.BufferedRWPair, subject: str, text: str, *headers: str) -> dict[str, Any]:
+def asked(nats: Any, subject: str, text: str, *headers: str) -> dict[str, Any]:
     """What the server answers to a message."""
     head, body = "".join(f"{line}\r\n" for line in ("NATS/1.0", *headers, "")).encode(), text.encode()
     nats.write(f"HPUB {subject} {INBOX} {len(head)} {len(head) + len(body)}\r\n".encode() + head + body + b"\r\n")
@@ -24,8 +22,7 @@ def asked(nats: io.BufferedRWPair, subject: str, text: str, *headers: str) -> di
         nats.flush()
         kind, *words = nats.readline().split() or [b"the end of the connection"]
         if kind == b"MSG":
-            answer: dict[str, Any] = json.loads(nats.read(int(words[-1]) + 2))
-            return answer
+            return dict(json.loads(nats.read(int(words[-1]) + 2)))
         if kind == b"PING":
             nats.write(b"PONG\r\n")
         elif kind != b"INFO":
@@ -35,7 +32,7 @@ def asked(nats: io.BufferedRWPair, subject: str, text: str, *headers: str) -> di
 def main(host: str, port: str, logs: str, *options: str) -> None:
     """Publishes what is new behind the stream's last message, which has its place. Each message names the one before it."""
     nats = socket.create_connection((host, int(port))).makefile("rwb")
-    nats.write(CONNECT.encode())
+    nats.write(f'CONNECT {{"verbose":false,"headers":true,"no_responders":true}}\r\nSUB {INBOX} 1\r\n'.encode())
     asked(nats, "$JS.API.STREAM.CREATE.binlogfeed", STREAM)
     last = asked(nats, "$JS.API.STREAM.MSG.GET.binlogfeed", '{"last_by_subj":"binlogfeed.>"}').get("message", {"seq": 0, "hdrs": ""})
     place = b64decode(last["hdrs"]).decode().partition("Place: ")[2].strip() or None

@@ -8,8 +8,11 @@ import subprocess
 import sys
 import time
 import unittest
+from base64 import b64decode
 
+from binlogfeed.tokens import token_parts
 from killed import Killed, loaded
+from replicas import LinesTest, full_line
 from support import PROGRAM, SECONDS, SHOP, TOP, FolderTest, bank_rows
 
 SHOP_LOGS = str(SHOP[0].parent / "binlog.0*")
@@ -19,6 +22,12 @@ KEYS = {"account": "id", "journal": "seq"}
 def rows_by_name():
     """The bank's rows at the end, by table and key."""
     return {(table, str(row[KEYS[table]])): row for table, rows in bank_rows().items() for row in rows}
+
+
+def place_of(token):
+    """What tokens are ordered by."""
+    parts = token_parts(token)
+    return parts.file, parts.position, parts.count
 
 
 class ExampleTest(FolderTest):
@@ -42,6 +51,37 @@ class ExampleTest(FolderTest):
         kills = Killed(main, words, judged, count)
         self.addCleanup(kills.close)
         self.assertEqual(kills.run(), [])
+
+
+def values_wanted():
+    """The same, with values as `to_json` has them."""
+    wanted = {}
+    for name, row in rows_by_name().items():
+        changed = {"opened": row["opened"] and int(row["opened"])} if "opened" in row else {"at": row["at"].replace(" ", "T").replace(".000000", "")}
+        wanted[name] = {**row, **changed}
+    return wanted
+
+
+def applied(lines):
+    """The rows that are left of changes, by table and key. Each change has to find the row that it changes as it was."""
+    rows = {}
+    for line in lines:
+        change = json.loads(line)
+        ((before, after),) = ((row["before"], row["after"]) for row in change["rows"])
+        if before is not None and rows.pop((change["table"], *(str(before[name]) for name in change["key"])), None) != before:
+            raise AssertionError(f"the row of {change['token']} isn't there")
+        if after is not None and rows.setdefault((change["table"], *(str(after[name]) for name in change["key"])), after) is not after:
+            raise AssertionError(f"the row of {change['token']} is there already")
+    return rows
+
+
+def wrong(lines):
+    """What is wrong with the changes of the bank."""
+    try:
+        rows = applied(lines)
+    except AssertionError as error:
+        return [str(error)]
+    return [] if rows == values_wanted() else [f"{len(rows)} rows are left of {len(lines)} changes, and not as they should be"]
 
 
 def free_port():
@@ -73,7 +113,7 @@ class Sizes(unittest.TestCase):
     """The examples are short, and none is left out of their page."""
 
     def test_lines(self):
-        for name in ("search_index/search_index.py", "cache/cache.py"):
+        for name in ("search_index/search_index.py", "cache/cache.py", "broker/broker.py", "warehouse/warehouse.py"):
             lines = (TOP / "examples" / name).read_text(encoding="utf-8").splitlines()
             self.assertLessEqual(sum(map(bool, map(str.strip, lines))), 40, name)
 
@@ -177,10 +217,7 @@ class Cache(ServerTest):
 
     def judged(self, target):
         """What is wrong with a cache of the bank."""
-        wanted = {}
-        for (table, key), row in rows_by_name().items():
-            changed = {"opened": row["opened"] and int(row["opened"])} if table == "account" else {"at": row["at"].replace(" ", "T").replace(".000000", "")}
-            wanted[f"bank:{table}:{key}"] = {**row, **changed}
+        wanted = {":".join(("bank", *name)): row for name, row in values_wanted().items()}
         rows = self.rows()
         return [] if rows == wanted else [f"{len(rows)} rows", str(next(it for it in wanted.items() if rows.get(it[0]) != it[1]))]
 
@@ -191,3 +228,118 @@ class Cache(ServerTest):
 
     def test_killed(self):
         self.killed(loaded("cache/cache.py").main, self.words, self.judged, 60)
+
+
+@unittest.skipUnless(shutil.which("nats-server"), "there is no nats-server (apt-get install nats-server)")
+class Broker(ServerTest):
+    """The stream of NATS JetStream."""
+
+    def setUp(self):
+        """Starts a server."""
+        super().setUp()
+        self.port = free_port()
+        self.serve("nats-server", "-a", "127.0.0.1", "-p", str(self.port), "-js", "-sd", self.folder / "nats")
+
+    def asked(self, *requests):
+        """What the server answers to requests, each a subject and a text."""
+        with socket.create_connection(("127.0.0.1", self.port)) as connection, connection.makefile("rb") as answers:
+            connection.sendall(b'CONNECT {"verbose":false}\r\nSUB inbox 1\r\n')
+            for subject, text in requests:
+                connection.sendall(f"PUB {subject} inbox {len(text)}\r\n{text}\r\n".encode())
+                line = [b""]
+                while line[0] != b"MSG":
+                    line = answers.readline().split()
+                    self.assertIn(line[0], (b"MSG", b"INFO", b"PING"))
+                yield json.loads(answers.read(int(line[-1]) + 2))
+
+    def messages(self):
+        """The messages of the stream, each with its subject."""
+        (told,) = self.asked(("$JS.API.STREAM.INFO.binlogfeed", ""))
+        requests = [("$JS.API.STREAM.MSG.GET.binlogfeed", json.dumps({"seq": seq})) for seq in range(1, told["state"]["last_seq"] + 1)]
+        return [(told["message"]["subject"], b64decode(told["message"]["data"]).decode()) for told in self.asked(*requests)]
+
+    def test_shop(self):
+        for _ in range(2):
+            self.ran("broker/broker.py", "127.0.0.1", str(self.port), SHOP_LOGS)
+        messages = self.messages()
+        self.assertEqual(len(messages), (SHOP[0].parent / "read.jsonl").read_text(encoding="utf-8").count("\n"))
+        for subject, text in messages:
+            self.assertEqual(subject, f"binlogfeed.shop.{json.loads(text)['table']}")
+        self.assertEqual(applied(text for _, text in messages)["product", "TEA-0001"]["price"], "4.90")
+
+    def test_a_message_that_comes_twice(self):
+        """The server drops it by its id; and one behind another message than the last is refused."""
+        broker = loaded("broker/broker.py")
+        self.ran("broker/broker.py", "127.0.0.1", str(self.port), SHOP_LOGS)
+        count = len(self.messages())
+        connection = socket.create_connection(("127.0.0.1", self.port))
+        nats = connection.makefile("rwb")
+        self.addCleanup(connection.close)
+        self.addCleanup(nats.close)
+        nats.write(f"CONNECT {{\"verbose\":false,\"headers\":true}}\r\nSUB {broker.INBOX} 1\r\n".encode())
+        told = broker.asked(nats, "binlogfeed.shop.customer", "{}", "Nats-Msg-Id: 2072.1@binlog.000002", f"Nats-Expected-Last-Sequence: {count - 1}")
+        self.assertEqual((told["seq"], told["duplicate"]), (count, True))
+        told = broker.asked(nats, "binlogfeed.shop.customer", "{}", "Nats-Msg-Id: other", f"Nats-Expected-Last-Sequence: {count - 1}")
+        self.assertIn("wrong last sequence", told["error"]["description"])
+        self.assertEqual(len(self.messages()), count)
+
+    def words(self, target):
+        """What an example is given for no stream."""
+        list(self.asked(("$JS.API.STREAM.DELETE.binlogfeed", "")))
+        return ["127.0.0.1", str(self.port)]
+
+    def judged(self, target):
+        """What is wrong with a stream of the bank."""
+        return wrong([text for _, text in self.messages()])
+
+    def test_killed(self):
+        self.killed(loaded("broker/broker.py").main, self.words, self.judged, 60)
+
+
+class Warehouse(ExampleTest, LinesTest):
+    """The files by day."""
+
+    def lines(self, folder):
+        """The lines of a warehouse that count, in the order of the log."""
+        sizes = json.loads((folder / "manifest.json").read_text())["sizes"]
+        lines = [line for name in sizes for line in (folder / name).read_bytes()[: sizes[name]].decode().splitlines()]
+        return sorted(lines, key=lambda line: place_of(json.loads(line)["token"]))
+
+    def words(self, target):
+        """What an example is given for an empty folder."""
+        folder = self.folder / target
+        folder.mkdir()
+        return [str(folder)]
+
+    def test_shop(self):
+        (words,) = self.words("shop")
+        for _ in range(2):
+            self.ran("warehouse/warehouse.py", words, SHOP_LOGS)
+        folder = self.folder / "shop"
+        names = ["lock", "manifest.json", *(f"shop.{table}.2026-11-22.jsonl" for table in ("customer", "line", "product", "purchase"))]
+        self.assertEqual(sorted(path.name for path in folder.iterdir()), names)
+        self.assertEqual(len(self.lines(folder)), (SHOP[0].parent / "read.jsonl").read_text(encoding="utf-8").count("\n"))
+
+    def test_days(self):
+        """Each change stands in the file of its day; what no manifest counts is cut off."""
+        lines = []
+        for number, timestamp in enumerate((1700006399, 1700006400, 1700092800), 1):
+            line = json.loads(full_line((number, 1), "t", None, {"id": number, "v": "é"}, {"id": "int", "v": "varchar utf8mb4"}))
+            lines.append(json.dumps({**line, "timestamp": timestamp}, ensure_ascii=False, separators=(",", ":")))
+        told = self.told(lines)
+        (self.folder / "binlogfeed").unlink()
+        (self.folder / "binlogfeed").symlink_to(told["program"])
+        (words,) = self.words("days")
+        left = self.folder / "days/made.t.2023-11-15.jsonl"
+        left.write_text("left by a kill\n")
+        self.ran("warehouse/warehouse.py", words, told["logs"])
+        for day, number in (("2023-11-14", 1), ("2023-11-15", 2), ("2023-11-16", 3)):
+            (line,) = (self.folder / f"days/made.t.{day}.jsonl").read_text(encoding="utf-8").splitlines()
+            self.assertEqual(json.loads(line)["rows"], [{"before": None, "after": {"id": number, "v": "é"}}])
+
+    def judged(self, target):
+        """What is wrong with a warehouse of the bank."""
+        return wrong(self.lines(self.folder / target))
+
+    def test_killed(self):
+        self.killed(loaded("warehouse/warehouse.py").main, self.words, self.judged, 60)
