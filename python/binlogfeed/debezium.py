@@ -96,7 +96,7 @@ def _source(told: Mapping[str, Any], name: str, is_read: bool) -> Record:
         "ts_ns": microseconds * NANOSECONDS,
         "table": told["table"],
         "server_id": 0,
-        "gtid": told["gtid"],
+        "gtid": told.get("gtid"),
         "file": place.file,
         "pos": place.position,
         "row": max(0, place.count - 1),

@@ -1,4 +1,5 @@
 """What the examples' tests share: processes that are killed at random moments, over a bank's logs that grow meanwhile."""
+import functools
 import importlib.util
 import os
 import random
@@ -9,10 +10,13 @@ import tempfile
 import time
 from pathlib import Path
 
+from binlogfeed import BinLogStreamReader
 from support import BANK, PROGRAM, TOP
 
 # How long a test of kills may take at most.
 SECONDS = 300
+# In so many pieces the logs come. In the time that a process needs to begin some forty of them come.
+PIECES = 400
 
 
 def loaded(path):
@@ -38,8 +42,8 @@ class Killed:
         (self.folder / "bin").mkdir()
         (self.folder / "bin/binlogfeed").symlink_to(PROGRAM)
         self.killed = self.ways = 0
-        # How long a process needs that has nothing to do.
-        self.seconds = 0.0
+        # An example looks for more ten times a second, and would be idle most of the time.
+        main.__globals__["BinLogStreamReader"] = functools.partial(BinLogStreamReader, interval=0.001)
 
     def close(self):
         """Takes the folder away."""
@@ -62,36 +66,39 @@ class Killed:
         """One way through the logs. Answers what is wrong at its end."""
         logs = self.folder / target
         logs.mkdir()
-        pieces = self.pieces(self.chance.randrange(12, 24))
         words = [*self.words(target), f"{logs}/binlog.0*"]
+        pieces = self.pieces()
         grow(logs, next(pieces))
         began = time.monotonic()
         wrong = self.ended(self.forked(words)) or self.ended(self.forked(words))
-        self.seconds = (time.monotonic() - began) / 2
-        for piece in pieces:
-            grow(logs, piece)
+        # How long a process needs that has nothing to do. From then on it works while the logs grow.
+        seconds = (time.monotonic() - began) / 2
+        while not wrong and self.grown(logs, pieces):
             process = self.forked([*words, "--follow"])
-            # The work begins where a process that has nothing to do would have ended.
-            time.sleep(self.chance.uniform(0.4, 1.6) * self.seconds)
-            if self.chance.random() < 0.5:
-                more = next(pieces, [])
-                grow(logs, more)
-                time.sleep(self.chance.uniform(0, 0.2))
+            until = time.monotonic() + self.chance.uniform(0.6, 2.5) * seconds
+            while time.monotonic() < until:
+                self.grown(logs, pieces)
+                time.sleep(seconds / 40)
             os.kill(process, signal.SIGKILL)
             status = os.waitstatus_to_exitcode(os.waitpid(process, 0)[1])
-            wrong = wrong or ([] if status == -signal.SIGKILL else self.said(status))
+            wrong = [] if status == -signal.SIGKILL else self.said(status)
             self.killed += 1
         wrong = wrong or self.ended(self.forked(words)) or self.judged(target)
         shutil.rmtree(logs)
         return wrong
 
-    def pieces(self, count):
-        """The bank's logs in so many pieces, which are cut anywhere. Each is a list of names, with what comes to the log of that name."""
+    def grown(self, logs, pieces):
+        """Has the logs grow, and answers whether they did."""
+        piece = next(pieces, [])
+        grow(logs, piece)
+        return bool(piece)
+
+    def pieces(self):
+        """The bank's logs in pieces, which are cut anywhere. Each is a list of names, with what comes to the log of that name."""
         contents = [(path.name, path.read_bytes()) for path in BANK]
         whole = sum(len(content) for _, content in contents)
-        cuts = sorted(self.chance.sample(range(1, whole), count - 1)) + [whole]
         begin = 0
-        for cut in cuts:
+        for cut in [*sorted(self.chance.sample(range(1, whole), PIECES - 1)), whole]:
             piece, at = [], 0
             for name, content in contents:
                 part = content[max(0, begin - at) : max(0, cut - at)]

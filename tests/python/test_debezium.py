@@ -5,7 +5,6 @@ import sys
 import time
 import unittest
 from base64 import b64encode
-from pathlib import Path
 
 from binlogfeed import BinLogStreamReader, GtidEvent, ProgramFailed, RowsEvent
 from binlogfeed.debezium import lines_of, records_of
@@ -207,8 +206,8 @@ class ByHand(unittest.TestCase):
         for after, before, wanted in ((one, None, "c"), (two, one, "u"), (None, two, "d")):
             (record,) = records_of(line_of(types, after, before))
             self.assertEqual((record["before"], record["after"], record["op"]), (before, after, wanted))
-        (record,) = records_of(line_of(types, one, snapshot=True))
-        self.assertEqual((record["op"], record["source"]["snapshot"]), ("r", "true"))
+        (record,) = records_of(line_of(types, one, snapshot=True, token="158.0@f"))
+        self.assertEqual((record["op"], record["source"]["snapshot"], record["source"]["pos"], record["source"]["row"]), ("r", "true", 158, 0))
 
     def test_a_key_that_changes(self):
         """The old row is deleted, and the new one created, by one place."""
@@ -315,5 +314,14 @@ class Shop(FolderTest):
 class Page(unittest.TestCase):
     """docs/DEBEZIUM.md."""
 
+    def setUp(self):
+        """Reads it."""
+        self.text = (TOP / "docs/DEBEZIUM.md").read_text(encoding="utf-8")
+
     def test_it_is_short(self):
-        self.assertLessEqual(Path(TOP / "docs/DEBEZIUM.md").read_text(encoding="utf-8").count("\n"), 70)
+        self.assertLessEqual(self.text.count("\n"), 70)
+
+    def test_its_line(self):
+        """The line that it shows is that of the shop's fourth row."""
+        (line,) = (line for line in self.text.splitlines() if line.startswith('    {"before"'))
+        self.assertEqual(steady(json.loads(line)), steady(records(SHOP)[3]))
