@@ -27,6 +27,24 @@ def loaded(path):
     return module
 
 
+class Countdown:
+    """Kills its own process behind so many lines of a file, as a function for `sys.settrace`."""
+
+    def __init__(self, file, lines):
+        """Counts down from so many."""
+        self.file, self.left = file, lines
+
+    def __call__(self, frame, event, argument):
+        """Counts a line."""
+        if frame.f_code.co_filename != self.file:
+            return None
+        if event == "line":
+            self.left -= 1
+            if not self.left:
+                os.kill(os.getpid(), signal.SIGKILL)
+        return self
+
+
 class Killed:
     """Runs an example until it has been killed so often amid its work, from no logs to all of the bank's, again and again.
 
@@ -42,6 +60,8 @@ class Killed:
         (self.folder / "bin").mkdir()
         (self.folder / "bin/binlogfeed").symlink_to(PROGRAM)
         self.killed = self.ways = 0
+        # Some number of lines that a process comes to.
+        self.lines = 200.0
         # An example looks for more ten times a second, and would be idle most of the time.
         main.__globals__["BinLogStreamReader"] = functools.partial(BinLogStreamReader, interval=0.001)
 
@@ -74,13 +94,20 @@ class Killed:
         # How long a process needs that has nothing to do. From then on it works while the logs grow.
         seconds = (time.monotonic() - began) / 2
         while not wrong and self.grown(logs, pieces):
-            process = self.forked([*words, "--follow"])
-            until = time.monotonic() + self.chance.uniform(0.6, 2.5) * seconds
-            while time.monotonic() < until:
-                self.grown(logs, pieces)
+            # Some are killed by the time, and the others at a line of the example, as soon as they come to it.
+            lines = self.chance.randint(1, int(self.lines)) if self.chance.random() < 0.8 else 0
+            process = self.forked([*words, "--follow"], lines)
+            status, until = None, time.monotonic() + (60 if lines else self.chance.uniform(0.6, 2.5)) * seconds
+            while status is None and time.monotonic() < until:
+                if not self.grown(logs, pieces):
+                    until = min(until, time.monotonic() + seconds)
                 time.sleep(seconds / 40)
-            os.kill(process, signal.SIGKILL)
-            status = os.waitstatus_to_exitcode(os.waitpid(process, 0)[1])
+                status = self.status(process, os.WNOHANG)
+            if lines:
+                self.lines = max(20.0, self.lines * (0.9 if status is None else 1.1))
+            if status is None:
+                os.kill(process, signal.SIGKILL)
+                status = self.status(process)
             wrong = [] if status == -signal.SIGKILL else self.said(status)
             self.killed += 1
         wrong = wrong or self.ended(self.forked(words)) or self.judged(target)
@@ -107,8 +134,8 @@ class Killed:
             begin = cut
             yield piece
 
-    def forked(self, words):
-        """A process of the example, which needs no time to begin: it is a copy of this one."""
+    def forked(self, words, lines=0):
+        """A process of the example, which needs no time to begin: it is a copy of this one. It kills itself behind so many lines."""
         process = os.fork()
         if process == 0:
             status = 70
@@ -116,6 +143,8 @@ class Killed:
                 os.dup2(os.open(self.folder / "said", os.O_WRONLY | os.O_CREAT | os.O_TRUNC, 0o600), 2)
                 sys.stderr = open(2, "w", closefd=False)
                 os.environ["PATH"] = f"{self.folder}/bin:{os.environ['PATH']}"
+                if lines:
+                    sys.settrace(Countdown(self.main.__code__.co_filename, lines))
                 self.main(*words)
                 status = 0
             except BaseException as error:
@@ -124,9 +153,14 @@ class Killed:
                 os._exit(status)
         return process
 
+    def status(self, process, options=0):
+        """The status with which a process has ended: below 0 the signal. It is waited for, unless the options say otherwise."""
+        ended, status = os.waitpid(process, options)
+        return os.waitstatus_to_exitcode(status) if ended else None
+
     def ended(self, process):
         """Waits for the end of a process, and answers what is wrong with it."""
-        status = os.waitstatus_to_exitcode(os.waitpid(process, 0)[1])
+        status = self.status(process)
         return self.said(status) if status else []
 
     def said(self, status):

@@ -17,6 +17,10 @@ from support import PROGRAM, SECONDS, SHOP, TOP, FolderTest, bank_rows
 
 SHOP_LOGS = str(SHOP[0].parent / "binlog.0*")
 KEYS = {"account": "id", "journal": "seq"}
+# Debian has servers where the PATH of a user doesn't lead.
+REDIS, NATS = (shutil.which(name, path=f"{os.environ['PATH']}:/usr/sbin") for name in ("redis-server", "nats-server"))
+# How often each example is killed.
+KILLS = 40
 
 
 def rows_by_name():
@@ -155,10 +159,10 @@ class SearchIndex(ExampleTest):
 
     def test_killed(self):
         main = loaded("search_index/search_index.py").main
-        self.killed(main, lambda target: [str(self.folder / target)], self.judged, 60)
+        self.killed(main, lambda target: [str(self.folder / target)], self.judged, KILLS)
 
 
-@unittest.skipUnless(shutil.which("redis-server"), "there is no redis-server (apt-get install redis-server)")
+@unittest.skipUnless(REDIS, "there is no redis-server (apt-get install redis-server)")
 class Cache(ServerTest):
     """The cache in Redis."""
 
@@ -167,7 +171,7 @@ class Cache(ServerTest):
         super().setUp()
         self.port = free_port()
         words = {"--port": str(self.port), "--bind": "127.0.0.1", "--save": "", "--appendonly": "no", "--dir": str(self.folder)}
-        self.serve("redis-server", *(word for option in words.items() for word in option))
+        self.serve(REDIS, *(word for option in words.items() for word in option))
 
     def asked(self, *words):
         """What the server answers to a command."""
@@ -227,10 +231,10 @@ class Cache(ServerTest):
         return ["127.0.0.1", str(self.port)]
 
     def test_killed(self):
-        self.killed(loaded("cache/cache.py").main, self.words, self.judged, 60)
+        self.killed(loaded("cache/cache.py").main, self.words, self.judged, KILLS)
 
 
-@unittest.skipUnless(shutil.which("nats-server"), "there is no nats-server (apt-get install nats-server)")
+@unittest.skipUnless(NATS, "there is no nats-server (apt-get install nats-server)")
 class Broker(ServerTest):
     """The stream of NATS JetStream."""
 
@@ -238,7 +242,7 @@ class Broker(ServerTest):
         """Starts a server."""
         super().setUp()
         self.port = free_port()
-        self.serve("nats-server", "-a", "127.0.0.1", "-p", str(self.port), "-js", "-sd", self.folder / "nats")
+        self.serve(NATS, "-a", "127.0.0.1", "-p", str(self.port), "-js", "-sd", self.folder / "nats")
 
     def asked(self, *requests):
         """What the server answers to requests, each a subject and a text."""
@@ -293,7 +297,7 @@ class Broker(ServerTest):
         return wrong([text for _, text in self.messages()])
 
     def test_killed(self):
-        self.killed(loaded("broker/broker.py").main, self.words, self.judged, 60)
+        self.killed(loaded("broker/broker.py").main, self.words, self.judged, KILLS)
 
 
 class Warehouse(ExampleTest, LinesTest):
@@ -342,4 +346,4 @@ class Warehouse(ExampleTest, LinesTest):
         return wrong(self.lines(self.folder / target))
 
     def test_killed(self):
-        self.killed(loaded("warehouse/warehouse.py").main, self.words, self.judged, 60)
+        self.killed(loaded("warehouse/warehouse.py").main, self.words, self.judged, KILLS)
