@@ -32,13 +32,12 @@ def main(file: str, logs: str, *options: str) -> None:
     with BinLogStreamReader(logs, resume=kept, blocking="--follow" in options, together=False) as reader:
         for batch in reader.batches():
             index.execute("BEGIN IMMEDIATE")
+            before, kept = kept, reader.place.to_text()
+            if not index.execute("UPDATE place SET kept = ? WHERE kept IS ?", [kept, before]).rowcount:
+                sys.exit("another process has moved the index on: start again")
             for event in (event for transaction in batch for event in transaction):
                 take(index, event)
-            before, kept = kept, reader.place.to_text()
-            moved = index.execute("UPDATE place SET kept = ? WHERE kept IS ?", [kept, before]).rowcount
-            index.execute("COMMIT" if moved else "ROLLBACK")
-            if not moved:
-                sys.exit("another process has moved the index on: start again")
+            index.execute("COMMIT")
 
 
 if __name__ == "__main__":

@@ -1,4 +1,4 @@
-"""Writes each change in a server's logs to a file of its table and day, once: warehouse.py FOLDER LOGS [--follow]"""
+"""Writes each change in a server's logs to a file of its table and the day of its commit, once: warehouse.py FOLDER LOGS [--follow]"""
 import fcntl
 import json
 import os
@@ -32,7 +32,8 @@ def main(folder: str, logs: str, *options: str) -> None:
         for batch in reader.batches(rows=10000, seconds=10.0):
             texts: dict[str, str] = defaultdict(str)
             for event in (event for transaction in batch for event in transaction):
-                texts[time.strftime(f"{event.schema}.{event.table}.%Y-%m-%d.jsonl", time.gmtime(event.timestamp))] += event.to_json() + "\n"
+                day = time.strftime("%Y-%m-%d", time.gmtime(event.committed // 10**6 if event.committed else event.timestamp))
+                texts[f"{event.schema}.{event.table}.{day}.jsonl"] += event.to_json() + "\n"
             for name, text in texts.items():
                 with open(Path(folder, name), "a", encoding="utf-8") as file:
                     kept["sizes"][name] = on_disk(file, text)

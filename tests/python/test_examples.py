@@ -10,6 +10,7 @@ import time
 import unittest
 from base64 import b64decode
 
+from binlogfeed import BinLogStreamReader
 from binlogfeed.tokens import token_parts
 from killed import Killed, loaded
 from replicas import LinesTest, full_line
@@ -144,6 +145,28 @@ class SearchIndex(ExampleTest):
         ):  # fmt: skip
             found = [json.loads(name) for (name,) in self.answered(self.folder / "index.db", find, words)]
             self.assertEqual([it for it in found if it[0] in ("customer", "product")], wanted, words)
+
+    def test_a_second_process(self):
+        """Who finds another place than its own ends, and changes nothing."""
+        file, search_index = self.folder / "index.db", loaded("search_index/search_index.py")
+        self.ran("search_index/search_index.py", file, SHOP_LOGS)
+
+        class Batches(BinLogStreamReader):
+            """A reader beside which another process moves on."""
+
+            def batches(reader, *options):
+                """Moves on, and gives a batch."""
+                connection = sqlite3.connect(file, isolation_level=None)
+                connection.execute("UPDATE place SET kept = 'another'")
+                connection.close()
+                yield list(BinLogStreamReader(SHOP, program=PROGRAM, together=False).transactions())
+
+        search_index.BinLogStreamReader = Batches
+        before = self.answered(file, "SELECT * FROM document")
+        with self.assertRaisesRegex(SystemExit, "another process"):
+            search_index.main(str(file), SHOP_LOGS)
+        self.assertEqual(self.answered(file, "SELECT kept FROM place"), [("another",)])
+        self.assertEqual(self.answered(file, "SELECT * FROM document"), before)
 
     def judged(self, target):
         """What is wrong with an index of the bank."""
@@ -325,11 +348,13 @@ class Warehouse(ExampleTest, LinesTest):
         self.assertEqual(len(self.lines(folder)), (SHOP[0].parent / "read.jsonl").read_text(encoding="utf-8").count("\n"))
 
     def test_days(self):
-        """Each change stands in the file of its day; what no manifest counts is cut off."""
+        """Each change stands in the file of the day of its commit; what no manifest counts is cut off."""
         lines = []
-        for number, timestamp in enumerate((1700006399, 1700006400, 1700092800), 1):
+        # The last seconds of 2023-11-14, the first of 2023-11-15, and an event of that day whose commit is in the next one.
+        for number, (timestamp, committed) in enumerate(((1700006399, None), (1700006400, None), (1700092799, 1700092800000001)), 1):
             line = json.loads(full_line((number, 1), "t", None, {"id": number, "v": "é"}, {"id": "int", "v": "varchar utf8mb4"}))
-            lines.append(json.dumps({**line, "timestamp": timestamp}, ensure_ascii=False, separators=(",", ":")))
+            rows = {"after": line.pop("after"), "before": line.pop("before"), **({"committed": committed} if committed else {})}
+            lines.append(json.dumps({**rows, **line, "timestamp": timestamp}, ensure_ascii=False, separators=(",", ":")))
         told = self.told(lines)
         (self.folder / "binlogfeed").unlink()
         (self.folder / "binlogfeed").symlink_to(told["program"])
