@@ -123,6 +123,39 @@ class Sizes(unittest.TestCase):
             self.assertLessEqual(sum(map(bool, map(str.strip, lines))), 40, name)
 
 
+class Pages(ExampleTest):
+    """The examples' READMEs, whose commands are run as they are written."""
+
+    def shown(self, name):
+        """What the commands of an example print."""
+        for part in ("python", "examples"):
+            (self.folder / part).symlink_to(TOP / part)
+        text = (TOP / "examples" / name / "README.md").read_text(encoding="utf-8")
+        commands = "".join(line[4:] for line in text.splitlines(keepends=True) if line.startswith("    "))
+        environment = {**os.environ, "PYTHONDONTWRITEBYTECODE": "1"}
+        ended = subprocess.run(["bash", "-euc", commands], cwd=self.folder, env=environment, capture_output=True, text=True, check=False)
+        self.assertEqual((ended.returncode, ended.stderr), (0, ""))
+        return ended.stdout
+
+    def test_search_index(self):
+        found = self.shown("search_index")
+        for name in (["product", "POT-0003"], ["product", "TEA-0001"]):
+            self.assertIn(json.dumps(name), found)
+        self.assertNotIn("CUP-0007", found)
+
+    def test_warehouse(self):
+        manifest, _, lines = self.shown("warehouse").partition("\n}")
+        self.assertIn('"shop.purchase.2026-11-22.jsonl"', manifest)
+        self.assertEqual(lines.count('"table":"purchase"'), 4)
+
+    def test_all_are_listed(self):
+        """The page of all examples names each folder."""
+        page = (TOP / "examples/README.md").read_text(encoding="utf-8")
+        folders = [path.name for path in (TOP / "examples").iterdir() if path.is_dir() and path.name != "__pycache__"]
+        self.assertGreater(len(folders), 7)
+        self.assertEqual([name for name in folders if f"[{name}]({name}/" not in page], [])
+
+
 class SearchIndex(ExampleTest):
     """The index in SQLite."""
 
