@@ -25,7 +25,8 @@ TOLD = {
     ("t2", "c0", "BIGINT"): {"2": ("-9223372036854775808", -(2**63))},
     # `bigint.unsigned.handling.mode=long` has what a long of Java has.
     ("t22", "c0", "BIGINT UNSIGNED"): {
-        "2": ("18446744073709551614", -2), "3": ("18446744073709551615", -1), "8": ("1588864296735352251", 1588864296735352251), "9": (None, None),
+        "2": ("18446744073709551614", -2), "3": ("18446744073709551615", -1), "9": (None, None),
+        "8": ("1588864296735352251", 1588864296735352251),
     },
     ("t0", "c3", "FLOAT"): {"0": ("3.3999999521443642e38", 3.4e38), "1": ("0.10000000149011612", 0.1), "2": ("-1.5", -1.5)},
     ("t7", "c3", "DOUBLE"): {"0": ("1e22", 1e22), "6": ("1.7e308", 1.7e308), "7": (None, None)},
@@ -37,10 +38,13 @@ TOLD = {
     ("t10", "c1", "YEAR"): {"0": ("1901", 1901), "1": ("0000", 0), "2": ("2155", 2155)},
     # Days; a date that no calendar has is null.
     ("t4", "c7", "DATE"): {
-        "0": ("1000-01-01", -354285), "1": ("9999-12-31", 2932896), "2": ("2024-02-29", 19782), "3": ("2024-00-00", None), "5": ("0000-00-00", None),
+        "0": ("1000-01-01", -354285), "1": ("9999-12-31", 2932896), "2": ("2024-02-29", 19782),
+        "3": ("2024-00-00", None), "5": ("0000-00-00", None),
     },
     # Microseconds, below 0 and beyond a day, too.
-    ("t16", "c2", "TIME(4)"): {"0": ("12:34:56.8900", 45296890000), "1": ("-838:59:59.0000", -3020399000000), "4": ("-00:00:00.2364", -236400)},
+    ("t16", "c2", "TIME(4)"): {
+        "0": ("12:34:56.8900", 45296890000), "1": ("-838:59:59.0000", -3020399000000), "4": ("-00:00:00.2364", -236400),
+    },
     ("t52", "c10", "TIME(0)"): {"1": ("-12:34:56", -45296000000), "0": ("00:00:00", 0)},
     # Milliseconds up to three digits, and microseconds beyond.
     ("t16", "c6", "DATETIME(0)"): {
@@ -207,7 +211,8 @@ class ByHand(unittest.TestCase):
             (record,) = records_of(line_of(types, after, before))
             self.assertEqual((record["before"], record["after"], record["op"]), (before, after, wanted))
         (record,) = records_of(line_of(types, one, snapshot=True, token="158.0@f"))
-        self.assertEqual((record["op"], record["source"]["snapshot"], record["source"]["pos"], record["source"]["row"]), ("r", "true", 158, 0))
+        source = record["source"]
+        self.assertEqual((record["op"], source["snapshot"], source["pos"], source["row"]), ("r", "true", 158, 0))
 
     def test_a_key_that_changes(self):
         """The old row is deleted, and the new one created, by one place."""

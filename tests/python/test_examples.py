@@ -62,8 +62,11 @@ def values_wanted():
     """The same, with values as `to_json` has them."""
     wanted = {}
     for name, row in rows_by_name().items():
-        changed = {"opened": row["opened"] and int(row["opened"])} if "opened" in row else {"at": row["at"].replace(" ", "T").replace(".000000", "")}
-        wanted[name] = {**row, **changed}
+        if "opened" in row:
+            row["opened"] = row["opened"] and int(row["opened"])
+        else:
+            row["at"] = row["at"].replace(" ", "T").replace(".000000", "")
+        wanted[name] = row
     return wanted
 
 
@@ -337,9 +340,10 @@ class Broker(ServerTest):
         self.addCleanup(connection.close)
         self.addCleanup(nats.close)
         nats.write(f"CONNECT {{\"verbose\":false,\"headers\":true}}\r\nSUB {broker.INBOX} 1\r\n".encode())
-        told = broker.asked(nats, "binlogfeed.shop.customer", "{}", "Nats-Msg-Id: 2072.1@binlog.000002", f"Nats-Expected-Last-Sequence: {count - 1}")
+        before = f"Nats-Expected-Last-Sequence: {count - 1}"
+        told = broker.asked(nats, "binlogfeed.shop.customer", "{}", "Nats-Msg-Id: 2072.1@binlog.000002", before)
         self.assertEqual((told["seq"], told["duplicate"]), (count, True))
-        told = broker.asked(nats, "binlogfeed.shop.customer", "{}", "Nats-Msg-Id: other", f"Nats-Expected-Last-Sequence: {count - 1}")
+        told = broker.asked(nats, "binlogfeed.shop.customer", "{}", "Nats-Msg-Id: other", before)
         self.assertIn("wrong last sequence", told["error"]["description"])
         self.assertEqual(len(self.messages()), count)
 
