@@ -1,4 +1,4 @@
-"""The commands that are in Python: `python3 -m binlogfeed follow --state FILE LOGS` and others, as COMMANDS has them."""
+"""The command line: `python3 -m binlogfeed follow --state FILE LOGS`, and the commands `summary LOGS` and `copy FOLDER`."""
 from __future__ import annotations
 
 import argparse
@@ -13,7 +13,7 @@ from typing import Any
 
 from binlogfeed import begin
 from binlogfeed.begin import FIRST
-from binlogfeed.debezium import NAME, lines_of
+from binlogfeed.copy.command import add_copy
 from binlogfeed.faults import BinlogfeedError
 from binlogfeed.filters import add_filters, add_profile, filter_words
 from binlogfeed.follow import Follower
@@ -27,7 +27,7 @@ PAUSE = 0.1
 FORMATS = PLAIN, FULL, DEBEZIUM = ("plain", "full", "debezium")
 # Ends a write of the main thread. The system itself ignores it, so it does no harm where it comes too late.
 ENDS_WRITES = signal.SIGURG
-ABOUT = "Follows the binary logs of a MySQL server, or says what happened in logs."
+ABOUT = "Follows the binary logs of a MySQL server, says what happened in logs, or copies them from another machine."
 HELP = """LOGS is the server's index file (binlog.index), the folder that has one, or a pattern in quotes ('/copies/binlog.*').
 The place in FILE is kept once the lines before it are written and flushed. After a kill the last lines may come again; a
 line's token tells them. One process uses FILE at a time, and FILE.lock says so. SIGTERM ends it behind a look, with status 0.
@@ -41,9 +41,10 @@ def command_line(called: str = CALLED) -> argparse.ArgumentParser:
     parser = argparse.ArgumentParser(prog=called, description=ABOUT)
     parser.add_argument("--version", action="version", version=f"binlogfeed {VERSION}", help="print the version")
     commands = parser.add_subparsers(dest="command", required=True)
-    for add in COMMANDS:
-        add(commands)
-    return parser
+    add_follow(commands)
+    add_summary(commands)
+    add_copy(commands)
+    return parser.parse_args()
 
 
 def add_follow(commands: Any) -> None:

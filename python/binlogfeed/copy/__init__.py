@@ -1,0 +1,1 @@
+"""Copies a server's binary logs from another machine, by MySQL's replication protocol."""
