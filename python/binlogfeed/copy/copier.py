@@ -7,8 +7,7 @@ from typing import NamedTuple
 from binlogfeed.begin import LOG
 from binlogfeed.copy.events import (
     FORMAT,
-    HEARTBEAT,
-    HEARTBEAT_2,
+    HEARTBEATS,
     PLACES,
     ROTATE,
     Header,
@@ -77,7 +76,7 @@ class Taking:
 
     def _take(self, event: bytes, header: Header) -> None:
         """Takes an event."""
-        if header.kind in (HEARTBEAT, HEARTBEAT_2):
+        if header.kind in HEARTBEATS:
             self.end()
         elif header.kind == ROTATE and header.is_in_no_file:
             self._turn(event)
@@ -199,10 +198,10 @@ class Copier:
         for events in connection.dump(start.name, start.at, start.waits and not self._once):
             taking.take(events)
             now = time.monotonic()
-            if any(not header_of(event).is_in_no_file for event in events):
+            if not all(header_of(event).is_in_no_file for event in events):
                 self._found()
                 asked = now
-            elif now - asked >= QUIET:
+            elif header_of(events[-1]).kind in HEARTBEATS and now - asked >= QUIET:
                 self._check_log()
                 asked = now
         taking.end()
