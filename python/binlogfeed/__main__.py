@@ -11,7 +11,7 @@ from functools import partial
 from pathlib import Path
 from typing import Any
 
-from binlogfeed import begin
+from binlogfeed import begin, metrics
 from binlogfeed.begin import FIRST
 from binlogfeed.copy.command import add_copy
 from binlogfeed.faults import BinlogfeedError
@@ -62,6 +62,7 @@ def add_follow(commands: Any) -> None:
     parser.add_argument("--interval", metavar="SECONDS", type=seconds, default=1.0, help="how often to look for more (1)")
     parser.add_argument("--lag", metavar="SECONDS", type=lag_seconds, default=0.0, help=LAG_HELP)
     parser.add_argument("--status", metavar="SECONDS", type=seconds, help="say on standard error how far it is, so often")
+    parser.add_argument("--metrics", metavar="FILE", type=Path, help=metrics.HELP)
     parser.add_argument("--program", metavar="PATH", default="binlogfeed", help="the program (binlogfeed)")
     parser.add_argument("--format", choices=FORMATS, default=PLAIN, help="what is printed: plain lines, full ones, or Debezium's (plain)")
     parser.add_argument("--full", dest="format", action="store_const", const=FULL, help="print full lines")
@@ -89,9 +90,10 @@ def follow(given: argparse.Namespace) -> None:
     if given.status:
         threading.Thread(target=say_status, args=(follower, given.status), daemon=True).start()
     try:
-        follower.catch_up()
-        while not follower.wait(given.interval, stopped):
+        with metrics.written(given.metrics, follower, given.state):
             follower.catch_up()
+            while not follower.wait(given.interval, stopped):
+                follower.catch_up()
     finally:
         follower.close()
 

@@ -9,7 +9,7 @@ import threading
 import time
 from collections.abc import Callable, Iterable, Sequence
 from pathlib import Path
-from typing import BinaryIO, TextIO
+from typing import BinaryIO, NamedTuple, Optional, TextIO
 
 from binlogfeed.begin import FIRST
 from binlogfeed.faults import BinlogfeedError, FileFault
@@ -25,6 +25,16 @@ KEEP_SECONDS = 1.0
 
 class WriteEnded(Exception):
     """A write that waited for a reader was ended. Some of its bytes may be out."""
+
+
+class Measure(NamedTuple):
+    """How far a follower is. None stands for what isn't known yet."""
+
+    place: Place
+    # Lines that were written since it began.
+    lines: int
+    bytes_behind: Optional[int]
+    seconds_behind: Optional[int]
 
 
 class Follower:
@@ -56,6 +66,7 @@ class Follower:
         self._form = form
         self._said_none = False
         self._writing = False
+        self._lines = 0
 
     def catch_up(self) -> None:
         """Prints all lines that are there by now, and keeps the place. Raises what ended the reading early."""
@@ -95,14 +106,19 @@ class Follower:
         self._watch.end()
         self._lock.close()
 
-    def status(self) -> str:
-        """A line that says which place is kept, and how far the printed lines are behind the logs."""
+    def measure(self) -> Measure:
+        """How far it is: the place that is kept, and how far the printed lines are behind the logs."""
         time_of_line = self._watch.last_time
-        seconds = "-" if time_of_line is None else int(time.time()) - time_of_line
-        place = self._kept.resume or self._kept.file or "-"
-        return f"binlogfeed: place {place}, {self._bytes_behind()} bytes behind, {seconds} seconds behind"
+        seconds = None if time_of_line is None else int(time.time()) - time_of_line
+        return Measure(self._kept, self._lines, self._bytes_behind(), seconds)
 
-    def _bytes_behind(self) -> int | str:
+    def status(self) -> str:
+        """A line that says the same."""
+        place, _, *behind = self.measure()
+        size, seconds = ("-" if it is None else it for it in behind)
+        return f"binlogfeed: place {place.resume or place.file or '-'}, {size} bytes behind, {seconds} seconds behind"
+
+    def _bytes_behind(self) -> int | None:
         """How many bytes the logs have behind the last whole look's end, or behind the kept place where that is further on.
 
         Bytes that give no line count, too. Where the logs can't be listed there is no such number.
@@ -115,7 +131,7 @@ class Follower:
         try:
             sizes = {path.name: path.stat().st_size for path in listed(self._logs)}
         except (FileFault, OSError):
-            return "-"
+            return None
         names = list(sizes)
         behind = names[names.index(kept.file) :] if kept.file in sizes else names
         return max(0, sum(sizes[name] for name in behind) - (position if kept.file in sizes else 0))
@@ -124,7 +140,8 @@ class Follower:
         """Writes whole lines. Within a long look the place is kept, too."""
         written, due = 0, time.monotonic() + KEEP_SECONDS
         for lines in blocks:
-            self._write(lines if self._form is None else self._form(lines))
+            self._write(lines)
+            self._lines += lines.count(b"\n")
             written += len(lines)
             if written >= KEEP_BYTES or time.monotonic() >= due:
                 self._keep()
