@@ -17,6 +17,7 @@ Maintainer: {maintainer}
 Installed-Size: {size}
 Depends: libc6 (>= {glibc})
 Recommends: python3 (>= 3.9)
+Suggests: python3-pymysql
 Section: database
 Priority: optional
 Description: change feed over MySQL binary log files

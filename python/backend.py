@@ -46,6 +46,12 @@ def told() -> dict[str, str]:
     return texts
 
 
+def extras() -> dict[str, str]:
+    """What some commands need, which isn't installed unless their names are given: one package for each."""
+    text = (HERE / "pyproject.toml").read_text(encoding="utf-8").partition("[project.optional-dependencies]")[2]
+    return dict(re.findall(r'(?m)^([\w-]+) = \["(.*)"\]$', text))
+
+
 def files_of(folder: Path, prefix: str = "") -> Files:
     """The files of a folder, by their paths behind a prefix. What Python leaves beside its sources isn't among them."""
     files: Files = {}
@@ -65,7 +71,10 @@ def metadata() -> str:
     """What a wheel says of the package."""
     said = told()
     fields = {"Name": "name", "Version": "version", "Summary": "description", "Requires-Python": "requires-python"}
-    return "Metadata-Version: 2.1\n" + "".join(f"{field}: {said[name]}\n" for field, name in fields.items())
+    lines = [f"{field}: {said[name]}\n" for field, name in fields.items()]
+    for extra, needed in extras().items():
+        lines += [f"Provides-Extra: {extra}\n", f'Requires-Dist: {needed}; extra == "{extra}"\n']
+    return "Metadata-Version: 2.1\n" + "".join(lines)
 
 
 def write_wheel(folder: Path, files: Files, tag: str = PURE) -> Path:

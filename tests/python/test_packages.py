@@ -248,7 +248,9 @@ class Made(Package):
         wanted = [path.name.replace(self.version(), "9.8.7") for path in self.packages]
         self.assertEqual([path.name for path in made], wanted)
         with zipfile.ZipFile(wheel) as packed:
-            self.assertIn("\nVersion: 9.8.7\n", packed.read("binlogfeed-9.8.7.dist-info/METADATA").decode())
+            said = packed.read("binlogfeed-9.8.7.dist-info/METADATA").decode()
+            self.assertIn("\nVersion: 9.8.7\n", said)
+            self.assertTrue(said.endswith('Provides-Extra: copy\nRequires-Dist: PyMySQL; extra == "copy"\n'))
         self.assertEqual(ran(["dpkg-deb", "--field", deb, "Version"]), "9.8.7\n")
         with tarfile.open(archive) as packed:
             page = packed.extractfile("binlogfeed-9.8.7/share/man/man1/binlogfeed.1.gz").read()
@@ -346,7 +348,7 @@ class Debian(Package):
 
     def test_fields(self):
         wanted = {"Package": "binlogfeed", "Version": self.version(), "Architecture": "amd64"}
-        wanted["Recommends"] = "python3 (>= 3.9)"
+        wanted |= {"Recommends": "python3 (>= 3.9)", "Suggests": "python3-pymysql"}
         told = ran(["dpkg-deb", "--field", self.deb, *wanted])
         self.assertEqual(dict(line.split(": ") for line in told.splitlines()), wanted)
 
