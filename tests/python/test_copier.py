@@ -19,7 +19,7 @@ from binlogfeed.copy.packets import Lost, Packets
 from binlogfeed.copy.server import Server, Settings, judged
 from binlogfeed.copy.stopping import Stopped, Stopping
 from binlogfeed.faults import BinlogfeedError, FileFault, LogFault, LogLost, LogsGone, WordsRefused
-from fake_server import GTID, HEARTBEAT, LOGS, SESSION, FakeError, FakeServer, error, events_of, numbered, sent, turn, with_checksum
+from fake_server import GTID, HEARTBEAT, LOGS, SESSION, FakeError, FakeServer, again, error, events_of, numbered, sent, turn, with_checksum
 from support import SECONDS, TOP, FolderTest, running
 
 FIRST, SECOND, THIRD = LOGS
@@ -221,6 +221,7 @@ class Again(CopyTest):
         self.server.logs = {SECOND: LOGS[SECOND]}
         ends = [*starts(whole), len(whole)]
         self.copies.mkdir()
+        (self.copies / "copy.server").write_text(SESSION["uuid"])
         for length in sorted({0, 3, *(end + more for end in ends for more in (-1, 0, 1, 20))}):
             self.server = FakeServer(self.server.logs)
             (self.copies / SECOND).write_bytes(whole[:length])
@@ -280,6 +281,13 @@ class Again(CopyTest):
         (self.copies / "binlog.index").write_text(f"./{FIRST}\n")
         self.copy()
         self.assert_copied()
+
+    def test_a_servers_own_folder(self):
+        """Its logs are as they were, whatever their ends are."""
+        self.copies.mkdir()
+        (self.copies / FIRST).write_bytes(LOGS[FIRST] + b"cut")
+        self.assertIn("has logs that no copier wrote", self.refused(FileFault).line)
+        self.assertEqual(os.listdir(self.copies), [FIRST])
 
     def test_two_at_once(self):
         folder = Folder(self.copies)
@@ -470,8 +478,10 @@ class Disturbed(CopyTest):
         self.assertEqual(self.copied(), {FIRST: log[:at]})
 
     def test_an_event_of_another_place(self):
-        """One that is missing, one that comes twice, and one that is shorter than it says."""
+        """One that is missing, one that comes twice, one that is shorter than it says, one without a header, and one sent again too early."""
         for change in (
+            lambda packets: [*packets[:4], packets[4][:15], *packets[5:]],
+            lambda packets: [packets[0], b"\0" + again(packets[1][1:]), *packets[1:]],
             lambda packets: packets[:4] + packets[5:],
             lambda packets: packets[:4] + packets[3:],
             lambda packets: [*packets[:4], packets[4][:-1], *packets[5:]],
@@ -481,8 +491,9 @@ class Disturbed(CopyTest):
             self.changed(1, change)
             with self.assertRaises(LogFault) as caught:
                 self.copy()
+            place = caught.exception.position
             self.assertEqual(caught.exception.what, "OutOfPlace")
-            self.assertEqual(self.copied(), {FIRST: sent(LOGS[FIRST])[: caught.exception.position]})
+            self.assertEqual(self.copied(), {FIRST: sent(LOGS[FIRST])[:place]} if place > 4 else {})
 
     def test_a_name_that_leads_elsewhere(self):
         first = dict(events_of(LOGS[FIRST]))[4]

@@ -24,7 +24,7 @@ from binlogfeed.copy.packets import Lost
 from binlogfeed.copy.server import Connection, Server, Unsent
 from binlogfeed.copy.stopping import Stopping
 from binlogfeed.faults import FileFault, LogFault, LogLost, LogsGone, WordsRefused
-from binlogfeed.logs import MAGIC, NAME
+from binlogfeed.logs import HEADER_LENGTH, MAGIC, NAME
 
 # A connection that is lost is tried again after so many seconds, then after twice as many, up to the most.
 FIRST_WAIT, MOST_WAIT = 1.0, 30.0
@@ -64,6 +64,8 @@ class Taking:
         """Takes events that came together. Those before a fault are written."""
         try:
             for event in events:
+                if len(event) < HEADER_LENGTH:
+                    raise self._fault("OutOfPlace")
                 self._take(event, header_of(event))
         finally:
             self._write()
@@ -106,6 +108,8 @@ class Taking:
 
     def _compare_format(self, event: bytes) -> None:
         """Compares the first event of a log, as it comes again where it isn't read from its beginning."""
+        if self._folder.name != self._name:
+            raise self._fault("OutOfPlace")
         kept = self._folder.whole.format
         if as_sent_again(event) != as_sent_again(kept):
             raise self._other()

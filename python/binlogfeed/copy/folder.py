@@ -39,6 +39,9 @@ class Folder:
         self._path = path
         try:
             path.mkdir(exist_ok=True)
+            if self.names() and not (path / SERVER).exists():
+                # It may be a server's own folder, whose logs mustn't be written to.
+                raise FileFault(f"binlogfeed: {path} has logs that no copier wrote: give a folder of its own for the copies")
             self._lock = _locked(path / LOCK)
             self._last = self._opened()
             self._put_index()
