@@ -510,13 +510,15 @@ class Disturbed(CopyTest):
             self.server.refusals = {len(self.server.words) + 1: FakeError(code, text)}
             with self.assertRaises(WordsRefused) as caught:
                 self.copy(once=False)
-            self.assertEqual(caught.exception.line, f"binlogfeed: the server refuses ({code}): {text}")
+            self.assertEqual(caught.exception.line, f"binlogfeed: the server refuses ({code}): {text}: {serving.RIGHTS}")
         self.server.refusals = {}
         self.changed(len(self.server.words) + 1, lambda packets: [*packets[:-1], error("same id")])
         with self.assertRaises(WordsRefused) as caught:
             self.copy(once=False)
         self.assertEqual(caught.exception.status, 2)
         self.assertIn("another copier or replica has this server id", caught.exception.line)
+        signed = "Can't connect to MySQL server on 'server' ([SSL: CERTIFICATE_VERIFY_FAILED] certificate verify failed)"
+        self.assertIsInstance(judged((2003, signed)), WordsRefused)
         self.assertIsInstance(judged((1053, "Server shutdown in progress")), Lost)
 
     def test_a_full_disk(self):

@@ -25,7 +25,10 @@ ERROR_HEAD = struct.Struct("<xH")
 # Too many connections, a shutdown, a network's fault, a killed connection, idle for too long: all these go by.
 GO_BY = {1040, 1053, 1158, 1159, 1160, 1161, 1203, 1226, 1317, 1927, 2002, 2003, 2006, 2013, 2055, 3168, 4031}
 UNSENT = 1236
+DENIED = {1044, 1045, 1142, 1227}
+RIGHTS = "it takes the user's password, and the rights REPLICATION SLAVE and REPLICATION CLIENT"
 SAME_ID = "same server_uuid/server_id"
+UNKNOWN_SIGNER = "CERTIFICATE_VERIFY_FAILED"
 
 
 class Unsent(Exception):
@@ -186,10 +189,14 @@ def judged(said: tuple[Any, ...]) -> Exception:
     code, text = (said[0], str(said[-1])) if said and isinstance(said[0], int) else (0, " ".join(map(str, said)))
     if code == UNSENT and SAME_ID not in text:
         return Unsent(text)
+    if UNKNOWN_SIGNER in text:
+        return WordsRefused(f"binlogfeed: the server's certificate isn't signed by the authority of --ssl-ca: {text}")
     if code in GO_BY or not code:
         return Lost(text or "the connection is closed")
     if code == UNSENT:
         text = "another copier or replica has this server id, and came later: give one of them another by --server-id"
+    elif code in DENIED:
+        text = f"{text}: {RIGHTS}"
     return WordsRefused(f"binlogfeed: the server refuses ({code}): {text}")
 
 
