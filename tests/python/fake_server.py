@@ -84,6 +84,8 @@ class FakeServer:
         self.refusals = {}
         # What was asked: the words of connections, the questions, and the dumps with their flags.
         self.words, self.questions, self.dumps = [], [], []
+        # How long a connection's reads wait, as it was told.
+        self.patience = []
         # Called with a connection's number where it has given all.
         self.at_end = lambda number: None
 
@@ -141,7 +143,8 @@ class FakeConnection:
         return self._rows
 
     def settimeout(self, seconds):
-        """Notes nothing."""
+        """Notes it."""
+        self._server.patience.append(seconds)
 
     def _execute_command(self, command, words):
         """Begins a dump."""

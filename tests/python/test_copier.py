@@ -1,8 +1,8 @@
 """Copying a server's logs from another machine. What a real server sent stands in for it."""
-import json
 import os
 import random
 import signal
+import socket
 import subprocess
 import sys
 import time
@@ -440,6 +440,31 @@ class Disturbed(CopyTest):
         ])
         self.assert_copied()
 
+    def test_a_silent_server(self):
+        """One that doesn't even say that it is there is lost, as behind a network that fails without a word."""
+
+        def silent(read):
+            def less(size):
+                found = read(size)
+                if not found and len(self.server.words) == 1:
+                    raise socket.timeout("timed out")
+                return found
+
+            return Packets(less)
+
+        with mock.patch.object(serving, "Packets", silent), self.assertLogs("binlogfeed", "WARNING") as said:
+            self.copy(once=False, connections=2)
+        self.assertEqual(said.output, ["WARNING:binlogfeed:the server said nothing for 30 seconds: trying again until it goes on"])
+        self.assertEqual(self.server.patience, [30, 30])
+        self.assert_copied()
+
+    def test_a_password_that_pymysql_cannot_send(self):
+        self.server.refusals = {1: RuntimeError("'cryptography' package is required for sha256_password or caching_sha2_password auth methods")}
+        with self.assertRaises(BinlogfeedError) as caught:
+            self.copy(once=False)
+        self.assertEqual(caught.exception.status, 70)
+        self.assertIn("PyMySQL can't log in: 'cryptography' package is required", caught.exception.line)
+
     def test_once(self):
         """Nothing is tried again."""
         self.server.refusals = {1: FakeError(2003, "Can't connect")}
@@ -627,5 +652,3 @@ class Command(FolderTest):
         for word in ("0", "-1", "4294967296", "x"):
             ended = subprocess.run(self.command("--server-id", word), env=self.environment, capture_output=True, text=True, check=False)
             self.assertEqual((word, ended.returncode), (word, 2))
-
-
