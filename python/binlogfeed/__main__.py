@@ -18,6 +18,7 @@ from binlogfeed.faults import BinlogfeedError
 from binlogfeed.filters import add_filters, add_profile, filter_words
 from binlogfeed.follow import Follower
 from binlogfeed.options import LAG_HELP, lag_seconds, only_one, seconds
+from binlogfeed.snapshot.command import add_snapshot
 from binlogfeed.summary.command import add_summary
 from binlogfeed.version import VERSION
 
@@ -43,7 +44,7 @@ def command_line(called: str = CALLED) -> argparse.ArgumentParser:
     commands = parser.add_subparsers(dest="command", required=True)
     add_follow(commands)
     add_summary(commands)
-    add_copy(commands)
+    add_snapshot(commands)
     return parser.parse_args()
 
 

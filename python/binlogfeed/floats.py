@@ -2,6 +2,7 @@
 from __future__ import annotations
 
 import struct
+from decimal import ROUND_DOWN, ROUND_HALF_EVEN, ROUND_UP, Context, Decimal
 
 # The struct code of a value, by its length.
 CODES = {4: "<f", 8: "<d"}
@@ -32,3 +33,42 @@ def _as_float(value: float) -> bytes | None:
         return struct.pack("<f", value)
     except OverflowError:
         return None
+
+
+# The bits of a FLOAT's fraction, and the smallest FLOAT that has all of them.
+FRACTION = (1 << 23) - 1
+NORMAL = 2.0**-126
+# Any number of so many digits can be told by its FLOAT, and so many tell each FLOAT.
+SURE, ALL = 6, 9
+
+
+def text_of_double(value: float) -> str:
+    """A DOUBLE as full lines have it."""
+    return repr(value)
+
+
+def text_of_float(value: float) -> str:
+    """A FLOAT, given exactly, as full lines have it: the shortest decimal that reads back, and of these the closest."""
+    raw = _as_float(value)
+    (number,) = struct.unpack("<I", raw or b"\0" * 4)
+    if number & FRACTION and abs(value) >= NORMAL:
+        for digits in range(SURE, ALL + 1):
+            short = float(f"{value:.{digits}g}")
+            if _as_float(short) == raw:
+                return repr(short)
+    return repr(_closest(value, raw))
+
+
+def _closest(value: float, raw: bytes | None) -> float:
+    """The same of any FLOAT. Numbers below a power of two are closer than those above it, so the nearest decimal may not read back."""
+    if value == 0 or raw is None:
+        return value
+    exact = Decimal(value)
+    for digits in range(1, ALL + 1):
+        near = Context(prec=digits, rounding=ROUND_HALF_EVEN).plus(exact)
+        down = Context(prec=digits, rounding=ROUND_DOWN).plus(exact)
+        up = Context(prec=digits, rounding=ROUND_UP).plus(exact)
+        for decimal in sorted({near, down, up}, key=lambda it: (abs(it - exact), it != near)):
+            if _as_float(float(decimal)) == raw:
+                return float(decimal)
+    return value

@@ -60,7 +60,7 @@ class Follower:
         self._state = state
         # Without a buffer of its own, which a failed write would leave in an unknown state.
         self._out: BinaryIO = out or open(sys.stdout.fileno(), "wb", buffering=0, closefd=False)
-        self._lock = _locked(state)
+        self._lock = locked(state)
         self._kept = read_state(state)
         self._watch = Watch(place, [program, "read", "--follow", *words], self._kept, begin, str(state), lag)
         self._form = form
@@ -170,7 +170,7 @@ class Follower:
             self._kept = place
 
 
-def _locked(state: Path) -> TextIO:
+def locked(state: Path) -> TextIO:
     """The lock of a state's file. Two that go on from one place would each miss what the other took."""
     try:
         lock = open(state.with_name(f"{state.name}.lock"), "w", encoding="utf-8")

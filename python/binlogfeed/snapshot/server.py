@@ -1,0 +1,180 @@
+"""Connections to a server, by PyMySQL, and the moment at which they all see its tables."""
+from __future__ import annotations
+
+import contextlib
+import importlib
+import os
+import time
+from collections.abc import Iterator, Sequence
+from typing import Any, NamedTuple, Optional
+from urllib.parse import unquote, urlsplit
+
+from binlogfeed.faults import BinlogfeedError, WordsRefused
+
+# So many rows are asked of PyMySQL at once.
+ROWS = 1000
+# How many seconds the lock on all tables is waited for. Meanwhile the server's other sessions can't write.
+LOCK_WAIT = 30
+# Who takes the lines may stop for so many seconds.
+WRITE_WAIT = 86400
+# Values come as they are stored, in the character sets of their columns, and moments as they are in UTC.
+SETTINGS = f"""SET SESSION character_set_results = NULL, time_zone = '+00:00', sql_mode = '', transaction_isolation = 'REPEATABLE-READ',
+lock_wait_timeout = {LOCK_WAIT}, net_write_timeout = {WRITE_WAIT}, wait_timeout = {WRITE_WAIT}, max_execution_time = 0,
+sql_select_limit = 18446744073709551615 /*!80030 , show_gipk_in_create_table_and_information_schema = ON */"""
+# MySQL's error for a statement that it doesn't know, as servers before 8.2 don't know the first of these.
+NO_STATEMENT = 1064
+STATUS, OLD_STATUS = "SHOW BINARY LOG STATUS", "SHOW MASTER STATUS"
+# Why a statement is refused, by MySQL's number, and what to do.
+HINTS = {
+    1044: "the user needs the right SELECT",
+    1045: "the password is that of MYSQL_PWD, or of the file that --defaults-file names",
+    1142: "the user needs the right SELECT",
+    1205: f"another session kept the tables for {LOCK_WAIT} seconds: try again",
+    1227: "the user needs the rights RELOAD and REPLICATION CLIENT",
+    1412: "a table was altered since the snapshot began: try again",
+}
+
+Row = tuple[Any, ...]
+
+
+class ServerFault(BinlogfeedError):
+    """The server can't be reached, or refuses a statement. `number` is that of MySQL's error."""
+
+    status = 4
+
+    def __init__(self, line: str, number: int) -> None:
+        """An error with its number."""
+        super().__init__(line)
+        self.number = number
+
+
+class Address(NamedTuple):
+    """Where a server is, and who asks."""
+
+    host: Optional[str] = None
+    port: int = 0
+    socket: Optional[str] = None
+    user: Optional[str] = None
+    # A file of options as MySQL's clients have it, and one with the certificate of who signed the server's.
+    defaults_file: Optional[str] = None
+    ssl_ca: Optional[str] = None
+
+
+class Moment(NamedTuple):
+    """When all tables are read, by the server's log and its clock."""
+
+    file: str
+    position: int
+    timestamp: int
+    # How many seconds nobody could write.
+    held: float
+
+    @property
+    def token(self) -> str:
+        """The place behind all that the tables have."""
+        return f"{self.position}.0@{self.file}"
+
+
+def of_url(url: str, address: Address) -> Address:
+    """An address with what `mysql://user@host:port/` says."""
+    parts = urlsplit(url)
+    if parts.password is not None:
+        raise WordsRefused("binlogfeed: a password in the words is for everyone to see: set MYSQL_PWD, or give --defaults-file")
+    try:
+        port = parts.port
+    except ValueError:
+        port = 0
+    if parts.scheme != "mysql" or not parts.hostname or port == 0 or parts.path not in ("", "/") or parts.query or parts.fragment:
+        raise WordsRefused(f"binlogfeed: {url} is no server: mysql://USER@HOST:PORT/ is wanted")
+    user = None if parts.username is None else unquote(parts.username)
+    return address._replace(host=parts.hostname, port=port or address.port, user=user or address.user)
+
+
+def client() -> Any:
+    """PyMySQL."""
+    try:
+        return importlib.import_module("pymysql")
+    except ImportError as error:
+        how = "apt-get install python3-pymysql, or pip install PyMySQL"
+        raise WordsRefused(f"binlogfeed: a snapshot needs PyMySQL: {how}") from error
+
+
+class Connection:
+    """A connection. Its answers are rows of bytes, with None for NULL."""
+
+    def __init__(self, address: Address) -> None:
+        """Connects."""
+        self._client = client()
+        words = {
+            "host": address.host, "port": address.port, "unix_socket": address.socket, "user": address.user,
+            "read_default_file": address.defaults_file, "ssl_ca": address.ssl_ca, "password": os.environ.get("MYSQL_PWD"),
+        }  # fmt: skip
+        given = {name: word for name, word in words.items() if word}
+        with self._judged():
+            self._connection = self._client.connect(**given, charset="utf8mb4", use_unicode=False, conv={}, autocommit=True)
+        self.ask(SETTINGS)
+
+    def ask(self, statement: str) -> Sequence[Row]:
+        """What the server answers to a statement."""
+        with self._judged(), self._connection.cursor() as cursor:
+            cursor.execute(statement)
+            rows: Sequence[Row] = cursor.fetchall()
+            return rows
+
+    def stream(self, statement: str) -> Iterator[Sequence[Row]]:
+        """The rows that the server answers, some at a time. They have to be taken to their end."""
+        with self._judged(), self._connection.cursor(self._client.cursors.SSCursor) as cursor:
+            cursor.execute(statement)
+            while True:
+                rows: Sequence[Row] = cursor.fetchmany(ROWS)
+                if not rows:
+                    return
+                yield rows
+
+    def close(self) -> None:
+        """Ends the connection."""
+        with contextlib.suppress(self._client.Error, OSError):
+            self._connection.close()
+
+    @contextlib.contextmanager
+    def _judged(self) -> Iterator[None]:
+        """Says what the server has refused."""
+        try:
+            yield
+        except self._client.Error as error:
+            number, said = (*error.args, "")[:2] if error.args else (0, "")
+            hint = f"\nhint: {HINTS[number]}" if number in HINTS else ""
+            raise ServerFault(f"binlogfeed: the server: {said or error} ({number}){hint}", number) from error
+
+
+def frozen(connections: Sequence[Connection]) -> Moment:
+    """Has all these connections see the tables as they are at one moment, and answers which it is.
+
+    All that is committed is in the log and in the tables while the lock is held, and nothing else is.
+    """
+    first = connections[0]
+    status = status_of(first)
+    first.ask("FLUSH TABLES WITH READ LOCK")
+    locked = time.monotonic()
+    try:
+        for connection in connections:
+            connection.ask("START TRANSACTION WITH CONSISTENT SNAPSHOT, READ ONLY")
+        answer = first.ask(status)
+        ((now,),) = first.ask("SELECT UNIX_TIMESTAMP()")
+    finally:
+        first.ask("UNLOCK TABLES")
+    held = time.monotonic() - locked
+    if not answer:
+        raise ServerFault("binlogfeed: the server writes no binary log (log_bin is OFF)", 0)
+    return Moment(answer[0][0].decode(), int(answer[0][1]), int(now), held)
+
+
+def status_of(connection: Connection) -> str:
+    """The statement by which this server says where its log is."""
+    try:
+        connection.ask(STATUS)
+    except ServerFault as fault:
+        if fault.number != NO_STATEMENT:
+            raise
+        return OLD_STATUS
+    return STATUS

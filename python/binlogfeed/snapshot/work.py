@@ -1,0 +1,153 @@
+"""Writes the rows of tables, by one process or by several at once."""
+from __future__ import annotations
+
+import multiprocessing
+import os
+import shutil
+import sys
+import time
+from collections.abc import Sequence
+from contextlib import nullcontext
+from typing import Any, NamedTuple
+
+from binlogfeed.faults import BinlogfeedError, FileFault
+from binlogfeed.snapshot.rows import WHOLE, Lines, Range, lines_of
+from binlogfeed.snapshot.server import Connection
+
+# Lines are written in blocks of so many bytes or more.
+BLOCK = 1 << 18
+# How often the progress is said, and the processes are looked at.
+SECONDS = 0.5
+
+
+class Part(NamedTuple):
+    """Rows that one process reads."""
+
+    lines: Lines
+    range: Range = WHOLE
+
+
+class Output:
+    """Standard output, which takes blocks of whole lines of several processes."""
+
+    def __init__(self, lock: Any, count: Any) -> None:
+        """`lock` is held by who writes, and `count` has how many lines all have written."""
+        self._lock, self._count = lock, count
+
+    def write(self, block: bytes, count: int) -> None:
+        """Writes some lines."""
+        left = memoryview(block)
+        with self._lock:
+            try:
+                while left:
+                    left = left[os.write(sys.stdout.fileno(), left) :]
+            except BrokenPipeError:
+                raise
+            except OSError as error:
+                raise FileFault(f"binlogfeed: can't write the output: {error.strerror}") from error
+            self._count.value += count
+
+
+class Progress:
+    """How many rows are written, on standard error where that is a terminal."""
+
+    def __init__(self, count: Any) -> None:
+        """The progress by a count."""
+        self._count, self._said, self._next = count, 0, time.monotonic() + SECONDS
+        self._is_seen = sys.stderr.isatty()
+
+    def say(self) -> None:
+        """Says it, if it is time to."""
+        if self._is_seen and time.monotonic() >= self._next:
+            self._next = time.monotonic() + SECONDS
+            text = f"binlogfeed: {self._count.value:,} rows"[: shutil.get_terminal_size().columns - 1]
+            print(f"\r{text.ljust(self._said)}", end="", file=sys.stderr, flush=True)
+            self._said = len(text)
+
+    def end(self) -> None:
+        """Takes the line away."""
+        if self._said:
+            print(f"\r{' ' * self._said}\r", end="", file=sys.stderr, flush=True)
+
+
+def write_all(connections: Sequence[Connection], parts: Sequence[Part]) -> int:
+    """Writes the rows of all parts, with a process for each connection. Answers how many they are."""
+    context = multiprocessing.get_context("fork")
+    count, next_part = context.Value("Q", 0, lock=False), context.Value("I", 0)
+    progress = Progress(count)
+    try:
+        if len(connections) == 1:
+            write_some(connections[0], parts, next_part, Output(nullcontext(), count), progress)
+        else:
+            output, said = Output(context.Lock(), count), context.SimpleQueue()
+            words = (parts, next_part, output, said)
+            processes = [context.Process(target=work, args=(connection, *words), daemon=True) for connection in connections]
+            for process in processes:
+                process.start()
+            wait_for(processes, said, progress)
+    finally:
+        progress.end()
+    return int(count.value)
+
+
+def write_some(connection: Connection, parts: Sequence[Part], next_part: Any, output: Output, progress: Progress | None) -> None:
+    """Writes the rows of those parts that no other process takes."""
+    while True:
+        with next_part.get_lock():
+            at = next_part.value
+            next_part.value += 1
+        if at >= len(parts):
+            return
+        blocks: list[bytes] = []
+        size = rows = 0
+        for block, count in lines_of(connection, parts[at].lines, parts[at].range):
+            blocks.append(block)
+            size, rows = size + len(block), rows + count
+            if size >= BLOCK:
+                output.write(b"".join(blocks), rows)
+                blocks, size, rows = [], 0, 0
+                if progress:
+                    progress.say()
+        if blocks:
+            output.write(b"".join(blocks), rows)
+
+
+def work(connection: Connection, parts: Sequence[Part], next_part: Any, output: Output, said: Any) -> None:
+    """What a process does. It says what ended it early."""
+    try:
+        write_some(connection, parts, next_part, output, None)
+    except BinlogfeedError as error:
+        said.put((error.line, error.status))
+    except BrokenPipeError:
+        said.put(("", 0))
+    except KeyboardInterrupt:
+        pass
+    os._exit(0)
+
+
+def wait_for(processes: Sequence[Any], said: Any, progress: Progress) -> None:
+    """Waits until all processes have ended. Where one ended early, the others are ended, and its error is raised."""
+    try:
+        while any(process.is_alive() for process in processes):
+            processes[0].join(SECONDS / len(processes))
+            for process in processes[1:]:
+                process.join(SECONDS / len(processes))
+            judge(processes, said)
+            progress.say()
+        judge(processes, said)
+    finally:
+        for process in processes:
+            process.kill()
+            process.join()
+
+
+def judge(processes: Sequence[Any], said: Any) -> None:
+    """Raises the error that a process ended with."""
+    if not said.empty():
+        line, status = said.get()
+        if not line:
+            raise BrokenPipeError
+        raise BinlogfeedError(line, status)
+    for process in processes:
+        if process.exitcode:
+            raise BinlogfeedError(f"binlogfeed: a process of the snapshot ended with status {process.exitcode}", 70)
