@@ -1,0 +1,294 @@
+"""The first copy of the tables: lines of a snapshot, by what a MySQL 9.7.4 answered (tests/snapshot/README.md says how it was recorded)."""
+import contextlib
+import importlib.util
+import io
+import json
+import re
+import subprocess
+import sys
+from unittest import TestCase, mock, skipIf
+
+from binlogfeed import BinlogfeedError, Place, WordsRefused
+from binlogfeed.__main__ import main
+from binlogfeed.floats import text_of_float
+from binlogfeed.follow import read_state, write_state
+from binlogfeed.snapshot import server, texts
+from binlogfeed.snapshot.documents import document
+from binlogfeed.snapshot.rows import WHOLE, Lines, Range, parts_of
+from binlogfeed.snapshot.server import Address, Moment, ServerFault, of_url, row_of
+from binlogfeed.snapshot.tables import Table, Told, tables_of
+from support import PROGRAM, TOP, FolderTest
+
+RECORDED = TOP / "tests/snapshot/answers.jsonl"
+# Two schemas, and where the log has the inserts of each.
+LOGS = {"truth": TOP / "tests/truth/binlog.000001", "made": TOP / "tests/snapshot/binlog.000001"}
+# The members of a line that say when and where it was.
+OF_LOG = re.compile(r'"committed":\d+,|,"timestamp":\d+,"token":"[^"]*"|(?<="gtid":)"[^"]*"')
+OF_SNAPSHOT = re.compile(r'"snapshot":true,|,"timestamp":\d+,"token":"[^"]*"|(?<="gtid":)null')
+# What the server said of its log when the answers were recorded.
+TOKEN = "25899.0@binlog.000005"
+
+
+class Recorded:
+    """A connection that answers as the server did."""
+
+    answers = {}
+
+    def __init__(self, address=None):
+        """Reads the answers."""
+        self.asked = []
+        if not self.answers:
+            for line in RECORDED.read_text(encoding="utf-8").split("\n")[:-1]:
+                told = json.loads(line)
+                rows = [tuple(None if it is None else it.encode("latin1") for it in row) for row in told["rows"]]
+                self.answers[told["statement"]] = rows
+
+    def ask(self, statement):
+        """The answer to a statement."""
+        self.asked.append(statement)
+        return self.answers[statement]
+
+    def stream(self, statement):
+        """The same, some rows at a time."""
+        rows = self.ask(statement)
+        for at in range(0, len(rows), 5):
+            yield rows[at : at + 5]
+
+    def close(self):
+        """Ends it."""
+        self.asked.append("close")
+
+
+def inserts(schema):
+    """The lines of the inserts of a schema, by its log, without what says when and where they were made."""
+    command = [PROGRAM, "read", "--full", f"--only-schemas={schema}", "--only-events=insert", str(LOGS[schema])]
+    lines = subprocess.run(command, capture_output=True, check=True).stdout.decode().split("\n")[:-1]
+    return sorted(OF_LOG.sub("", line) for line in lines)
+
+
+def without_place(lines):
+    """Lines of a snapshot, without what says when and where they were made."""
+    return sorted(OF_SNAPSHOT.sub("", line) for line in lines)
+
+
+class CommandTest(FolderTest):
+    """Runs the command with recorded answers in place of a server."""
+
+    def ran(self, *words, connection=Recorded):
+        """The exit status of a snapshot, its lines, and what it said."""
+        out, said = self.folder / "out", io.StringIO()
+        with contextlib.ExitStack() as stack:
+            stack.enter_context(mock.patch("binlogfeed.snapshot.command.Connection", connection))
+            stack.enter_context(mock.patch.object(sys, "argv", ["binlogfeed", "snapshot", *words]))
+            stack.enter_context(contextlib.redirect_stdout(stack.enter_context(open(out, "w", encoding="utf-8"))))
+            stack.enter_context(contextlib.redirect_stderr(said))
+            status = main()
+        return status, out.read_text(encoding="utf-8").split("\n")[:-1], said.getvalue()
+
+
+class Whole(CommandTest):
+    """Whole snapshots."""
+
+    def test_lines_are_those_of_the_log(self):
+        """All types and character sets: 720 rows of `truth`, and the edges of numbers, documents, names, moments and keys in `made`."""
+        for schema, count in (("truth", 720), ("made", 874)):
+            status, lines, said = self.ran(schema)
+            self.assertEqual((status, len(lines)), (0, count), said)
+            self.assertEqual(without_place(lines), inserts(schema))
+
+    def test_members(self):
+        _, lines, said = self.ran("made", "--only-tables=beginnings")
+        self.assertEqual(len(lines), 2)
+        for line in lines:
+            members = json.loads(line)
+            self.assertIs(members["snapshot"], True)
+            self.assertEqual((members["token"], members["kind"], members["before"]), (TOKEN, "insert", None))
+            self.assertEqual(list(members)[-4:], ["snapshot", "table", "timestamp", "token"])
+        self.assertRegex(said, rf"\Abinlogfeed: the tables as they are at {TOKEN}; the lock on all tables was held for \d\.\d{{3}} seconds\n")
+        self.assertTrue(said.endswith("binlogfeed: 2 rows of 1 tables\n"))
+
+    def test_the_state_goes_on_behind_it(self):
+        state = self.folder / "state"
+        status, lines, said = self.ran("--state", str(state), "made", "--only-tables=opaque,nokey")
+        self.assertEqual((status, len(lines)), (0, 3), said)
+        self.assertEqual(read_state(state), Place("binlog.000005", None, TOKEN))
+
+    def test_a_state_that_is_there_is_not_written_over(self):
+        state = self.folder / "state"
+        write_state(state, Place("binlog.000001", None, "4.0@binlog.000001"))
+        status, lines, said = self.ran("--state", str(state), "made")
+        self.assertEqual((status, lines, said.count("keeps a place already")), (2, [], 1))
+        self.assertEqual(read_state(state).file, "binlog.000001")
+
+    def test_a_snapshot_that_fails_keeps_no_state(self):
+        class Failing(Recorded):
+            """A server that ends amid the rows."""
+
+            def stream(self, statement):
+                """Gives some rows."""
+                yield self.ask(statement)[:1]
+                raise ServerFault("binlogfeed: the server: gone (2013)", 2013)
+
+        state = self.folder / "state"
+        status, lines, said = self.ran("--state", str(state), "made", "--only-tables=bytes", connection=Failing)
+        self.assertEqual((status, len(lines)), (4, 0))
+        self.assertIn("binlogfeed: the server: gone (2013)\n", said)
+        self.assertFalse(state.exists())
+
+    def test_the_statements_of_the_moment_stand_within_the_lock(self):
+        made = []
+
+        class Listed(Recorded):
+            """A connection that is looked at afterwards."""
+
+            def __init__(self, address):
+                """Keeps it."""
+                super().__init__(address)
+                made.append(self)
+
+        self.ran("made", "--only-tables=nokey", connection=Listed)
+        (connection,) = made
+        begin = connection.asked.index("FLUSH TABLES WITH READ LOCK")
+        transaction = "START TRANSACTION WITH CONSISTENT SNAPSHOT, READ ONLY"
+        within = ["SHOW BINARY LOG STATUS", "SELECT UNIX_TIMESTAMP()", "UNLOCK TABLES"]
+        self.assertEqual(connection.asked[begin + 1 : begin + 5], [transaction, *within])
+        self.assertEqual(connection.asked[-1], "close")
+
+    def test_several_processes_write_each_row_once(self):
+        status, lines, said = self.ran("--jobs=3", "made", "truth")
+        self.assertEqual((status, len(lines)), (0, 874 + 720), said)
+        self.assertEqual(without_place(lines), sorted(inserts("made") + inserts("truth")))
+
+    def test_a_fault_of_one_of_several_processes_ends_all(self):
+        class Failing(Recorded):
+            """A server that refuses a table."""
+
+            def stream(self, statement):
+                """Refuses it."""
+                if "`nokey`" in statement:
+                    raise ServerFault("binlogfeed: the server: altered (1412)", 1412)
+                yield from super().stream(statement)
+
+        status, _, said = self.ran("--jobs=2", "made", connection=Failing)
+        self.assertEqual((status, said.count("altered (1412)")), (4, 1))
+
+
+class Refused(CommandTest):
+    """Words that are wrong."""
+
+    def test_a_schema_that_is_not_there(self):
+        status, lines, said = self.ran("mad")
+        self.assertEqual((status, lines), (2, []))
+        self.assertRegex(said, r"\Abinlogfeed: the server has no schema mad: it shows .*made.*truth\n\Z")
+
+    def test_a_table_that_is_not_there(self):
+        status, lines, said = self.ran("made", "--only-tables=nokey,nokay")
+        self.assertEqual((status, lines), (2, []))
+        self.assertTrue(said.endswith("binlogfeed: the server has no table nokay in made\n"))
+
+    def test_urls(self):
+        address = of_url("mysql://a%20b@db.example:3307/", Address())
+        self.assertEqual((address.user, address.host, address.port), ("a b", "db.example", 3307))
+        self.assertEqual(of_url("mysql://db", Address(port=33, user="u")), Address("db", 33, None, "u"))
+        for url in ("mysql:///", "mysql://u@h:0/", "mysql://u@h:x/", "mysql://u@h/shop", "mysql://u@h/?a=1"):
+            with self.assertRaisesRegex(WordsRefused, r"mysql://USER@HOST:PORT/ is wanted"):
+                of_url(url, Address())
+        with self.assertRaisesRegex(WordsRefused, "MYSQL_PWD") as refused:
+            of_url("mysql://u:secret@h/", Address())
+        self.assertNotIn("secret", str(refused.exception))
+
+    def test_without_a_schema(self):
+        status, _, said = self.ran("mysql://u@h/")
+        self.assertEqual((status, said), (2, "binlogfeed: no schema is named\n"))
+
+    @skipIf(importlib.util.find_spec("pymysql"), "this Python has PyMySQL")
+    def test_without_pymysql(self):
+        status, _, said = self.ran("made", connection=server.Connection)
+        self.assertEqual((status, said.count("apt-get install python3-pymysql")), (2, 1))
+
+    def test_other_engines(self):
+        class Old(Recorded):
+            """A server whose tables are of another engine."""
+
+            def ask(self, statement):
+                """Names it."""
+                rows = super().ask(statement)
+                return [(row[0], b"MyISAM", row[2]) for row in rows] if "ENGINE" in statement else rows
+
+        status, lines, said = self.ran("made", "--only-tables=nokey", connection=Old)
+        self.assertEqual((status, lines), (2, []))
+        self.assertIn("made.nokey has the engine MyISAM", said)
+
+
+class Parts(TestCase):
+    """Parts of what a snapshot does, by values worked out by hand."""
+
+    def test_documents(self):
+        for text, wanted in (
+            ('{"a": 1, "b": [1, 2]}', '{"a":1,"b":[1,2]}'),
+            ('["a, b: c", "\\", ", {"x: ": null}]', '["a, b: c","\\", ",{"x: ":null}]'),
+            ("[1e22, -1.5e300, 1e-7, 0.00001, 0.0001, -0.0, 1.0]", "[1e+22,-1.5e+300,1e-07,1e-05,0.0001,-0.0,1.0]"),
+            ("[1.50, 12345678901234567890.5, 100000000000000000.0, 0.00]", "[1.50,12345678901234567890.5,100000000000000000.0,0.00]"),
+            ("[0.0000100]", "[0.0000100]"),
+            ('["base64:type16:ASw=", "base64:type252:YW\\nI="]', '[{"base64":"ASw=","type":16},{"base64":"YWI=","type":252}]'),
+            ('{"base64:type16:ASw=": "base64:type16:ASw"}', '{"base64:type16:ASw=":"base64:type16:ASw"}'),
+            ('"2024-01-02 03:04:05.000000"', '"2024-01-02 03:04:05.000000"'),
+        ):
+            self.assertEqual(document(text), wanted)
+
+    def test_floats(self):
+        """2^-24 and 2^87 are FLOATs whose neighbours below are closer: the nearest decimal of so many digits may be none of theirs."""
+        exactly = (
+            *((0.10000000149011612, "0.1"), (3.3999999521443642e38, "3.4e+38"), (16777216.0, "16777216.0"), (0.0, "0.0"), (-0.0, "-0.0")),
+            *((1.401298464324817e-45, "1e-45"), (1.1754943508222875e-38, "1.1754944e-38"), (-1.5, "-1.5"), (8589934592.0, "8589935000.0")),
+            *((9.999999747378752e-06, "1e-05"), (2.0**-24, "5.9604645e-08"), (2.0**87, "1.5474251e+26")),
+        )
+        for value, wanted in exactly:
+            self.assertEqual(text_of_float(value), wanted)
+
+    def test_rows_of_packets(self):
+        class Packet:
+            """A packet of a row."""
+
+            def __init__(self, data):
+                """Its bytes."""
+                self.get_all_data = lambda: data
+
+        long, longer = b"x" * 251, b"y" * 70000
+        data = b"\x01a\xfb\x00\xfc\xfb\x00" + long + b"\xfd\x70\x11\x01" + longer + b"\xfe\x01" + bytes(7) + b"z"
+        self.assertEqual(row_of(Packet(data)), (b"a", None, b"", long, longer, b"z"))
+
+    def test_parts_have_each_number_once(self):
+        table = Table("s", "t", (Told("id", "int", "int"),), ("id",), False, 10)
+        for least, greatest, count in ((-5, 5, 3), (1, 1, 4), (0, 100, 7), (1, 2, 5)):
+            connection = mock.Mock(ask=lambda statement, it=(least, greatest): [tuple(b"%d" % number for number in it)])
+            parts = parts_of(connection, table, count)
+            self.assertLessEqual(len(parts), count)
+            self.assertEqual((parts[0].least, parts[-1].end), (None, None))
+            self.assertEqual([part.end for part in parts[:-1]], [part.least for part in parts[1:]])
+        self.assertEqual(parts_of(mock.Mock(ask=lambda statement: [(None, None)]), table, 3), [WHOLE])
+        self.assertEqual(parts_of(mock.Mock(), table._replace(key=()), 3), [WHOLE])
+
+    def test_statements(self):
+        columns = (Told("b`x", "float", "float"), Told("a", "int", "int unsigned", None, True), Told("t", "timestamp", "timestamp"))
+        lines = Lines(Table("s", "t", columns, ("a", "b`x"), False, 0), Moment("f", 4, 0, 0.0), {})
+        asked = "SELECT CAST(`a` AS UNSIGNED), `b``x` * 1e0, UNIX_TIMESTAMP(`t`) FROM `s`.`t` FORCE INDEX (PRIMARY)"
+        self.assertEqual(lines.statement(), f"{asked} ORDER BY `a`, `b``x`")
+        self.assertEqual(lines.statement(Range(3, 7)), f"{asked} WHERE `a` >= 3 AND `a` < 7 ORDER BY `a`, `b``x`")
+
+    def test_texts_that_are_none(self):
+        """Latin1's gap 81 is a character, cp1250's is none: what the server makes of all bytes says so."""
+        characters = {"cp1250": texts.told_characters("".join(map(chr, range(128))).encode() + b"?" * 128)}
+        self.assertEqual(texts.text("latin1", {})(b"\x80\x81"), '"€\x81"'.encode())
+        self.assertEqual(texts.text("cp1250", characters)(b"a?"), b'"a?"')
+        self.assertEqual(texts.text("cp1250", characters)(b"a\x81"), b'{"base64":"YYE=","charset":"cp1250"}')
+        self.assertEqual(texts.text("utf8mb4", {})(b"\xff"), b'{"base64":"/w==","charset":"utf8mb4"}')
+        self.assertEqual(texts.text("utf16", {})(b"\xd8\x00"), b'{"base64":"2AA=","charset":"utf16"}')
+        self.assertEqual(texts.text("utf8mb4", {})(b'"\x1f\n\\\x7f'), b'"\\"\\u001f\\n\\\\\x7f"')
+
+    def test_types_that_are_not_read(self):
+        row = [b"s", b"t", b"v", b"vector", b"vector(3)", b"12", None, None, None, None]
+        connection = mock.Mock()
+        connection.ask.side_effect = [[(b"s",)], [(b"t", b"InnoDB", b"0")], [row], []]
+        with self.assertRaisesRegex(BinlogfeedError, r"s\.t\.v has the type vector\(3\), which isn't read"):
+            tables_of(connection, ["s"])
