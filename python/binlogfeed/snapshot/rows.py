@@ -147,9 +147,9 @@ def json_of(value: object) -> bytes:
     return json.dumps(value, ensure_ascii=False, separators=(",", ":")).encode()
 
 
-def characters_of(connection: Connection, tables: Sequence[Table]) -> dict[str, str]:
-    """The 256 characters of each set of one byte a character that a column of these tables has."""
-    wanted = {column.charset for table in tables for column in table.columns} & texts.BYTES
+def characters_of(connection: Connection, tables: Sequence[Table]) -> Characters:
+    """The characters of each set of one byte a character that a column of these tables has."""
+    wanted = texts.BYTES.intersection(column.charset or "" for table in tables for column in table.columns)
     every = bytes(range(256)).hex()
     found = {}
     for charset in sorted(wanted):

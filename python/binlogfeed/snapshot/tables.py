@@ -93,7 +93,7 @@ def _tables_of(connection: Connection, schema: str, is_chosen: Callable[[str], b
 
 def told_column(table: str, row: Row) -> Told:
     """A column, by what the server says of it."""
-    _, _, name, word, type_, octets, precision, scale, fraction, charset = (None if it is None else it.decode() for it in row)
+    name, word, type_, octets, precision, scale, fraction, charset = ("" if it is None else it.decode() for it in row[2:])
     word = "geometry" if word in GEOMETRIES else word
     words = type_.split()
     sign = " unsigned" if "unsigned" in words else ""
@@ -107,7 +107,7 @@ def told_column(table: str, row: Row) -> Told:
     if word in ("year", "date", "json", "geometry"):
         return Told(name, word, word)
     if word in TIMES:
-        return Told(name, word, f"{word}({fraction})" if int(fraction or 0) else word)
+        return Told(name, word, f"{word}({fraction})" if fraction not in ("", "0") else word)
     if word in BINARY:
         return Told(name, word, f"{word}({octets})" if word in ("binary", "varbinary") else word, "binary")
     if word in CHARACTERS:

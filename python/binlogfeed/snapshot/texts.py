@@ -5,7 +5,7 @@ import codecs
 import re
 from binascii import b2a_base64
 from collections.abc import Callable, Mapping
-from json import encoder
+from json import JSONEncoder
 from typing import Optional
 
 from binlogfeed.floats import text_of_double, text_of_float
@@ -14,8 +14,8 @@ from binlogfeed.snapshot.documents import document
 Convert = Callable[[bytes], bytes]
 # What needs another spelling in JSON.
 ESCAPED = re.compile(rb'[\x00-\x1f"\\]').search
-# The JSON of a text: the function of C that `json` itself calls where there is one.
-json_text: Callable[[str], str] = encoder.encode_basestring
+# The JSON of a text.
+json_text: Callable[[str], str] = JSONEncoder(ensure_ascii=False).encode
 
 UTF8 = {"utf8mb4", "utf8mb3", "ascii"}
 # Those of several bytes a character that are read, with Python's codecs for them.
@@ -25,12 +25,12 @@ BYTES = {
     "armscii8", "cp1250", "cp1251", "cp1256", "cp1257", "cp850", "cp852", "cp866", "dec8", "geostd8", "greek", "hebrew", "hp8",
     "keybcs2", "koi8r", "koi8u", "latin2", "latin5", "latin7", "macce", "macroman", "swe7", "tis620",
 }  # fmt: skip
-# What a table of 256 characters has where there is none.
-NONE = "\ufffe"
+# The characters of a set of one byte a character, by their bytes.
+Table = dict[int, int]
+# Those of each set that is asked for.
+Characters = Mapping[str, Table]
 # In MySQL's latin1 the gaps of Windows-1252 are characters, too.
-LATIN1 = "".join(bytes([byte]).decode("cp1252", "ignore") or chr(byte) for byte in range(256))
-
-Characters = Mapping[str, str]
+LATIN1: Table = {byte: ord(bytes([byte]).decode("cp1252", "ignore") or chr(byte)) for byte in range(256)}
 
 
 def in_base64(raw: bytes) -> bytes:
@@ -88,7 +88,7 @@ def unreadable(charset: str) -> Convert:
 
 
 def text(charset: Optional[str], characters: Characters) -> Convert:
-    """What makes a text of a character set. `characters` has the 256 of each set of one byte a character that is asked for."""
+    """What makes a text of a character set."""
     if charset is None or charset == "binary":
         return in_base64
     if charset in UTF8:
@@ -116,7 +116,7 @@ def names(charset: Optional[str], characters: Characters) -> Convert:
     return convert if charset in (None, "binary") else lambda raw: convert(raw) if raw else b'""'
 
 
-def told_characters(told: bytes) -> str:
-    """The 256 characters of a set, by what a server makes of all bytes. What it can't read becomes a question mark, or U+FFFD."""
-    found = told.decode()
-    return "".join(NONE if character == "\ufffd" or (character == "?" and at != ord("?")) else character for at, character in enumerate(found))
+def told_characters(told: bytes) -> Table:
+    """The characters of a set, by what a server makes of all bytes. One that it can't read becomes a question mark, or U+FFFD."""
+    characters = enumerate(told.decode())
+    return {byte: ord(it) for byte, it in characters if it != "\ufffd" and (it != "?" or byte == ord("?"))}
