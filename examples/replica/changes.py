@@ -34,6 +34,8 @@ class Source(NamedTuple):
     begin: str = FIRST
     # How many seconds a change waits behind the moment at which it was seen.
     lag: float = 0.0
+    # The names of the tables that are kept, with commas; all where there is none.
+    only_tables: str = ""
 
 
 class Changes:
@@ -46,6 +48,7 @@ class Changes:
     def __init__(self, source: Source, place: Place, again: bool = False) -> None:
         """The changes behind a place, or from where the source is to be begun. `again` says that they were begun before."""
         options = [f"--profile={source.profile}", f"--only-schemas={source.schema}"]
+        options += [f"--only-tables={source.only_tables}"] if source.only_tables else []
         self._watch = Watch(source.logs, [source.program, "read", "--follow", "--full", *options], place, source.begin, "the target", source.lag)
         self._watch.begun = again
         self._source = source

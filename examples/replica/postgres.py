@@ -7,6 +7,7 @@ from collections.abc import Iterator, Sequence
 from functools import lru_cache
 from typing import Optional, Union
 
+import creating
 import psql
 from batches import Batch
 from fitting import Converter, for_postgres
@@ -185,6 +186,17 @@ class Postgres(Target):
     def converter(self, log: str, target: str) -> Converter:
         """What makes of a value what the column takes."""
         return for_postgres(log, target)
+
+    def create(self, name: str, columns: Sequence[tuple[str, str]], key: Sequence[str]) -> None:
+        """Makes a table."""
+        self._waiting.add(creating.statement(name, columns, key, creating.postgres_type, quoted), -1)
+        self.flush()
+
+    def has_rows(self, name: str) -> bool:
+        """Whether a table has a row."""
+        self.flush()
+        with judged():
+            return bool(self._connection.query(f"SELECT 1 FROM {quoted(name)} LIMIT 1"))
 
     def _make_place(self) -> None:
         """Makes the table of the place where there is none."""

@@ -6,8 +6,9 @@
 
 postgres takes psycopg where that is installed, else the program psql; psycopg:CONNECTION and psql:CONNECTION name one
 of them. LOGS is the server's index file, the folder that has one, or a pattern in quotes. The tables stand in the
-target already, by the same names, with the same columns and with their primary keys. Each run takes what is new in the
-logs, and ends; with --follow it goes on.
+target already, by the same names, with the same columns and with their primary keys; or --create makes them. The first
+run begins with the first log, or with a copy of the server's tables (--from). Each run takes what is new in the logs,
+and ends; with --follow it goes on.
 
 One transaction of the target has whole transactions of the log, and the place behind them. So whenever this process is
 killed, the target has each change up to its place once, and none behind it.
@@ -34,6 +35,7 @@ from binlogfeed.lines import Change  # noqa: E402
 from binlogfeed.options import LAG_HELP, lag_seconds, only_one, seconds  # noqa: E402
 from binlogfeed.tokens import beginning  # noqa: E402
 from changes import Changes, Source  # noqa: E402
+from copying import Server, take_copy  # noqa: E402
 from postgres import Postgres  # noqa: E402
 from sqlite import Sqlite  # noqa: E402
 from targets import AwayError, MisfitError, ReplicaError, Target, WrongWordsError  # noqa: E402
@@ -123,6 +125,8 @@ class Replica:
     def _check_schema(self) -> None:
         """Raises an error where the logs have changes of other schemas alone: the name may be wrong, and the place isn't to move on."""
         others = self._changes.other_schemas()
+        if self._source.schema in others and self._source.only_tables:
+            raise WrongWordsError(f"no log has a change of {self._source.only_tables}: mend the names, or begin with --begin now")
         if others:
             few = ", ".join(others)
             raise WrongWordsError(
@@ -214,6 +218,12 @@ def given_words() -> argparse.Namespace:
     add_profile(parser)
     columns = "the columns of tables that have no names in the log, as information_schema.columns has them"
     parser.add_argument("--columns", metavar="FILE", help=columns)
+    parser.add_argument("--only-tables", default="", metavar="LIST", help="only the tables with these names")
+    parser.add_argument("--create", action="store_true", help="make tables that the target hasn't, with types that hold all values")
+    server = "if no place is kept yet, copy the tables of this server first: mysql://USER@HOST:PORT/ (needs PyMySQL)"
+    parser.add_argument("--from", dest="server", metavar="URL", help=server)
+    password = "an option file of MySQL's clients for --from; without it the password is that of MYSQL_PWD"
+    parser.add_argument("--defaults-file", metavar="FILE", help=password)
     parser.add_argument("--begin", default=FIRST, metavar="PLACE", help=begin.HELP)
     parser.add_argument("--follow", action="store_true", help="go on when the logs grow, until SIGTERM")
     parser.add_argument("--interval", type=seconds, default=1.0, metavar="SECONDS", help="how often to look for more (1)")
@@ -227,10 +237,15 @@ def given_words() -> argparse.Namespace:
 
 def keep_up(given: argparse.Namespace) -> None:
     """Keeps the replica until the logs end, or for ever."""
-    source = Source(given.logs, given.schema, given.program, given.profile, given_columns(given.columns), given.begin, given.lag)
+    tables = given_columns(given.columns)
+    logs = Source(given.logs, given.schema, given.program, given.profile, tables, given.begin, given.lag, given.only_tables)
     target = opened(given.target, given.schema, given.unfit)
+    target.creates = given.create
     try:
-        replica = Replica(target, source, given.commit_every)
+        if given.server:
+            only = [name for name in given.only_tables.split(",") if name]
+            take_copy(target, Server(given.server, given.defaults_file), given.schema, only)
+        replica = Replica(target, logs, given.commit_every)
         try:
             replica.catch_up()
             while given.follow:

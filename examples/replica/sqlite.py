@@ -3,8 +3,9 @@ from __future__ import annotations
 
 import contextlib
 import sqlite3
-from collections.abc import Iterator
+from collections.abc import Iterator, Sequence
 
+import creating
 from batches import Batch
 from fitting import Converter, for_sqlite
 from targets import PLACE, PLACE_MADE, AwayError, MisfitError, Shape, Target
@@ -78,6 +79,16 @@ class Sqlite(Target):
     def converter(self, log: str, target: str) -> Converter:
         """What makes of a value what the column takes."""
         return for_sqlite(log, target)
+
+    def create(self, name: str, columns: Sequence[tuple[str, str]], key: Sequence[str]) -> None:
+        """Makes a table."""
+        with judged():
+            self._connection.execute(creating.statement(name, columns, key, creating.sqlite_type, quoted))
+
+    def has_rows(self, name: str) -> bool:
+        """Whether a table has a row."""
+        with judged():
+            return self._connection.execute(f"SELECT 1 FROM {quoted(name)} LIMIT 1").fetchone() is not None
 
 
 def statement_of(batch: Batch) -> str:

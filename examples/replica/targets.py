@@ -1,7 +1,7 @@
 """The databases that a replica is kept in: what SQLite and PostgreSQL have in common, and what goes wrong with them."""
 from __future__ import annotations
 
-from collections.abc import Callable
+from collections.abc import Callable, Sequence
 from operator import itemgetter
 from typing import Any, NamedTuple
 
@@ -102,6 +102,8 @@ class Target:
 
     # Whether a batch may change a row only once, and no row's key.
     distinct = False
+    # Whether tables that aren't there are made, by what the log says of them.
+    creates = False
 
     def __init__(self, schema: str, unfit_is_null: bool) -> None:
         """A target of a schema of the log. What its columns can't hold is NULL there, or ends the run."""
@@ -149,6 +151,14 @@ class Target:
         """What makes of a value of the log's type one of the target's."""
         raise NotImplementedError
 
+    def create(self, name: str, columns: Sequence[tuple[str, str]], key: Sequence[str]) -> None:
+        """Makes a table of these columns, with their types in the log, in the open transaction."""
+        raise NotImplementedError
+
+    def has_rows(self, name: str) -> bool:
+        """Whether a table has a row."""
+        raise NotImplementedError
+
     def table(self, change: Change) -> Table:
         """The table of a change, which has to have the columns of the target's, and those that it had before."""
         name, columns = change.form.table, change.form.columns
@@ -157,6 +167,9 @@ class Target:
             return known
         met, where = self._met.get(name), f"{self._schema}.{name}"
         shape = self.shape(name)
+        if not shape.types and self.creates and not are_numbered(columns):
+            self.create(name, columns, change.form.key)
+            shape = self.shape(name)
         if not shape.types:
             raise MisfitError(f"the target has no table {name}, which a change at {change.token} is of")
         lists = f"in the log it has {listed(columns)}; in the target {listed(tuple(shape.types.items()))}"

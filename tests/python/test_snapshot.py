@@ -190,6 +190,7 @@ class Refused(CommandTest):
         address = of_url("mysql://a%20b@db.example:3307/", Address())
         self.assertEqual((address.user, address.host, address.port), ("a b", "db.example", 3307))
         self.assertEqual(of_url("mysql://db", Address(port=33, user="u")), Address("db", 33, None, "u"))
+        self.assertEqual(of_url("mysql://u@localhost/?socket=/run/my%20s", Address()).socket, "/run/my s")
         for url in ("mysql:///", "mysql://u@h:0/", "mysql://u@h:x/", "mysql://u@h/shop", "mysql://u@h/?a=1"):
             with self.assertRaisesRegex(WordsRefused, r"mysql://USER@HOST:PORT/ is wanted"):
                 of_url(url, Address())

@@ -9,7 +9,6 @@ from typing import Any
 
 from binlogfeed.faults import WordsRefused
 from binlogfeed.follow import locked, read_state, write_state
-from binlogfeed.place import Place
 from binlogfeed.snapshot.rows import Lines, characters_of, parts_of
 from binlogfeed.snapshot.server import Address, Connection, Moment, frozen, of_url
 from binlogfeed.snapshot.tables import Table, check_are_there, tables_of
@@ -71,7 +70,7 @@ def snapshot(given: argparse.Namespace) -> None:
         if read_state(given.state).file is not None:
             raise WordsRefused(f"binlogfeed: {given.state} keeps a place already: take it away, and what was made of the lines before it")
         moment = write(given, address, schemas)
-        write_state(given.state, place_of(moment))
+        write_state(given.state, moment.place)
 
 
 def write(given: argparse.Namespace, address: Address, schemas: Sequence[str]) -> Moment:
@@ -98,11 +97,6 @@ def parts_for(connection: Connection, tables: Sequence[Table], moment: Moment, p
         count = processes * PARTS if processes > 1 and table.rows > MANY_ROWS else 1
         parts += [Part(lines, part) for part in parts_of(connection, table, count)]
     return parts
-
-
-def place_of(moment: Moment) -> Place:
-    """The place in the logs that `follow` goes on from."""
-    return Place(moment.file, None, moment.token)
 
 
 def names(words: str) -> list[str]:

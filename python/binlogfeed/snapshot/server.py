@@ -7,9 +7,10 @@ import os
 import time
 from collections.abc import Iterator, Sequence
 from typing import Any, NamedTuple, Optional
-from urllib.parse import unquote, urlsplit
+from urllib.parse import parse_qsl, unquote, urlsplit
 
 from binlogfeed.faults import BinlogfeedError, WordsRefused
+from binlogfeed.place import Place
 
 # So many rows are asked of PyMySQL at once.
 ROWS = 1000
@@ -75,12 +76,17 @@ class Moment(NamedTuple):
 
     @property
     def token(self) -> str:
-        """The place behind all that the tables have."""
+        """The token behind all that the tables have."""
         return f"{self.position}.0@{self.file}"
+
+    @property
+    def place(self) -> Place:
+        """The place that `follow` goes on from. It finds out itself which log has the file's name."""
+        return Place(self.file, None, self.token)
 
 
 def of_url(url: str, address: Address) -> Address:
-    """An address with what `mysql://user@host:port/` says."""
+    """An address with what `mysql://user@host:port/` says, or `mysql://user@localhost/?socket=path`."""
     parts = urlsplit(url)
     if parts.password is not None:
         raise WordsRefused("binlogfeed: a password in the words is for everyone to see: set MYSQL_PWD, or give --defaults-file")
@@ -88,10 +94,12 @@ def of_url(url: str, address: Address) -> Address:
         port = parts.port
     except ValueError:
         port = 0
-    if parts.scheme != "mysql" or not parts.hostname or port == 0 or parts.path not in ("", "/") or parts.query or parts.fragment:
-        raise WordsRefused(f"binlogfeed: {url} is no server: mysql://USER@HOST:PORT/ is wanted")
+    more = dict(parse_qsl(parts.query, keep_blank_values=True))
+    socket = more.pop("socket", address.socket)
+    if parts.scheme != "mysql" or not parts.hostname or port == 0 or parts.path not in ("", "/") or more or parts.fragment:
+        raise WordsRefused(f"binlogfeed: {url} is no server: mysql://USER@HOST:PORT/ is wanted, or mysql://USER@localhost/?socket=PATH")
     user = None if parts.username is None else unquote(parts.username)
-    return address._replace(host=parts.hostname, port=port or address.port, user=user or address.user)
+    return address._replace(host=parts.hostname, port=port or address.port, user=user or address.user, socket=socket)
 
 
 def client() -> Any:
