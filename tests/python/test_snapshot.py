@@ -221,6 +221,102 @@ class Refused(CommandTest):
         self.assertIn("made.nokey has the engine MyISAM", said)
 
 
+class FakeClient:
+    """What a snapshot takes of PyMySQL, with packets of rows that a server's socket would give."""
+
+    class Error(Exception):
+        """An error of the server."""
+
+    def __init__(self, packets=(), refused=()):
+        """These packets answer each statement, but for those that are refused: a part of each, with its number and text."""
+        self.cursors = mock.Mock(SSCursor="SSCursor")
+        self.packets, self.refused = packets, dict(refused)
+        self.did = []
+
+    def connect(self, **words):
+        """Connects."""
+        self.did.append(words)
+        return self
+
+    def cursor(self, kind=None):
+        """A cursor, which is this, too."""
+        self._result = mock.Mock(unbuffered_active=True, _read_row_from_packet=None)
+        self.left = list(self.packets)
+        return self
+
+    def __enter__(self):
+        """The cursor."""
+        return self
+
+    def __exit__(self, *error):
+        """Ends it."""
+
+    def execute(self, statement):
+        """Answers, or refuses."""
+        self.did.append(statement)
+        for part, error in self.refused.items():
+            if part in statement:
+                raise self.Error(*error)
+
+    def fetchall(self):
+        """A time, where one is asked for, and else no rows."""
+        return [(b"1",)] if "UNIX_TIMESTAMP" in self.did[-1] else []
+
+    def fetchmany(self, count):
+        """The next row."""
+        rows = [self._result._read_row_from_packet(mock.Mock(get_all_data=lambda it=it: it)) for it in self.left[:1]]
+        del self.left[:1]
+        return rows
+
+    def close(self):
+        """Ends the cursor or the connection."""
+        self.did.append(f"close {self._result.unbuffered_active}")
+
+
+class Connections(TestCase):
+    """Connections, with a client that stands in for PyMySQL."""
+
+    def connected(self, client):
+        """A connection."""
+        with mock.patch("binlogfeed.snapshot.server.client", lambda: client):
+            return server.Connection(Address("h", 0, None, "u"))
+
+    def test_rows_come_as_bytes(self):
+        client = FakeClient([b"\x01a\xfb", b"\xfb\x00"])
+        with mock.patch.dict("os.environ", {"MYSQL_PWD": "secret"}):
+            connection = self.connected(client)
+        self.assertEqual(list(connection.stream("SELECT 1")), [[(b"a", None)], [(None, b"")]])
+        words = client.did[0]
+        self.assertEqual((words["host"], words["user"], words["password"], words["conv"], words["use_unicode"]), ("h", "u", "secret", {}, False))
+        self.assertNotIn("port", words)
+        self.assertIn("time_zone = '+00:00'", client.did[1])
+        self.assertEqual(client.did[-1], "close True")
+
+    def test_who_stops_early_reads_no_more(self):
+        """PyMySQL would read all rows that are left."""
+        client = FakeClient([b"\x01a"] * 9)
+        rows = self.connected(client).stream("SELECT 1")
+        next(rows)
+        rows.close()
+        self.assertEqual((client.did[-1], len(client.left)), ("close False", 8))
+
+    def test_what_the_server_refuses(self):
+        for number, hint in ((1045, "MYSQL_PWD"), (1227, "RELOAD and REPLICATION CLIENT"), (1205, "try again"), (9, "")):
+            connection = self.connected(FakeClient(refused={"FLUSH": (number, "no")}))
+            with self.assertRaises(ServerFault) as refused:
+                server.frozen([connection])
+            self.assertEqual((refused.exception.status, refused.exception.number), (4, number))
+            line, _, said = refused.exception.line.partition("\nhint: ")
+            self.assertEqual((line, hint in said), (f"binlogfeed: the server: no ({number})", True))
+
+    def test_older_servers(self):
+        """They know another statement alone. This one says nothing of a log, since it writes none."""
+        client = FakeClient(refused={"BINARY LOG STATUS": (1064, "syntax")})
+        with self.assertRaisesRegex(ServerFault, "log_bin is OFF"):
+            server.frozen([self.connected(client)])
+        self.assertEqual(client.did[-3:], ["SHOW MASTER STATUS", "SELECT UNIX_TIMESTAMP()", "UNLOCK TABLES"])
+
+
 class Parts(TestCase):
     """Parts of what a snapshot does, by values worked out by hand."""
 

@@ -15,7 +15,7 @@ from binlogfeed.place import Place
 # So many rows are asked of PyMySQL at once.
 ROWS = 1000
 # How many seconds the lock on all tables is waited for. Meanwhile the server's other sessions can't write.
-LOCK_WAIT = 30
+LOCK_WAIT = 10
 # Who takes the lines may stop for so many seconds.
 WRITE_WAIT = 86400
 # Values come as they are stored, in the character sets of their columns, and moments as they are in UTC.
@@ -134,17 +134,26 @@ class Connection:
             return rows
 
     def stream(self, statement: str) -> Iterator[Sequence[Row]]:
-        """The rows that the server answers, some at a time. They have to be taken to their end."""
-        with self._judged(), self._connection.cursor(self._client.cursors.SSCursor) as cursor:
+        """The rows that the server answers, some at a time. Where they aren't taken to their end, the connection ends."""
+        with self._judged():
+            cursor = self._connection.cursor(self._client.cursors.SSCursor)
             cursor.execute(statement)
             # PyMySQL takes most of the time for this. Where it has another form, it does it itself.
             if hasattr(getattr(cursor, "_result", None), "_read_row_from_packet"):
                 cursor._result._read_row_from_packet = row_of
-            while True:
-                rows: Sequence[Row] = cursor.fetchmany(ROWS)
-                if not rows:
-                    return
-                yield rows
+            try:
+                while True:
+                    rows: Sequence[Row] = cursor.fetchmany(ROWS)
+                    if not rows:
+                        break
+                    yield rows
+            except BaseException:
+                # Else PyMySQL would read the rows that are left, however many.
+                if getattr(cursor, "_result", None) is not None:
+                    cursor._result.unbuffered_active = False
+                self.close()
+                raise
+            cursor.close()
 
     def close(self) -> None:
         """Ends the connection."""
