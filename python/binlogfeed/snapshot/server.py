@@ -9,7 +9,7 @@ from collections.abc import Iterator, Sequence
 from typing import Any, NamedTuple, Optional
 from urllib.parse import parse_qsl, unquote, urlsplit
 
-from binlogfeed.faults import BinlogfeedError, WordsRefused
+from binlogfeed.faults import BinlogfeedError, FileFault, WordsRefused
 from binlogfeed.place import Place
 
 # So many rows are asked of PyMySQL at once.
@@ -122,8 +122,15 @@ class Connection:
             "read_default_file": address.defaults_file, "ssl_ca": address.ssl_ca, "password": os.environ.get("MYSQL_PWD"),
         }  # fmt: skip
         given = {name: word for name, word in words.items() if word}
+        if address.defaults_file and not os.access(address.defaults_file, os.R_OK):
+            raise FileFault(f"binlogfeed: cannot open {address.defaults_file}")
         with self._judged():
-            self._connection = self._client.connect(**given, charset="utf8mb4", use_unicode=False, conv={}, autocommit=True)
+            try:
+                self._connection = self._client.connect(**given, charset="utf8mb4", use_unicode=False, conv={}, autocommit=True)
+            except RuntimeError as error:
+                # A password that goes over a network in the clear has to be encrypted by another package.
+                how = "apt-get install python3-cryptography, or connect by --socket or --ssl-ca"
+                raise WordsRefused(f"binlogfeed: PyMySQL: {error}\nhint: {how}") from error
         self.ask(SETTINGS)
 
     def ask(self, statement: str) -> Sequence[Row]:
