@@ -33,9 +33,13 @@ class Output:
     def __init__(self, lock: Any, count: Any) -> None:
         """`lock` is held by who writes, and `count` has how many lines all have written."""
         self._lock, self._count = lock, count
+        self._first = os.getpid()
 
     def write(self, block: bytes, count: int) -> None:
         """Writes some lines."""
+        if self._first not in (os.getpid(), os.getppid()):
+            # The first process was killed, and nobody would know whether all is written.
+            os._exit(0)
         left = memoryview(block)
         with self._lock:
             try:
