@@ -71,7 +71,8 @@ def metadata() -> str:
     """What a wheel says of the package."""
     said = told()
     fields = {"Name": "name", "Version": "version", "Summary": "description", "Requires-Python": "requires-python"}
-    extras = re.findall(r'(?m)^([\w-]+) = \["(.*)"\]$', (HERE / "pyproject.toml").read_text(encoding="utf-8"))
+    optional = (HERE / "pyproject.toml").read_text(encoding="utf-8").partition("[project.optional-dependencies]\n")[2]
+    extras = re.findall(r'(?m)^([\w-]+) = \["(.*)"\]$', optional)
     lines = [f"{field}: {said[name]}\n" for field, name in fields.items()]
     lines += [f'Provides-Extra: {extra}\nRequires-Dist: {needed}; extra == "{extra}"\n' for extra, needed in extras]
     return "".join(["Metadata-Version: 2.1\n", *lines])
