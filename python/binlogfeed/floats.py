@@ -35,11 +35,12 @@ def _as_float(value: float) -> bytes | None:
         return None
 
 
-# The bits of a FLOAT's fraction, and the smallest FLOAT that has all of them.
-FRACTION = (1 << 23) - 1
+# The least FLOAT that has all bits of its fraction.
 NORMAL = 2.0**-126
-# Any number of so many digits can be told by its FLOAT, and so many tell each FLOAT.
-SURE, ALL = 6, 9
+# So many digits tell each FLOAT. Any number of six digits can be told by its FLOAT.
+ALL = 9
+SURE = ("%.6g", "%.7g", "%.8g", "%.9g")
+packed = struct.Struct("<f").pack
 
 
 def text_of_double(value: float) -> str:
@@ -49,19 +50,19 @@ def text_of_double(value: float) -> str:
 
 def text_of_float(value: float) -> str:
     """A FLOAT, given exactly, as full lines have it: the shortest decimal that reads back, and of these the closest."""
-    raw = _as_float(value)
-    (number,) = struct.unpack("<I", raw or b"\0" * 4)
-    if number & FRACTION and abs(value) >= NORMAL:
-        for digits in range(SURE, ALL + 1):
-            short = float(f"{value:.{digits}g}")
-            if _as_float(short) == raw:
+    raw = packed(value)
+    # All but powers of two, whose fraction is 0.
+    if (raw[0] or raw[1] or raw[2] & 127) and abs(value) >= NORMAL:
+        for form in SURE:
+            short = float(form % value)
+            if packed(short) == raw:
                 return repr(short)
     return repr(_closest(value, raw))
 
 
-def _closest(value: float, raw: bytes | None) -> float:
+def _closest(value: float, raw: bytes) -> float:
     """The same of any FLOAT. Numbers below a power of two are closer than those above it, so the nearest decimal may not read back."""
-    if value == 0 or raw is None:
+    if value == 0:
         return value
     exact = Decimal(value)
     for digits in range(1, ALL + 1):

@@ -104,7 +104,8 @@ class Whole(CommandTest):
             self.assertIs(members["snapshot"], True)
             self.assertEqual((members["token"], members["kind"], members["before"]), (TOKEN, "insert", None))
             self.assertEqual(list(members)[-4:], ["snapshot", "table", "timestamp", "token"])
-        self.assertRegex(said, rf"\Abinlogfeed: the tables as they are at {TOKEN}; the lock on all tables was held for \d\.\d{{3}} seconds\n")
+        first = rf"\Abinlogfeed: the tables as they are at {TOKEN}; the lock on all tables was held for \d\.\d{{3}} seconds\n"
+        self.assertRegex(said, first)
         self.assertTrue(said.endswith("binlogfeed: 2 rows of 1 tables\n"))
 
     def test_the_state_goes_on_behind_it(self):
@@ -287,7 +288,8 @@ class Connections(TestCase):
             connection = self.connected(client)
         self.assertEqual(list(connection.stream("SELECT 1")), [[(b"a", None)], [(None, b"")]])
         words = client.did[0]
-        self.assertEqual((words["host"], words["user"], words["password"], words["conv"], words["use_unicode"]), ("h", "u", "secret", {}, False))
+        wanted = {"host": "h", "user": "u", "password": "secret", "conv": {}, "use_unicode": False}
+        self.assertEqual({name: words[name] for name in wanted}, wanted)
         self.assertNotIn("port", words)
         self.assertIn("time_zone = '+00:00'", client.did[1])
         self.assertEqual(client.did[-1], "close True")
@@ -339,6 +341,7 @@ class Parts(TestCase):
             *((0.10000000149011612, "0.1"), (3.3999999521443642e38, "3.4e+38"), (16777216.0, "16777216.0"), (0.0, "0.0"), (-0.0, "-0.0")),
             *((1.401298464324817e-45, "1e-45"), (1.1754943508222875e-38, "1.1754944e-38"), (-1.5, "-1.5"), (8589934592.0, "8589935000.0")),
             *((9.999999747378752e-06, "1e-05"), (2.0**-24, "5.9604645e-08"), (2.0**87, "1.5474251e+26")),
+            (3.4028234663852886e38, "3.4028235e+38"),
         )
         for value, wanted in exactly:
             self.assertEqual(text_of_float(value), wanted)
