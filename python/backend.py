@@ -71,11 +71,10 @@ def metadata() -> str:
     """What a wheel says of the package."""
     said = told()
     fields = {"Name": "name", "Version": "version", "Summary": "description", "Requires-Python": "requires-python"}
-    optional = (HERE / "pyproject.toml").read_text(encoding="utf-8").partition("[project.optional-dependencies]\n")[2]
-    extras = re.findall(r'(?m)^([\w-]+) = \["(.*)"\]$', optional)
     lines = [f"{field}: {said[name]}\n" for field, name in fields.items()]
-    lines += [f'Provides-Extra: {extra}\nRequires-Dist: {needed}; extra == "{extra}"\n' for extra, needed in extras]
-    return "".join(["Metadata-Version: 2.1\n", *lines])
+    for extra, needed in extras().items():
+        lines += [f"Provides-Extra: {extra}\n", f'Requires-Dist: {needed}; extra == "{extra}"\n']
+    return "Metadata-Version: 2.1\n" + "".join(lines)
 
 
 def write_wheel(folder: Path, files: Files, tag: str = PURE) -> Path:

@@ -1,4 +1,4 @@
-"""The command line: `python3 -m binlogfeed follow --state FILE LOGS`, and the commands `summary LOGS` and `copy FOLDER`."""
+"""The commands that are in Python: `python3 -m binlogfeed follow --state FILE LOGS` and others, as COMMANDS has them."""
 from __future__ import annotations
 
 import argparse
@@ -7,6 +7,7 @@ import signal
 import sys
 import threading
 import time
+from collections.abc import Sequence
 from functools import partial
 from pathlib import Path
 from typing import Any
@@ -14,6 +15,7 @@ from typing import Any
 from binlogfeed import begin, metrics
 from binlogfeed.begin import FIRST
 from binlogfeed.copy.command import add_copy
+from binlogfeed.debezium import NAME, lines_of
 from binlogfeed.faults import BinlogfeedError
 from binlogfeed.filters import add_filters, add_profile, filter_words
 from binlogfeed.follow import Follower
@@ -25,10 +27,11 @@ from binlogfeed.version import VERSION
 # A look that goes on when SIGTERM comes has so many seconds to come to its end.
 GRACE = 5.0
 PAUSE = 0.1
+CALLED = "python3 -m binlogfeed"
 FORMATS = PLAIN, FULL, DEBEZIUM = ("plain", "full", "debezium")
 # Ends a write of the main thread. The system itself ignores it, so it does no harm where it comes too late.
 ENDS_WRITES = signal.SIGURG
-ABOUT = "Follows the binary logs of a MySQL server, says what happened in logs, or copies them from another machine."
+ABOUT = "Follows the binary logs of a MySQL server, says what happened in logs, and copies tables and logs from a server."
 HELP = """LOGS is the server's index file (binlog.index), the folder that has one, or a pattern in quotes ('/copies/binlog.*').
 The place in FILE is kept once the lines before it are written and flushed. After a kill the last lines may come again; a
 line's token tells them. One process uses FILE at a time, and FILE.lock says so. SIGTERM ends it behind a look, with status 0.
@@ -42,10 +45,9 @@ def command_line(called: str = CALLED) -> argparse.ArgumentParser:
     parser = argparse.ArgumentParser(prog=called, description=ABOUT)
     parser.add_argument("--version", action="version", version=f"binlogfeed {VERSION}", help="print the version")
     commands = parser.add_subparsers(dest="command", required=True)
-    add_follow(commands)
-    add_summary(commands)
-    add_snapshot(commands)
-    return parser.parse_args()
+    for add in COMMANDS:
+        add(commands)
+    return parser
 
 
 def add_follow(commands: Any) -> None:
@@ -120,7 +122,7 @@ def say_status(follower: Follower, every: float) -> None:
 
 # Each command, by the function that gives it to the command line. Who adds one adds it here alone: help, completions, the manual page
 # and the command `binlogfeed` go by this.
-COMMANDS = (add_follow, add_summary)
+COMMANDS = (add_follow, add_summary, add_snapshot, add_copy)
 
 
 def main(words: Sequence[str] | None = None, called: str = CALLED) -> int:

@@ -140,7 +140,7 @@ class Follower:
         """Writes whole lines. Within a long look the place is kept, too."""
         written, due = 0, time.monotonic() + KEEP_SECONDS
         for lines in blocks:
-            self._write(lines)
+            self._write(lines if self._form is None else self._form(lines))
             self._lines += lines.count(b"\n")
             written += len(lines)
             if written >= KEEP_BYTES or time.monotonic() >= due:

@@ -91,7 +91,7 @@ class InPython(FrontTest):
         """A command that is added to the table of commands is known to all of this."""
 
         def add(parsers):
-            parser = parsers.add_parser("snapshot", help="takes a copy")
+            parser = parsers.add_parser("archive", help="takes a copy")
             parser.add_argument("--fail", action="store_true")
             parser.set_defaults(run=run)
 
@@ -101,11 +101,11 @@ class InPython(FrontTest):
             print("taken")
 
         with mock.patch.object(commands, "COMMANDS", (*commands.COMMANDS, add)):
-            self.assertEqual(front.own_commands()["snapshot"], "takes a copy")
-            self.assertRegex(front.help_text(Path(PROGRAM)), r"\n  summary .*\n  snapshot +Takes a copy\n  replica .*\n  help ")
+            self.assertEqual(front.own_commands()["archive"], "takes a copy")
+            self.assertRegex(front.help_text(Path(PROGRAM)), r"\n  copy .*\n  archive +Takes a copy\n  replica .*\n  help ")
             for words, wanted in (
-                (["snapshot"], (0, "taken\n", "")),
-                (["snapshot", "--fail"], (2, "", "binlogfeed: no\nhint: try again\n")),
+                (["archive"], (0, "taken\n", "")),
+                (["archive", "--fail"], (2, "", "binlogfeed: no\nhint: try again\n")),
             ):
                 out, said = io.StringIO(), io.StringIO()
                 with contextlib.redirect_stdout(out), contextlib.redirect_stderr(said):

@@ -250,7 +250,8 @@ class Made(Package):
         with zipfile.ZipFile(wheel) as packed:
             said = packed.read("binlogfeed-9.8.7.dist-info/METADATA").decode()
             self.assertIn("\nVersion: 9.8.7\n", said)
-            self.assertTrue(said.endswith('Provides-Extra: copy\nRequires-Dist: PyMySQL; extra == "copy"\n'))
+            for extra in ("copy", "snapshot"):
+                self.assertIn(f'\nProvides-Extra: {extra}\nRequires-Dist: PyMySQL; extra == "{extra}"\n', said)
         self.assertEqual(ran(["dpkg-deb", "--field", deb, "Version"]), "9.8.7\n")
         with tarfile.open(archive) as packed:
             page = packed.extractfile("binlogfeed-9.8.7/share/man/man1/binlogfeed.1.gz").read()
