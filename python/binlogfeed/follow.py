@@ -2,8 +2,6 @@
 from __future__ import annotations
 
 import contextlib
-import fcntl
-import os
 import sys
 import threading
 import time
@@ -11,6 +9,7 @@ from collections.abc import Callable, Iterable, Sequence
 from pathlib import Path
 from typing import BinaryIO, NamedTuple, Optional, TextIO
 
+from binlogfeed import files
 from binlogfeed.begin import FIRST
 from binlogfeed.faults import BinlogfeedError, FileFault
 from binlogfeed.logs import is_pattern, listed
@@ -173,15 +172,9 @@ class Follower:
 def locked(state: Path) -> TextIO:
     """The lock of a state's file. Two that go on from one place would each miss what the other took."""
     try:
-        lock = open(state.with_name(f"{state.name}.lock"), "w", encoding="utf-8")
+        return files.locked(state.with_name(f"{state.name}.lock"), f"binlogfeed: another process uses {state}")
     except OSError as error:
         raise FileFault(f"binlogfeed: can't write {state}.lock, beside what keeps the place: {error.strerror}") from error
-    try:
-        fcntl.flock(lock, fcntl.LOCK_EX | fcntl.LOCK_NB)
-    except OSError as error:
-        lock.close()
-        raise FileFault(f"binlogfeed: another process uses {state}") from error
-    return lock
 
 
 def read_state(state: Path) -> Place:
@@ -195,21 +188,6 @@ def read_state(state: Path) -> Place:
 def write_state(state: Path, place: Place) -> None:
     """Keeps a place in a file. After a crash of the machine, too, the file has this place or the one before it."""
     try:
-        _write_state(state, place)
+        files.replace(state, f"{place.to_text()}\n".encode())
     except OSError as error:
         raise FileFault(f"binlogfeed: can't write {state}, which keeps the place: {error.strerror}") from error
-
-
-def _write_state(state: Path, place: Place) -> None:
-    """Puts a new file in the old one's place."""
-    new = state.with_name(f"{state.name}.new")
-    with open(new, "w", encoding="utf-8") as file:
-        file.write(place.to_text() + "\n")
-        file.flush()
-        os.fsync(file.fileno())
-    os.replace(new, state)
-    folder = os.open(state.parent, os.O_RDONLY)
-    try:
-        os.fsync(folder)
-    finally:
-        os.close(folder)

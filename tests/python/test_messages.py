@@ -9,7 +9,6 @@ from unittest import mock
 
 import logs
 from binlogfeed import BinLogStreamReader, FileFault, LogFault, Place, TokenRefused, listed
-from binlogfeed import follow as following
 from binlogfeed.filters import FILTERS
 from binlogfeed.follow import write_state
 from binlogfeed.faults import told
@@ -123,7 +122,7 @@ class Outputs(CommandTest):
 
     def test_a_full_state(self):
         full = OSError(errno.ENOSPC, os.strerror(errno.ENOSPC))
-        with mock.patch.object(following.os, "fsync", side_effect=full), self.assertRaises(FileFault) as caught:
+        with mock.patch("os.fsync", side_effect=full), self.assertRaises(FileFault) as caught:
             write_state(self.state, Place("binlog.000001"))
         self.assertEqual(caught.exception.line, f"binlogfeed: can't write {self.state}, which keeps the place: No space left on device")
 

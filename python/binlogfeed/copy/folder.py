@@ -1,16 +1,16 @@
 """A folder with copies of a server's logs, their index, and the server's identity."""
 from __future__ import annotations
 
-import fcntl
 import mmap
 import os
 from collections.abc import Sequence
 from pathlib import Path
-from typing import NamedTuple, Optional, TextIO
+from typing import NamedTuple, Optional
 
 from binlogfeed.begin import LOG
 from binlogfeed.copy.events import Whole, whole_part
 from binlogfeed.faults import FileFault, LogsGone
+from binlogfeed.files import locked, replace, sync_folder
 from binlogfeed.logs import MAGIC, NAME
 
 INDEX, SERVER, LOCK, NEW = "binlog.index", "copy.server", "copy.lock", "copy.new"
@@ -42,7 +42,7 @@ class Folder:
             if self.names() and not (path / SERVER).exists():
                 # It may be a server's own folder, whose logs mustn't be written to.
                 raise FileFault(f"binlogfeed: {path} has logs that no copier wrote: give a folder of its own for the copies")
-            self._lock = _locked(path / LOCK)
+            self._lock = locked(path / LOCK, f"binlogfeed: another process copies into {path}")
             self._last = self._opened()
             self._put_index()
         except OSError as error:
@@ -67,7 +67,7 @@ class Folder:
         try:
             kept = path.read_text(encoding="utf-8").strip()
         except FileNotFoundError:
-            _replace(path, f"{server}\n".encode())
+            replace(path, f"{server}\n".encode())
             return
         if kept != server:
             raise LogsGone(f"binlogfeed: {self._path} has copies of another server: its UUID is {kept}, and {server} answers now")
@@ -96,7 +96,7 @@ class Folder:
         _write(self._last, head)
         os.fsync(file)
         os.replace(new, path)
-        _sync_folder(self._path)
+        sync_folder(self._path)
         self._put_index()
 
     def sync(self) -> None:
@@ -147,24 +147,13 @@ class Folder:
         text = "".join(f"./{name}\n" for name in names).encode()
         path = self._path / INDEX
         if not path.exists() or path.read_bytes() != text:
-            _replace(path, text)
+            replace(path, text)
 
 
 def _number(name: str) -> tuple[str, int]:
     """What logs are sorted by."""
     base, _, number = name.rpartition(".")
     return base, int(number)
-
-
-def _locked(path: Path) -> TextIO:
-    """The lock of a folder."""
-    lock = open(path, "w", encoding="utf-8")
-    try:
-        fcntl.flock(lock, fcntl.LOCK_EX | fcntl.LOCK_NB)
-    except OSError as error:
-        lock.close()
-        raise FileFault(f"binlogfeed: another process copies into {path.parent}") from error
-    return lock
 
 
 def _whole_part(file: int, size: int, path: Path) -> Whole:
@@ -183,23 +172,3 @@ def _write(copy: Copy, content: bytes) -> None:
             left = left[os.write(copy.file, left) :]
     except OSError as error:
         raise FileFault(f"binlogfeed: can't write {copy.path}: {error.strerror}") from error
-
-
-def _replace(path: Path, content: bytes) -> None:
-    """Puts a new file in the old one's place. After a crash of the machine, too, it is this one or the one before."""
-    new = path.with_name(f"{path.name}.new")
-    with open(new, "wb") as file:
-        file.write(content)
-        file.flush()
-        os.fsync(file.fileno())
-    os.replace(new, path)
-    _sync_folder(path.parent)
-
-
-def _sync_folder(path: Path) -> None:
-    """Has the disk take a folder's names."""
-    folder = os.open(path, os.O_RDONLY)
-    try:
-        os.fsync(folder)
-    finally:
-        os.close(folder)

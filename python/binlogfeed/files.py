@@ -1,0 +1,40 @@
+"""Files that stay whole: one is put in another's place by a rename, and a lock says who uses them."""
+from __future__ import annotations
+
+import fcntl
+import os
+from pathlib import Path
+from typing import TextIO
+
+from binlogfeed.faults import FileFault
+
+
+def replace(path: Path, content: bytes) -> None:
+    """Puts a new file in the old one's place. After a crash of the machine, too, it is this one or the one before."""
+    new = path.with_name(f"{path.name}.new")
+    with open(new, "wb") as file:
+        file.write(content)
+        file.flush()
+        os.fsync(file.fileno())
+    os.replace(new, path)
+    sync_folder(path.parent)
+
+
+def sync_folder(path: Path) -> None:
+    """Has the disk take a folder's names."""
+    folder = os.open(path, os.O_RDONLY)
+    try:
+        os.fsync(folder)
+    finally:
+        os.close(folder)
+
+
+def locked(path: Path, refusal: str) -> TextIO:
+    """The lock on a file, which is made where it isn't there. Where another process has it, it is refused with this line."""
+    lock = open(path, "w", encoding="utf-8")
+    try:
+        fcntl.flock(lock, fcntl.LOCK_EX | fcntl.LOCK_NB)
+    except OSError as error:
+        lock.close()
+        raise FileFault(refusal) from error
+    return lock
