@@ -19,7 +19,7 @@ from binlogfeed.debezium import NAME, lines_of
 from binlogfeed.faults import BinlogfeedError
 from binlogfeed.filters import add_filters, add_profile, filter_words
 from binlogfeed.follow import Follower
-from binlogfeed.options import LAG_HELP, lag_seconds, only_one, seconds
+from binlogfeed.options import LAG_HELP, add_command, lag_seconds, only_one, seconds
 from binlogfeed.snapshot.command import add_snapshot
 from binlogfeed.summary.command import add_summary
 from binlogfeed.version import VERSION
@@ -52,12 +52,7 @@ def command_line(called: str = CALLED) -> argparse.ArgumentParser:
 
 def add_follow(commands: Any) -> None:
     """Gives the command line the command `follow`."""
-    parser: argparse.ArgumentParser = commands.add_parser(
-        "follow",
-        help="prints the lines of `binlogfeed read` while a server writes its logs",
-        epilog=HELP,
-        formatter_class=argparse.RawDescriptionHelpFormatter,
-    )
+    parser = add_command(commands, "follow", "prints the lines of `binlogfeed read` while a server writes its logs", HELP)
     parser.add_argument("logs", metavar="LOGS", nargs="+", action=only_one(), help="where the logs are")
     parser.add_argument("--state", metavar="FILE", required=True, type=Path, help="keeps the place; made where there is none")
     parser.add_argument("--begin", metavar="PLACE", default=FIRST, help=begin.HELP)

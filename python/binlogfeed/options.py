@@ -8,6 +8,13 @@ from typing import Any
 LAG_HELP = "give no line earlier than so long after its transaction was seen whole in the log (0)"
 
 
+def add_command(commands: Any, name: str, about: str, ends: str) -> argparse.ArgumentParser:
+    """Gives the command line a command, with what it does and what stands below its options."""
+    form = argparse.RawDescriptionHelpFormatter
+    parser: argparse.ArgumentParser = commands.add_parser(name, help=about, epilog=ends, formatter_class=form)
+    return parser
+
+
 def only_one() -> type[argparse.Action]:
     """What takes one place of logs. A shell makes several words of a pattern without quotes."""
 

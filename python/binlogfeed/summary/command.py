@@ -8,6 +8,7 @@ from pathlib import Path
 from typing import Any
 
 from binlogfeed.filters import add_filters, add_profile, filter_words
+from binlogfeed.options import add_command
 from binlogfeed.summary.reading import logs_of, summed_up
 from binlogfeed.summary.text import EIGHTHS, as_text
 
@@ -22,12 +23,8 @@ USUAL_WIDTH, LEAST_WIDTH = 80, 40
 
 def add_summary(commands: Any) -> None:
     """Gives the command line the command."""
-    parser: argparse.ArgumentParser = commands.add_parser(
-        "summary",
-        help="says what happened in logs: changes by table and time, transactions by size, gaps in GTIDs",
-        epilog=HELP,
-        formatter_class=argparse.RawDescriptionHelpFormatter,
-    )
+    about = "says what happened in logs: changes by table and time, transactions by size, gaps in GTIDs"
+    parser = add_command(commands, "summary", about, HELP)
     parser.add_argument("logs", metavar="LOGS", nargs="+", help="the logs, or where they are")
     parser.add_argument("--html", metavar="FILE", type=Path, help="write it as a page with pictures, too")
     parser.add_argument("--program", metavar="PATH", default="binlogfeed", help="the program (binlogfeed)")
