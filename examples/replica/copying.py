@@ -7,9 +7,10 @@ from typing import NamedTuple, Optional
 
 from batches import Batcher
 from binlogfeed import JSON_NULL
+from binlogfeed.access import of_url, settings_of
 from binlogfeed.lines import Change, reader_of_lines
 from binlogfeed.snapshot.rows import Lines, characters_of, lines_of
-from binlogfeed.snapshot.server import Address, Connection, frozen, of_url
+from binlogfeed.snapshot.server import Connection, frozen
 from binlogfeed.snapshot.tables import Table, check_are_there, tables_of
 from binlogfeed.values import Style
 from targets import MisfitError, Target, WrongWordsError
@@ -28,7 +29,7 @@ def take_copy(target: Target, server: Server, schema: str, only_tables: Sequence
     """Copies a schema's tables, where the target keeps no place yet."""
     if target.place():
         return
-    connection = Connection(of_url(server.url, Address(defaults_file=server.defaults_file)))
+    connection = Connection(settings_of({**of_url(server.url), "defaults_file": server.defaults_file}))
     try:
         check_are_there(connection, [schema])
         moment = frozen([connection])

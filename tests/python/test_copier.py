@@ -8,15 +8,15 @@ import sys
 import time
 from unittest import mock
 
+from binlogfeed.access import Settings, options_of
 from binlogfeed.copy import copier as copying
 from binlogfeed.copy import packets as packing
 from binlogfeed.copy import server as serving
-from binlogfeed.copy.access import options_of
 from binlogfeed.copy.command import made_id
 from binlogfeed.copy.copier import Copier
 from binlogfeed.copy.folder import Folder
 from binlogfeed.copy.packets import Lost, Packets
-from binlogfeed.copy.server import Server, Settings, judged
+from binlogfeed.copy.server import Server, judged
 from binlogfeed.copy.stopping import Stopped, Stopping
 from binlogfeed.faults import BinlogfeedError, FileFault, LogFault, LogLost, LogsGone, WordsRefused
 from fake_server import GTID, HEARTBEAT, LOGS, SESSION, FakeError, FakeServer, again, error, events_of, numbered, sent, turn, with_checksum
@@ -462,7 +462,7 @@ class Disturbed(CopyTest):
         self.server.refusals = {1: RuntimeError("'cryptography' package is required for sha256_password or caching_sha2_password auth methods")}
         with self.assertRaises(BinlogfeedError) as caught:
             self.copy(once=False)
-        self.assertEqual(caught.exception.status, 70)
+        self.assertEqual(caught.exception.status, 2)
         self.assertIn("PyMySQL can't log in: 'cryptography' package is required", caught.exception.line)
 
     def test_once(self):
@@ -642,8 +642,8 @@ class Command(FolderTest):
     def test_without_pymysql(self):
         self.put("pymysql.py", b"raise ImportError(\"No module named 'pymysql'\")\n")
         ended = subprocess.run(self.command(), env=self.environment, capture_output=True, text=True, check=False)
-        wanted = "binlogfeed: copy needs PyMySQL: apt-get install python3-pymysql, or pip install PyMySQL\n"
-        self.assertEqual((ended.returncode, ended.stderr), (70, wanted))
+        wanted = "binlogfeed: this needs PyMySQL: apt-get install python3-pymysql, or pip install PyMySQL\n"
+        self.assertEqual((ended.returncode, ended.stderr), (2, wanted))
 
     def test_no_password_among_the_words(self):
         """Anybody on the machine may read them."""

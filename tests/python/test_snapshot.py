@@ -10,12 +10,13 @@ from unittest import TestCase, mock, skipIf
 
 from binlogfeed import BinlogfeedError, Place, WordsRefused
 from binlogfeed.__main__ import main
+from binlogfeed.access import Settings, connected, of_url, settings_of
 from binlogfeed.floats import text_of_float
 from binlogfeed.follow import read_state, write_state
 from binlogfeed.snapshot import server, texts
 from binlogfeed.snapshot.documents import document
 from binlogfeed.snapshot.rows import WHOLE, Lines, Range, parts_of
-from binlogfeed.snapshot.server import Address, Moment, ServerFault, of_url, row_of
+from binlogfeed.snapshot.server import Moment, ServerFault, row_of
 from binlogfeed.snapshot.tables import Table, Told, tables_of
 from support import PROGRAM, TOP, FolderTest
 
@@ -188,16 +189,36 @@ class Refused(CommandTest):
         self.assertTrue(said.endswith("binlogfeed: the server has no table nokay in made\n"))
 
     def test_urls(self):
-        address = of_url("mysql://a%20b@db.example:3307/", Address())
-        self.assertEqual((address.user, address.host, address.port), ("a b", "db.example", 3307))
-        self.assertEqual(of_url("mysql://db", Address(port=33, user="u")), Address("db", 33, None, "u"))
-        self.assertEqual(of_url("mysql://u@localhost/?socket=/run/my%20s", Address()).socket, "/run/my s")
+        self.assertEqual(of_url("mysql://a%20b@db.example:3307/"), {"user": "a b", "host": "db.example", "port": 3307})
+        self.assertEqual(settings_of({"port": 33, "user": "u", **of_url("mysql://db")}).place, "db:33")
+        self.assertEqual(of_url("mysql://u@localhost/?socket=/run/my%20s")["socket"], "/run/my s")
         for url in ("mysql:///", "mysql://u@h:0/", "mysql://u@h:x/", "mysql://u@h/shop", "mysql://u@h/?a=1"):
             with self.assertRaisesRegex(WordsRefused, r"mysql://USER@HOST:PORT/ is wanted"):
-                of_url(url, Address())
+                of_url(url)
         with self.assertRaisesRegex(WordsRefused, "MYSQL_PWD") as refused:
-            of_url("mysql://u:secret@h/", Address())
+            of_url("mysql://u:secret@h/")
         self.assertNotIn("secret", str(refused.exception))
+
+    def test_option_file(self):
+        """It goes before the environment, and behind the words, as with MySQL's own programs."""
+        path = self.put("my.cnf", b"[client]\npassword=kept\nuser=kept\nsocket=/run/s\n")
+        with mock.patch.dict("os.environ", {"MYSQL_PWD": "the environment's"}):
+            found = settings_of({"defaults_file": str(path), "user": "given"})
+            self.assertEqual((found.user, found.password, found.place), ("given", "kept", "/run/s"))
+            self.assertEqual(settings_of({"user": "given"}).password, "the environment's")
+
+    def test_encryption(self):
+        """By an authority a connection that isn't encrypted is refused. A socket needs none."""
+        with mock.patch("ssl.create_default_context") as context:
+            for settings, is_asked in ((Settings("h", 1, "u", ""), True), (Settings("h", 1, "u", "", None, "/run/s"), False)):
+                client = FakeClient()
+                connected(client, settings)
+                self.assertEqual("ssl" in client.did[0], is_asked)
+            client = mock.Mock()
+            with self.assertRaisesRegex(WordsRefused, "h doesn't encrypt"):
+                connected(client, Settings("h", 1, "u", "", "ca.pem"))
+            context.assert_called_with(cafile="ca.pem")
+            client.connect.return_value._force_close.assert_called_once_with()
 
     def test_without_a_schema(self):
         status, _, said = self.ran("mysql://u@h/")
@@ -279,18 +300,16 @@ class Connections(TestCase):
 
     def connected(self, client):
         """A connection."""
-        with mock.patch("binlogfeed.snapshot.server.client", lambda: client):
-            return server.Connection(Address("h", 0, None, "u"))
+        with mock.patch("binlogfeed.snapshot.server.driver", lambda: client):
+            return server.Connection(Settings("h", 3306, "u", "secret"))
 
     def test_rows_come_as_bytes(self):
         client = FakeClient([b"\x01a\xfb", b"\xfb\x00"])
-        with mock.patch.dict("os.environ", {"MYSQL_PWD": "secret"}):
-            connection = self.connected(client)
+        connection = self.connected(client)
         self.assertEqual(list(connection.stream("SELECT 1")), [[(b"a", None)], [(None, b"")]])
         words = client.did[0]
         wanted = {"host": "h", "user": "u", "password": "secret", "conv": {}, "use_unicode": False}
         self.assertEqual({name: words[name] for name in wanted}, wanted)
-        self.assertNotIn("port", words)
         self.assertIn("time_zone = '+00:00'", client.did[1])
         self.assertEqual(client.did[-1], "close True")
 
@@ -308,8 +327,8 @@ class Connections(TestCase):
             with self.assertRaises(ServerFault) as refused:
                 server.frozen([connection])
             self.assertEqual((refused.exception.status, refused.exception.number), (4, number))
-            line, _, said = refused.exception.line.partition("\nhint: ")
-            self.assertEqual((line, hint in said), (f"binlogfeed: the server: no ({number})", True))
+            found = refused.exception
+            self.assertEqual((found.line, hint in "".join(found.hints)), (f"binlogfeed: the server: no ({number})", True))
 
     def test_older_servers(self):
         """They know another statement alone. This one says nothing of a log, since it writes none."""

@@ -1,19 +1,17 @@
-"""A MySQL server's logs over the network: a connection by PyMySQL, which the package doesn't bring, and what it is asked."""
+"""A MySQL server's logs over the network: a connection by PyMySQL, and what it is asked."""
 from __future__ import annotations
 
-import importlib
 import socket
-import ssl
 import struct
 from collections.abc import Iterator
 from contextlib import contextmanager
-from typing import Any, NamedTuple, Optional
+from typing import Any
 
+from binlogfeed.access import Settings, connected, driver
 from binlogfeed.copy.packets import Lost, Packets
 from binlogfeed.copy.stopping import Stopping
-from binlogfeed.faults import BinlogfeedError, WordsRefused
+from binlogfeed.faults import WordsRefused
 
-MISSING = "binlogfeed: copy needs PyMySQL: apt-get install python3-pymysql, or pip install PyMySQL"
 # A silent server says every so many seconds that it is there. One that doesn't is lost.
 HEARTBEAT, SILENCE, CONNECTING = 10, 30, 10
 REGISTER, DUMP = 0x15, 0x12
@@ -33,25 +31,6 @@ UNKNOWN_SIGNER = "CERTIFICATE_VERIFY_FAILED"
 
 class Unsent(Exception):
     """The server doesn't send its logs from where it was asked. What it has by now says why."""
-
-
-class Settings(NamedTuple):
-    """What a connection is made with."""
-
-    host: str
-    port: int
-    user: str
-    password: str
-    # The certificate that has to have signed the server's.
-    authority: Optional[str] = None
-
-
-def driver() -> Any:
-    """PyMySQL."""
-    try:
-        return importlib.import_module("pymysql")
-    except ImportError as error:
-        raise BinlogfeedError(MISSING) from error
 
 
 class Server:
@@ -105,24 +84,7 @@ class Server:
 
     def _connected(self) -> Any:
         """A connection of PyMySQL."""
-        told = self._settings
-        try:
-            connection = self._driver.connect(
-                host=told.host,
-                port=told.port,
-                user=told.user,
-                password=told.password,
-                ssl=_encryption(told.authority),
-                connect_timeout=CONNECTING,
-                read_timeout=SILENCE,
-                write_timeout=SILENCE,
-            )
-        except RuntimeError as error:  # a password's method that PyMySQL has only with another package
-            raise BinlogfeedError(f"binlogfeed: PyMySQL can't log in: {error}") from error
-        if told.authority and not isinstance(connection._sock, ssl.SSLSocket):
-            connection._force_close()
-            raise WordsRefused(f"binlogfeed: {told.host} doesn't encrypt, so its certificate can't be checked")
-        return connection
+        return connected(self._driver, self._settings, connect_timeout=CONNECTING, read_timeout=SILENCE, write_timeout=SILENCE)
 
 
 class Connection:
@@ -198,12 +160,3 @@ def judged(said: tuple[Any, ...]) -> Exception:
     elif code in DENIED:
         text = f"{text}: {RIGHTS}"
     return WordsRefused(f"binlogfeed: the server refuses ({code}): {text}")
-
-
-def _encryption(authority: str | None) -> ssl.SSLContext:
-    """Encrypts where the server can. By an authority the server's certificate is checked, whatever name stands in it."""
-    context = ssl.create_default_context(cafile=authority)
-    context.check_hostname = False
-    if authority is None:
-        context.verify_mode = ssl.CERT_NONE
-    return context

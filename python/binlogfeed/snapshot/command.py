@@ -7,17 +7,19 @@ from collections.abc import Sequence
 from pathlib import Path
 from typing import Any
 
+from binlogfeed.access import Settings, add_access, of_url, settings_of
 from binlogfeed.faults import WordsRefused
 from binlogfeed.follow import locked, read_state, write_state
+from binlogfeed.options import add_command
 from binlogfeed.snapshot.rows import Lines, characters_of, parts_of
-from binlogfeed.snapshot.server import Address, Connection, Moment, frozen, of_url
+from binlogfeed.snapshot.server import Connection, Moment, frozen
 from binlogfeed.snapshot.tables import Table, check_are_there, tables_of
 from binlogfeed.snapshot.work import Part, write_all
 
 URL = "mysql://"
 HELP = """The rows are full lines of inserts, with `"snapshot":true` and the place of the snapshot as token. All of them are as they were
 at that place of the server's log. It needs PyMySQL, and a user with the rights SELECT, RELOAD and REPLICATION CLIENT.
-The password is that of the environment's MYSQL_PWD, or of the option file. Tables are those of InnoDB.
+The password is that of the option file, or of the environment's MYSQL_PWD. Tables are those of InnoDB.
 
 Exit status: 0 where all rows are written; 2 where the words are wrong, PyMySQL is missing, or FILE keeps a place already;
 4 where the server can't be reached or refuses a statement, or the output or FILE can't be written."""
@@ -27,23 +29,14 @@ MANY_ROWS, PARTS = 50_000, 4
 
 def add_snapshot(commands: Any) -> None:
     """Gives the command line the command."""
-    parser: argparse.ArgumentParser = commands.add_parser(
-        "snapshot",
-        help="print the rows of a server's tables as full lines, all as they are at one place of its log",
-        epilog=HELP,
-        formatter_class=argparse.RawDescriptionHelpFormatter,
-    )
+    about = "print the rows of a server's tables as full lines, all as they are at one place of its log"
+    parser = add_command(commands, "snapshot", about, HELP)
     parser.add_argument("schemas", metavar="SCHEMA", nargs="+", help=f"the schemas; before them, {URL}USER@HOST:PORT/ says where they are")
-    parser.add_argument("--host", metavar="NAME", help="the server's host (localhost)")
-    parser.add_argument("--port", metavar="N", type=int, default=0, help="the server's port (3306)")
-    parser.add_argument("--socket", metavar="PATH", help="the server's socket, in place of host and port")
-    parser.add_argument("--user", metavar="NAME", help="who asks (who you are)")
-    parser.add_argument("--defaults-file", metavar="FILE", help="an option file of MySQL's clients, with a part [client]")
-    parser.add_argument("--ssl-ca", metavar="FILE", help="connect by TLS; the file has the certificate of who signed the server's")
+    add_access(parser)
     parser.add_argument("--only-tables", metavar="LIST", default="", help="only tables with these names, in any of the schemas")
     parser.add_argument("--ignored-tables", metavar="LIST", default="", help="no tables with these names")
     parser.add_argument("--state", metavar="FILE", type=Path, help="keep the place as that of `follow --state FILE`, once all is written")
-    parser.add_argument("--jobs", metavar="N", type=jobs, default=1, help="read by so many processes; a large table's rows come in parts then (1)")
+    parser.add_argument("--jobs", metavar="N", type=jobs, default=1, help="read by so many processes; large tables come in parts then (1)")
     parser.set_defaults(run=snapshot)
 
 
@@ -57,25 +50,25 @@ def jobs(word: str) -> int:
 
 def snapshot(given: argparse.Namespace) -> None:
     """Writes the rows, and then keeps the place."""
-    address = Address(given.host, given.port, given.socket, given.user, given.defaults_file, given.ssl_ca)
-    schemas = given.schemas
+    told, schemas = vars(given), given.schemas
     if schemas[0].startswith(URL):
-        address, schemas = of_url(schemas[0], address), schemas[1:]
+        told, schemas = {**told, **of_url(schemas[0])}, schemas[1:]
     if not schemas:
         raise WordsRefused("binlogfeed: no schema is named")
+    settings = settings_of(told)
     if given.state is None:
-        write(given, address, schemas)
+        write(given, settings, schemas)
         return
     with locked(given.state):
         if read_state(given.state).file is not None:
             raise WordsRefused(f"binlogfeed: {given.state} keeps a place already: take it away, and what was made of the lines before it")
-        moment = write(given, address, schemas)
+        moment = write(given, settings, schemas)
         write_state(given.state, moment.place)
 
 
-def write(given: argparse.Namespace, address: Address, schemas: Sequence[str]) -> Moment:
+def write(given: argparse.Namespace, settings: Settings, schemas: Sequence[str]) -> Moment:
     """Writes the rows, and answers when they were so."""
-    connections = [Connection(address) for _ in range(given.jobs)]
+    connections = [Connection(settings) for _ in range(given.jobs)]
     first = connections[0]
     check_are_there(first, schemas)
     moment = frozen(connections)

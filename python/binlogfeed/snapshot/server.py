@@ -2,14 +2,12 @@
 from __future__ import annotations
 
 import contextlib
-import importlib
-import os
 import time
 from collections.abc import Iterator, Sequence
-from typing import Any, NamedTuple, Optional
-from urllib.parse import parse_qsl, unquote, urlsplit
+from typing import Any, NamedTuple
 
-from binlogfeed.faults import BinlogfeedError, FileFault, WordsRefused
+from binlogfeed.access import Settings, connected, driver
+from binlogfeed.faults import BinlogfeedError
 from binlogfeed.place import Place
 
 # So many rows are asked of PyMySQL at once.
@@ -53,18 +51,6 @@ class ServerFault(BinlogfeedError):
         self.number = number
 
 
-class Address(NamedTuple):
-    """Where a server is, and who asks."""
-
-    host: Optional[str] = None
-    port: int = 0
-    socket: Optional[str] = None
-    user: Optional[str] = None
-    # A file of options as MySQL's clients have it, and one with the certificate of who signed the server's.
-    defaults_file: Optional[str] = None
-    ssl_ca: Optional[str] = None
-
-
 class Moment(NamedTuple):
     """When all tables are read, by the server's log and its clock."""
 
@@ -85,52 +71,14 @@ class Moment(NamedTuple):
         return Place(self.file, None, self.token)
 
 
-def of_url(url: str, address: Address) -> Address:
-    """An address with what `mysql://user@host:port/` says, or `mysql://user@localhost/?socket=path`."""
-    parts = urlsplit(url)
-    if parts.password is not None:
-        raise WordsRefused("binlogfeed: a password in the words is for everyone to see: set MYSQL_PWD, or give --defaults-file")
-    try:
-        port = parts.port
-    except ValueError:
-        port = 0
-    more = dict(parse_qsl(parts.query, keep_blank_values=True))
-    socket = more.pop("socket", address.socket)
-    if parts.scheme != "mysql" or not parts.hostname or port == 0 or parts.path not in ("", "/") or more or parts.fragment:
-        raise WordsRefused(f"binlogfeed: {url} is no server: mysql://USER@HOST:PORT/ is wanted, or mysql://USER@localhost/?socket=PATH")
-    user = None if parts.username is None else unquote(parts.username)
-    return address._replace(host=parts.hostname, port=port or address.port, user=user or address.user, socket=socket)
-
-
-def client() -> Any:
-    """PyMySQL."""
-    try:
-        return importlib.import_module("pymysql")
-    except ImportError as error:
-        how = "apt-get install python3-pymysql, or pip install PyMySQL"
-        raise WordsRefused(f"binlogfeed: a snapshot needs PyMySQL: {how}") from error
-
-
 class Connection:
     """A connection. Its answers are rows of bytes, with None for NULL."""
 
-    def __init__(self, address: Address) -> None:
+    def __init__(self, settings: Settings) -> None:
         """Connects."""
-        self._client = client()
-        words = {
-            "host": address.host, "port": address.port, "unix_socket": address.socket, "user": address.user,
-            "read_default_file": address.defaults_file, "ssl_ca": address.ssl_ca, "password": os.environ.get("MYSQL_PWD"),
-        }  # fmt: skip
-        given = {name: word for name, word in words.items() if word}
-        if address.defaults_file and not os.access(address.defaults_file, os.R_OK):
-            raise FileFault(f"binlogfeed: cannot open {address.defaults_file}")
+        self._client = driver()
         with self._judged():
-            try:
-                self._connection = self._client.connect(**given, charset="utf8mb4", use_unicode=False, conv={}, autocommit=True)
-            except RuntimeError as error:
-                # A password that goes over a network in the clear has to be encrypted by another package.
-                how = "apt-get install python3-cryptography, or connect by --socket or --ssl-ca"
-                raise WordsRefused(f"binlogfeed: PyMySQL: {error}\nhint: {how}") from error
+            self._connection = connected(self._client, settings, charset="utf8mb4", use_unicode=False, conv={}, autocommit=True)
         self.ask(SETTINGS)
 
     def ask(self, statement: str) -> Sequence[Row]:
@@ -174,8 +122,7 @@ class Connection:
             yield
         except self._client.Error as error:
             number, said = (*error.args, "")[:2] if error.args else (0, "")
-            hint = f"\nhint: {HINTS[number]}" if number in HINTS else ""
-            raise ServerFault(f"binlogfeed: the server: {said or error} ({number}){hint}", number) from error
+            raise ServerFault(f"binlogfeed: the server: {said or error} ({number})", number).hinted(HINTS.get(number)) from error
 
 
 def row_of(packet: Any) -> Row:
