@@ -216,7 +216,7 @@ def given_words() -> argparse.Namespace:
     parser.add_argument("logs", metavar="LOGS", nargs="+", action=only_one(), help="where the logs are")
     parser.add_argument("--program", default="binlogfeed", metavar="PATH", help="the program (binlogfeed)")
     add_profile(parser)
-    columns = "the columns of tables that have no names in the log, as information_schema.columns has them"
+    columns = "names for columns that have none in the log: what `SELECT * FROM information_schema.columns` answers to mysql --batch"
     parser.add_argument("--columns", metavar="FILE", help=columns)
     parser.add_argument("--only-tables", default="", metavar="LIST", help="only the tables with these names")
     parser.add_argument("--create", action="store_true", help="make tables that the target hasn't, with types that hold all values")

@@ -170,6 +170,9 @@ class Target:
         if not shape.types and self.creates and not are_numbered(columns):
             self.create(name, columns, change.form.key)
             shape = self.shape(name)
+        unnamed = f"the log has no names for the columns of {where} at {change.token} (binlog_row_metadata=MINIMAL): name them by --columns"
+        if not shape.types and self.creates:
+            raise MisfitError(unnamed)
         if not shape.types:
             raise MisfitError(f"the target has no table {name}, which a change at {change.token} is of")
         lists = f"in the log it has {listed(columns)}; in the target {listed(tuple(shape.types.items()))}"
@@ -179,8 +182,7 @@ class Target:
             raise MisfitError(f"{changed}: before, it had {listed(met)}; {lists}")
         if {column.name for column in columns} != set(shape.types):
             if are_numbered(columns):
-                unnamed = f"the log has no names for the columns of {where} at {change.token} (binlog_row_metadata=MINIMAL)"
-                raise MisfitError(f"{unnamed}: name them by --columns; {lists}")
+                raise MisfitError(f"{unnamed}; {lists}")
             raise MisfitError(f"the columns of {where} at {change.token} aren't those of the target: {lists}")
         converters = {column.name: self.converter(column.type, shape.types[column.name]) for column in columns}
         if self._unfit_is_null:

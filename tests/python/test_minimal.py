@@ -225,6 +225,11 @@ class Replica(FolderTest):
         self.assertEqual((status, said[: len(start)]), (7, start))
         self.assertIn("name them by --columns; in the log it has @1 int unsigned, @2 year, ", said)
 
+    def test_nothing_to_make_tables_by(self):
+        """No table is made whose columns would be called by their numbers."""
+        line = "replica: the log has no names for the columns of d.t at 654.1@binlog.000001 (binlog_row_metadata=MINIMAL): name them by --columns\n"
+        self.assertEqual(self.kept(self.files.made(""), "--create"), (7, line))
+
     def test_strict(self):
         said = self.kept(self.files.made(TABLES), "--profile", "strict", "--columns", str(COLUMNS))
         self.assertEqual(said, (1, STRICT))
