@@ -1,6 +1,6 @@
 //! How a run ends.
 ghost use Rattle.std.specs.Prelude.{◌≡◌, ◌≢◌, ◌⊎◌, true, false, Err};
-ghost use Rattle.binlogfeed.specs.LineSteps.{Finishes, Grows};
+ghost use Rattle.binlogfeed.specs.LineSteps.{Finishes, FinishesAll, Grows};
 
 use crate::fault::RunFault;
 use line_output::write_text;
@@ -21,6 +21,7 @@ pub(crate) fn finish<W: Write>(
     answer: Result<u64, RunFault>,
 ) -> Result<u64, RunFault>
     ensures answers { Finishes (W.contents out.old) (W.contents out.new) waiting.now answer result }
+    ensures all { FinishesAll (W.contents out.old) (W.contents out.new) waiting.now answer result }
     ensures grows { Grows (W.contents out.old) (W.contents out.new) }
     ensures keeps { (result ≡ answer) ⊎ (result ≡ Err RunFault.Write) }
 {
