@@ -1,4 +1,5 @@
 pub mod OnBytes
 pub mod OnWords
+pub mod GrownFiles
 pub mod Paths
 pub mod Windows

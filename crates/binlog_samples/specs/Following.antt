@@ -13,7 +13,7 @@ use Rattle.binlog_feed.specs.declared.fault.GoOnFault.TheVariants as going
 use Rattle.binlog_feed.specs.declared.start.Start.TheVariants.{Beginning, After}
 use Rattle.binlogfeed.specs.Follow.{EachKeepsLast, FailsAs, ReadsLists, WroteEach, WritesText, looks_made, blank_text, follow_status_of, input_text, list_status_of, refusal_status_of, list_refusal_text}
 use Rattle.binlogfeed.specs.Lists.{BeginsWithList, HasNoList, list_text}
-use Rattle.binlogfeed.specs.Looks.{AllHonest, AreParts, BeginsFollowing, EndsBehindStart, HasLast, Look, ReachesLast, first_look, gone_by, joined_parts, looks_text}
+use Rattle.binlogfeed.specs.Looks.{AllHonest, AreParts, BeginsFollowing, EndsBehindStart, HasLast, Look, first_look, gone_by, joined_parts, looks_text}
 use Rattle.binlogfeed.specs.Turns.{Turns, lists_text}
 use Rattle.binlogfeed.specs.declared.fault.RunFault.TheVariants as run
 use Rattle.binlogfeed.specs.declared.follow_fault.FollowFault.TheVariants.{Input, Unopened, NotBegun, Refused, Ended}
@@ -140,13 +140,7 @@ LooksAreWritten =
 abbrev pub LastFilesStay : Type 0
 LastFilesStay =
     HasLast two_names (third_name ∷ second_name ∷ []) × (HasLast two_names (first_name ∷ []) → ⊥)
-    × ((chosen : Filter) → EachKeepsLast chosen Beginning (look_at (third_file ∷ []) ∷ look_at one_file ∷ []) → ⊥)
-
--- it has all that was read of it, and may have more
-abbrev pub LastFilesReach : Type 0
-LastFilesReach =
-    ReachesLast (look_at both_files) (look_at one_file) × (ReachesLast (cut_look 371) (look_at one_file)) × (ReachesLast (cut_look 370) (look_at one_file) → ⊥)
-    × ((chosen : Filter) → EachKeepsLast chosen Beginning (cut_look 370 ∷ look_at one_file ∷ []) → ⊥)
+    × ((style : Style) (chosen : Filter) → EachKeepsLast style chosen Beginning 0 (Some []) (Some []) (Some (Ok tt)) (look_at (third_file ∷ []) ∷ look_at one_file ∷ []) → ⊥)
 
 -- Looks at files that are honest, and a start behind which their faults stand: so the promises of looks aren't empty.
 abbrev pub LooksAreHonest : Type 0

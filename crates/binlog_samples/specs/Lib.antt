@@ -14,9 +14,15 @@ pub mod Continuations
 pub mod FileLaws
 pub mod Profiles
 pub mod Following
+pub mod LastFiles
+pub mod OtherTurns
 pub mod FollowEnds
+pub mod Parts
 pub mod Frames
 pub mod Growing
+pub mod GoingOn
+pub mod Runs
 pub mod Sources
+pub mod SystemFiles
 pub mod Statuses
 pub mod Words

@@ -1,7 +1,8 @@
 //! The definitions of runs that follow: lists of files, looks at them, and how such a run ends.
 ghost use Rattle.binlog_samples.specs.Following.{ListTexts, ListsBegin, NoLists, CutLists, TurnsOfLists, TurnsOfFiles, TwoListsAreNotOne};
-ghost use Rattle.binlog_samples.specs.Following.{PartsOfLooks, BeginsAtEnd, GoneFiles, JoinedParts, EmptyLooks, LastFilesReach, LastFilesStay, LooksAreHonest, LooksAreWritten, MadeLooks};
+ghost use Rattle.binlog_samples.specs.Following.{PartsOfLooks, BeginsAtEnd, GoneFiles, JoinedParts, EmptyLooks, LastFilesStay, LooksAreHonest, LooksAreWritten, MadeLooks};
 ghost use Rattle.binlog_samples.specs.Following.{TextsOfRefusals, StatusesOfRefusals, StatusesOfEnds, TextsOfEnds, FailuresOfEnds};
+ghost use Rattle.binlog_samples.specs.LastFiles.{ComesOnce, LastFilesReach};
 ghost use Rattle.binlog_samples.specs.FollowEnds.{EndsWithoutFault, EndsWithFault, EndsByDevice, FaultsAtStarts, FilesNamed, FailuresOfEither, FailuresOfRefusals};
 ghost use Rattle.binlog_samples.specs.FollowEnds.{FailuresOfBeginnings, LooksNotBegun, FirstRefused, BlanksWritten, ListsRefused, LooksContinue, RefusedAsShorter, RefusedForReading};
 ghost use Rattle.binlog_samples.specs.FollowEnds.{NextIsRefused, LookedAtIsNotRefused, AllListsLookedAt, ListLeft, LooksSupplied};
@@ -27,6 +28,7 @@ pub fn sample_looks()
     ensures looks_are_written { LooksAreWritten }
     ensures last_files_stay { LastFilesStay }
     ensures last_files_reach { LastFilesReach }
+    ensures comes_once { ComesOnce }
     ensures looks_are_honest { LooksAreHonest }
     ensures made_looks { MadeLooks }
 {}

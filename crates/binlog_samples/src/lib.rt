@@ -7,13 +7,18 @@ mod feeds;
 mod files;
 mod following;
 mod frames;
+mod going_on;
 mod growing;
 mod laws;
+mod parts;
 mod profiles;
+mod runs;
 mod sources;
 mod statuses;
+mod system_files;
 mod tables;
 mod tokens;
+mod turns;
 mod values;
 mod words;
 
@@ -26,12 +31,17 @@ pub use following::{
     sample_refused_lists,
 };
 pub use frames::sample_frames;
+pub use going_on::{sample_found_places, sample_refused_feeds, sample_unfound_places};
 pub use growing::sample_growing;
 pub use laws::sample_laws;
+pub use parts::{sample_begins, sample_parts};
 pub use profiles::sample_profiles;
+pub use runs::{sample_further_runs, sample_outputs, sample_refused_runs};
 pub use sources::{sample_honesty, sample_paths, sample_sources};
 pub use statuses::sample_statuses;
+pub use system_files::sample_system_files;
 pub use tables::sample_tables;
 pub use tokens::sample_tokens;
+pub use turns::sample_other_turns;
 pub use values::sample_values;
 pub use words::sample_words;

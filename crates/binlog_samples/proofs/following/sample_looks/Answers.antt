@@ -1,13 +1,26 @@
-use Rattle.std.proofs.Common.{rules, Bool, ◌≡◌, ◌<◌, ◌≤◌, ℕ, List, [], ◌∷◌, ◌++◌, length, length-append, Some, refl, sym, ap, ◌∙◌, subst, inl, inr, arith}
-use Rattle.std.specs.Prelude.{drop, slice_get}
+use Rattle.std.proofs.Common.{rules, Bool, ◌≡◌, ◌<◌, ◌≤◌, ℕ, zero, suc, List, [], ◌∷◌, ◌++◌, length, length-append, map, take, None, Some, refl, sym, ap, ◌∙◌, subst, inl, inr, arith}
+use Rattle.std.specs.Prelude.{drop, slice_get, unwrap_or}
+use Rattle.binlog_frame.specs.Cutting.{Event, Reading}
+use Rattle.binlog_frame.specs.Frames.{place_of, to_come}
 use Rattle.binlog_frame.specs.Logs.{content}
-use Rattle.binlog_feed.specs.Growing.{last_file}
+use Rattle.binlog_frame.specs.Reading.{event_at, reading_of}
+use Rattle.binlog_frame.specs.Splitting.{SplitsFile, then_all}
+use Rattle.binlog_feed.specs.Changes.{RowChange}
+use Rattle.binlog_feed.specs.ChangeMachine.{RemainingChanges, feed_files, nothing_so_far, remaining_changes_at, remaining_changes_in_file}
+use Rattle.binlog_feed.specs.Contents.{content_fault}
+use Rattle.binlog_feed.specs.FeedView.{filtered, passes_by}
+use Rattle.binlog_feed.specs.Growing.{IsBehindAt, last_file}
+use Rattle.binlog_feed.specs.Parsing.{terms_of}
+use Rattle.binlog_feed.specs.Places.{begin_file}
 use Rattle.binlog_feed.specs.UnitMachine.{take_kind, text_kind}
-use Rattle.binlogfeed.specs.Looks.{HasLast, ReachesLast}
+use Rattle.binlog_feed.specs.declared.place.Place.{Place}
+use Rattle.binlog_feed.specs.declared.unit_state.UnitState.TheVariants.{Nothing}
+use Rattle.binlogfeed.specs.Looks.{ComesBehindLast, HasLast}
 use Rattle.binlogfeed.specs.Lines.{change_lines}
+use Rattle.binlog_samples.specs.Changes.{brief}
 use Rattle.binlog_samples.specs.Statuses.{two_names}
-use Rattle.binlog_samples.specs.Tokens.{first_name, second_name, third_name}
-use Rattle.binlog_samples.specs.Following.{both_files, cut_look, given, last_files, look_at, one_file}
+use Rattle.binlog_samples.specs.Tokens.{first_file, first_name, second_change, second_file, second_name, third_file, third_name}
+use Rattle.binlog_samples.specs.Following.{all, both_files, cut_look, given, last_files, look_at, one_file}
 use Rattle.binlog_samples.proofs.OnBytes.{on_bytes}
 use Rattle.binlog_samples.proofs.following.sample_looks.Goals as goal
 
@@ -57,27 +70,69 @@ pub returns-clause-last_files_stay : goal.returns-clause-last_files_stay
 returns-clause-last_files_stay c = (
   (1, record { name = second_name; named = refl; found = search rules }),
   none_has two_names (first_name ∷ []) first_name second_name refl refl (λ e. search rules),
-  λ chosen kept. none_has (first_name ∷ []) (third_name ∷ []) third_name first_name refl refl (λ e. search rules) (kept.0.there (search rules)),
+  λ style chosen kept. none_has (first_name ∷ []) (third_name ∷ []) third_name first_name refl refl (λ e. search rules) (kept.0.there (search rules)),
 )
 
 -- the first file is cut before the end of its transaction
-cut_short : ReachesLast (cut_look 370) (look_at one_file) → ⊥
+cut_short : (passes : RowChange → Bool) (coming : RemainingChanges) → ComesBehindLast passes (look_at one_file) (cut_look 370) coming → ⊥
 unfolding on_bytes take_kind text_kind
-cut_short h =
-    let there : h.file < 1 = h.last.found.0 in
-    let first : h.file ≡ 0 = omega (arith, there) in
-    let reaches : 371 ≤ length (content (cut_look 370).contents 0) = subst (λ (n : ℕ). 371 ≤ length (content (cut_look 370).contents n)) first h.reaches in
+cut_short passes coming h =
+    let there : h.place.file < 1 = h.behind.found.0 in
+    let first : h.place.file ≡ 0 = omega (arith, there) in
+    let reaches : 371 ≤ length (content (cut_look 370).contents 0) = subst (λ (n : ℕ). 371 ≤ length (content (cut_look 370).contents n)) first h.behind.reaches in
     let bytes : length (content (cut_look 370).contents 0) ≡ 370 = refl in
     omega (arith, reaches, bytes)
 
 pub returns-clause-last_files_reach : goal.returns-clause-last_files_reach
-unfolding on_bytes take_kind text_kind
+unfolding on_bytes take_kind text_kind content_fault
 returns-clause-last_files_reach c = (
-  record { file = 0; last = record { name = first_name; named = refl; found = search rules }; reaches = search rules },
-  record { file = 0; last = record { name = first_name; named = refl; found = search rules }; reaches = search rules },
-  cut_short,
-  λ chosen kept. cut_short (kept.0.long (refl, (refl, tt)) tt tt (search rules)),
+  record {
+    place = begin_file 0;
+    behind = record { name = first_name; some = search rules; named = refl; found = search rules; behind = inl (refl, refl); reaches = search rules; has_event = λ some none. omega (arith, some) };
+    comes = refl;
+  },
+  cut_short all,
+  λ style chosen kept. let on = kept.0.goes_on (refl, (refl, tt)) tt tt (search rules) in cut_short (passes_by chosen) on.coming on.behind,
 )
+
+-- the file that another one stands in front of
+at_one : (file : ℕ) → file < 3 → slice_get (third_name ∷ first_name ∷ second_name ∷ []) file ≡ Some first_name → file ≡ 1
+at_one zero h e = let differ : third_name ≡ first_name → ⊥ = λ d. search rules in let same : third_name ≡ first_name = cc in absurd (differ same)
+at_one (suc zero) h e = refl
+at_one (suc (suc zero)) h e = let differ : second_name ≡ first_name → ⊥ = λ d. search rules in let same : second_name ≡ first_name = cc in absurd (differ same)
+at_one (suc (suc (suc more))) h e = absurd (omega arith)
+
+-- what stands behind events that were read
+behind_all : (events : List Event) (one other : Reading) → then_all events one ≡ then_all events other → one ≡ other
+behind_all [] one other e = e
+behind_all (event ∷ events) one other e =
+    let list : event ∷ (then_all events one).events ≡ event ∷ (then_all events other).events = ap (λ (r : Reading). r.events) e in
+    let tail : (then_all events one).events ≡ (then_all events other).events = cc in
+    behind_all events one other (λ i. record { events = tail i; place = (e i).place; ending = (e i).ending })
+
+-- The seventh event of the file ends at 371.
+comes_behind : (coming : RemainingChanges) (place : Place) → place ≡ record { file = 1; frames = place.frames; state = Nothing } → place_of place.frames ≡ 371 → SplitsFile first_file.bytes place.frames
+    → coming ≡ filtered all (remaining_changes_at (look_at (third_file ∷ both_files)).names (look_at (third_file ∷ both_files)).contents place nothing_so_far)
+    → (map brief coming.changes ≡ second_change ∷ []) × (coming.end ≡ None)
+unfolding on_bytes take_kind text_kind content_fault
+comes_behind coming place is at splits comes =
+    let reading = reading_of first_file.bytes in
+    let seventh = unwrap_or (slice_get reading.events 6) (event_at 0 0 []) in
+    let rest : Reading = record { events = drop 7 reading.events; place = reading.place; ending = reading.ending } in
+    let come = behind_all (take 6 reading.events ++ seventh ∷ []) rest (to_come first_file.bytes place.frames) (splits (take 6 reading.events) (drop 7 reading.events) seventh refl (sym at)) in
+    let from = subst (λ (p : Place). coming ≡ filtered all (remaining_changes_at (look_at (third_file ∷ both_files)).names (look_at (third_file ∷ both_files)).contents p nothing_so_far)) is comes in
+    let all_come = subst (λ (r : Reading). coming ≡ filtered all (remaining_changes_in_file 1 first_name (terms_of first_file (Some second_name)) Nothing nothing_so_far r (feed_files 2 (second_file [] ∷ [])))) (sym come) from in
+    (ap (λ (r : RemainingChanges). map brief r.changes) all_come, ap (λ (r : RemainingChanges). r.end) all_come)
+
+pub returns-clause-comes_once : goal.returns-clause-comes_once
+unfolding on_bytes take_kind text_kind
+returns-clause-comes_once c coming h =
+    let next = look_at (third_file ∷ both_files) in
+    let named : Some first_name ≡ Some h.behind.name = h.behind.named in
+    let name : h.behind.name ≡ first_name = cc in
+    let one = at_one h.place.file h.behind.found.0 (subst (λ (n : List ℕ). slice_get next.names h.place.file ≡ Some n) name h.behind.found.1) in
+    let behind : IsBehindAt first_file.bytes 1 371 h.place = subst (λ (file : ℕ). IsBehindAt (content next.contents file) file 371 h.place) one h.behind.behind in
+    elim behind [ inl none ↦ absurd (omega (arith, none.0)) | inr there ↦ comes_behind coming h.place there.1 there.2 there.3 h.comes ]
 
 pub returns-clause-looks_are_honest : goal.returns-clause-looks_are_honest
 unfolding on_bytes

@@ -1,0 +1,32 @@
+use Rattle.std.proofs.Common.{◌≡◌, ◌∙◌, ◌<◌, ℕ, zero, suc, [], ◌∷◌, Some, refl, sym, ap, arith}
+use Rattle.std.specs.Prelude.{◌≢◌, slice_get}
+use Rattle.std.proofs.lemmas.Option.{same_Some}
+use Rattle.binlog_samples.specs.Tokens.{first_name, second_name, third_name}
+use Rattle.binlog_samples.proofs.GrownFiles.{numbers_differ}
+use Rattle.binlog_samples.proofs.going_on.sample_refused_feeds.Goals as goal
+
+pub returns-clause-not_at_end : goal.returns-clause-not_at_end
+returns-clause-not_at_end c feed = ((λ e. cc), (λ e. cc), (λ still. still refl))
+
+first_is_not_second : first_name ≢ second_name
+first_is_not_second = numbers_differ first_name second_name (λ e. omega (arith, e))
+
+third_is_not_second : third_name ≢ second_name
+third_is_not_second = numbers_differ third_name second_name (λ e. omega (arith, e))
+
+neither : (i : ℕ) → i < 2 → slice_get (first_name ∷ third_name ∷ []) i ≢ Some second_name
+neither zero lt e = first_is_not_second (same_Some first_name second_name e)
+neither (suc zero) lt e = third_is_not_second (same_Some third_name second_name e)
+neither (suc (suc i)) lt e = omega (arith, lt)
+
+pub returns-clause-go_on_refused : goal.returns-clause-go_on_refused
+returns-clause-go_on_refused c feed = (
+  record { name = second_name; named = refl; absent = neither },
+  (λ gone. gone.absent 1 (omega arith) gone.named),
+  (omega arith, (0, omega arith, refl), λ i j lt below e. omega (arith, lt, below)),
+  (λ duplicate. let below = duplicate.1.1 in omega (arith, below)),
+  (λ duplicate.
+      let below = duplicate.1.1 in
+      let zero_is : duplicate.1.0 ≡ 0 = omega (arith, below) in
+      first_is_not_second (same_Some first_name second_name (ap (slice_get (first_name ∷ second_name ∷ [])) (sym zero_is) ∙ duplicate.1.2))),
+)
