@@ -1,1 +1,2 @@
 pub mod OnDocuments
+pub mod Unspelled

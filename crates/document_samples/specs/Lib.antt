@@ -2,8 +2,10 @@ pub mod Bytes
 pub mod Scalars
 pub mod Floats
 pub mod Containers
+pub mod Inlined
 pub mod Opaques
 pub mod Shapes
 pub mod Spelling
+pub mod SpelledValues
 pub mod Moments
 pub mod Meanings

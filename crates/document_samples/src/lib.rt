@@ -3,11 +3,13 @@
 
 ghost use Rattle.document_samples.specs.Containers.{Arrays, Objects, Gaps, NoContainers, Overlaps, OverlappingMembers, NoKeys};
 ghost use Rattle.document_samples.specs.Floats.{GreatFloats, GreatestFloats, SmallFloats, FloatTies, NoFloats};
+ghost use Rattle.document_samples.specs.Inlined.{NumbersOf16Bits, NoPlaces, Places, SpelledInEntries, NotSpelledAtPlaces};
 ghost use Rattle.document_samples.specs.Meanings.{JsonScalars, JsonOpaques, JsonContainers, NoMeanings, JsonByLaw};
 ghost use Rattle.document_samples.specs.Moments.{PackedMoments, MomentByLaw, TextByLaw};
 ghost use Rattle.document_samples.specs.Opaques.{Decimals, LeftoverDigits, LongDecimals, NoDecimals, DatesAndTimes, LastSeconds, NoDatesAndTimes, OtherTypes};
 ghost use Rattle.document_samples.specs.Scalars.{Literals, NoLiterals, Integers, Doubles, PointedDoubles, GreatDoubles, GreaterDoubles, LongerExponents, SmallDoubles, SmallerDoubles, DoubleTies, Lengths, Texts, NoTypes};
 ghost use Rattle.document_samples.specs.Shapes.{Shapes, Depths};
+ghost use Rattle.document_samples.specs.SpelledValues.{SpelledLiterals, SpelledIntegers, IntegersNotSpelled, SpelledDoubles, SpelledTexts, SpelledContainers, ContainersNotSpelled, SpelledDepths};
 ghost use Rattle.document_samples.specs.Spelling.{SmallArray, LargeObject, ObjectWithGap, NotSpelled, MembersNotSpelled, SpelledDecimals};
 
 /// Values that have no parts.
@@ -48,6 +50,15 @@ pub fn sample_containers()
     ensures no_keys { NoKeys }
 {}
 
+/// Numbers in arrays and objects.
+pub fn sample_inlined()
+    ensures numbers_of_16_bits { NumbersOf16Bits }
+    ensures no_places { NoPlaces }
+    ensures places { Places }
+    ensures spelled_in_entries { SpelledInEntries }
+    ensures not_spelled_at_places { NotSpelledAtPlaces }
+{}
+
 /// Values of MySQL's other types.
 pub fn sample_opaques()
     ensures decimals { Decimals }
@@ -75,6 +86,18 @@ pub fn sample_spelling()
     ensures not_spelled { NotSpelled }
     ensures members_not_spelled { MembersNotSpelled }
     ensures spelled_decimals { SpelledDecimals }
+{}
+
+/// What spells values of each type, containers of several members, and documents of any depth.
+pub fn sample_spelled_values()
+    ensures spelled_literals { SpelledLiterals }
+    ensures spelled_integers { SpelledIntegers }
+    ensures integers_not_spelled { IntegersNotSpelled }
+    ensures spelled_doubles { SpelledDoubles }
+    ensures spelled_texts { SpelledTexts }
+    ensures spelled_containers { SpelledContainers }
+    ensures containers_not_spelled { ContainersNotSpelled }
+    ensures spelled_depths { SpelledDepths }
 {}
 
 /// What documents are apart from their text, and how deep they may be.

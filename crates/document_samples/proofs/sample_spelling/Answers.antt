@@ -1,16 +1,12 @@
-use Rattle.std.proofs.Common.{◌≡◌, ◌∙◌, ℕ, pos, List, [], ◌∷◌, Option, Some, None, false, inl, inr, refl, sym, ap, arith}
+use Rattle.std.proofs.Common.{ℕ, pos, List, [], ◌∷◌, Option, false, inl, inr, refl, ap, arith}
 use lib.Dec.{lit<}
 use Rattle.std.specs.Prelude.{codes, slice_index, unwrap_or}
-use Rattle.std.proofs.lemmas.Option.{none-some, same_Some}
-use Rattle.binlog_documents.specs.Document.{Document, integer, text, array, object, no_elements, element, no_members, member}
-use Rattle.binlog_documents.specs.Containers.{document_at}
-use Rattle.binlog_documents.specs.Spelling.{Spells}
-use Rattle.binlog_documents.specs.Texts.{document_text}
+use Rattle.binlog_documents.specs.Document.{integer, text, array, object, no_elements, element, no_members, member}
 use Rattle.binlog_documents.proofs.DecimalDigits.{decimals_are_shown}
-use Rattle.binlog_documents.proofs.Spelled.{document_only}
 use Rattle.document_samples.specs.Spelling.{one_and_x, a_is_70000, a_is_true}
 use Rattle.document_samples.specs.Bytes.{hex}
 use Rattle.document_samples.proofs.OnDocuments.{on_documents}
+use Rattle.document_samples.proofs.Unspelled.{unread, other}
 use Rattle.document_samples.proofs.sample_spelling.Goals as goal
 
 pub returns-clause-small_array : goal.returns-clause-small_array
@@ -192,14 +188,6 @@ returns-clause-object_with_gap c = (
     },
   ),
 )
-
--- What reading finds nothing in, spells nothing.
-unread : (d : Document) (bytes : List ℕ) → document_at bytes ≡ None → Spells d bytes → ⊥
-unread d bytes none is = absurd (none-some d (sym none ∙ document_only d bytes is))
-
--- nor does what another document is read in, whose text has another byte at some place
-other : (d e : Document) (bytes : List ℕ) (place : ℕ) → document_at bytes ≡ Some e → (slice_index (document_text e) place ≡ slice_index (document_text d) place → ⊥) → Spells d bytes → ⊥
-other d e bytes place read differ is = differ (ap (λ (x : Document). slice_index (document_text x) place) (same_Some e d (sym read ∙ document_only d bytes is)))
 
 pub returns-clause-not_spelled : goal.returns-clause-not_spelled
 unfolding on_documents
