@@ -4,6 +4,8 @@
 The programs are those that `rt ci` leaves: one built by LLVM, one by Rattle's own compiler. Those that are there are taken.
 The last line is `N passed, M failed`; the exit status is 1 where something failed.
 """
+from __future__ import annotations
+
 import argparse
 import os
 import sys

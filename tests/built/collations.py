@@ -1,5 +1,7 @@
 """The character set of each collation that a server has (tests/collations.tsv), by a table of one VARCHAR column for each: its type in
 full lines, and what its bytes are there."""
+from __future__ import annotations
+
 import json
 from functools import cache, partial
 from pathlib import Path

@@ -1,4 +1,6 @@
 """Following logs that grow: with kills at any moment, by a shell's line, and at a cost that doesn't grow with the file."""
+from __future__ import annotations
+
 import json
 import re
 import subprocess

@@ -1,5 +1,7 @@
 """Full lines beside plain ones: over the logs of servers they tell the same changes, go on behind tokens, and tell the stories of keys.
 What is kept of a table's map is never another one's."""
+from __future__ import annotations
+
 import base64
 import json
 import re

@@ -3,6 +3,8 @@
 A document is a byte for its type, and a value. An object or array is the number of its elements, its size, entries for keys and
 values, keys and values. The numbers in these have 2 bytes in a small one and 4 in a large one, and offsets count from its first byte.
 """
+from __future__ import annotations
+
 import base64
 import json
 import struct

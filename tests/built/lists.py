@@ -137,6 +137,9 @@ REFUSED = (
     Case(["tail/log"], b"zeros/log\n\n", LOG + MARK, 1, "log fault at log:371: BadLength"),
     Case(["log"], b"encrypted/log\n\n", LOG + MARK, 1, "log fault at log:0: BadMagic"),
     Case(["log"], b"headless/log\n\n", LOG + MARK, 1, "log fault at log:4: NoFormat"),
+    # so it is where the look before has found nothing new, too
+    Case(["log"], b"\nencrypted/log\n\n", LOG + 2 * MARK, 1, "log fault at log:0: BadMagic"),
+    Case(["log"], b"\nheadless/log\n\n", LOG + 2 * MARK, 1, "log fault at log:4: NoFormat"),
     Case(["next", "log"], b"next\nencrypted/log\n\n", NEXT + LOG + MARK, 1, "log fault at log:0: BadMagic"),
     Case(["next", "log"], b"next\nheadless/log\n\n", NEXT + LOG + MARK, 1, "log fault at log:4: NoFormat"),
     Case([], b"\xff\n\n", b"", 4, "cannot read the list of files"),
@@ -155,7 +158,15 @@ READER = (
 LONG = event(200, bytes(3 << 20), IGNORABLE)
 OUTSIDE, INSIDE = appended(A, LONG, insert(2)), appended(A, transaction(2, LONG, ONE_ROW))
 BEHIND = change_line(len(A) + len(LONG), 2, "log").encode()
+# A log that is replaced by one whose first event is longer than the window of 64 KiB that a run begins with. Only for such an event has a
+# run that goes on to take a larger window: of its own files it has read all before. One log's first event is a format description of
+# 87,349 bytes: it ends where the last of 400 transactions ended. The other's is no format description.
+MANY, FORMAT = worked_log(400), parts("past:19:format")
+WIDE_FORMAT = event(15, FORMAT[:-5] + bytes(87_349 - len(parts("format"))) + FORMAT[-5:])
+WIDE, FORMLESS = appended(MAGIC, WIDE_FORMAT, insert(401)), appended(MAGIC, event(200, bytes(1 << 17), IGNORABLE))
 LONG_EVENTS = (
+    Case(["many/log"], b"wide/log\n\n", change_lines(400, "log") + MARK + change_line(87_353, 401, "log").encode() + MARK),
+    Case(["log"], b"formless/log\n\n", LOG + MARK, 1, "log fault at log:4: NoFormat"),
     Case(["outside/log"], b"\n", LOG + BEHIND + 2 * MARK),
     Case(["log"], b"outside/log\n\n\n", LOG + MARK + BEHIND + 2 * MARK),
     Case(["inside/log"], b"\n", LOG + GAIN + 2 * MARK),
@@ -192,6 +203,9 @@ def judge_long(case: Case, program: Path, folder: Path) -> list[str]:
     put(folder, ["outside/log"], OUTSIDE)
     put(folder, ["inside/log"], INSIDE)
     put(folder, ["open/log"], INSIDE[: -len(parts("xid"))])
+    put(folder, ["many/log"], MANY)
+    put(folder, ["wide/log"], WIDE)
+    put(folder, ["formless/log"], FORMLESS)
     return judge_case(case, program, folder)
 
 

@@ -1,4 +1,6 @@
 """Rows over logs that are too long to write out, with what is wanted by hand: Q, S and the maps of many columns."""
+from __future__ import annotations
+
 from typing import NamedTuple
 
 from built.row import Row

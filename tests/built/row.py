@@ -1,4 +1,6 @@
 """A row: the bytes of files, words for the program, and what it has to write for them, byte for byte."""
+from __future__ import annotations
+
 from typing import NamedTuple
 
 from built.check import Wanted

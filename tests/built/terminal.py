@@ -1,4 +1,6 @@
 """Hints: what stands below the line on standard error at a terminal, and where the environment asks for it, and nowhere else."""
+from __future__ import annotations
+
 import os
 import pty
 import select

@@ -1,5 +1,7 @@
 """Going on after a token: for each line of a run, over its files and over files that continue them, what follows is what stands
 behind that line; a token that fits no place is refused by its name."""
+from __future__ import annotations
+
 import json
 import struct
 import subprocess
