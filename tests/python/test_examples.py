@@ -1,4 +1,5 @@
 """The examples that are one program each: killed at random moments, each gives the bank's rows as its server told them."""
+import ast
 import json
 import os
 import shutil
@@ -14,12 +15,13 @@ from binlogfeed import BinLogStreamReader
 from binlogfeed.tokens import token_parts
 from killed import Killed, loaded
 from replicas import LinesTest, full_line
-from support import PROGRAM, SECONDS, SHOP, TOP, FolderTest, bank_rows
+from support import BANK, PROGRAM, SECONDS, SHOP, TOP, FolderTest, bank_rows
 
 SHOP_LOGS = str(SHOP[0].parent / "binlog.0*")
 KEYS = {"account": "id", "journal": "seq"}
 # Debian has servers where the PATH of a user doesn't lead.
 REDIS, NATS = (shutil.which(name, path=f"{os.environ['PATH']}:/usr/sbin") for name in ("redis-server", "nats-server"))
+SERVER = "3e11fa47-71ca-11e1-9e33-c80aa9429562"
 # How often each example is killed.
 KILLS = 40
 
@@ -92,6 +94,14 @@ def wrong(lines):
     return [] if rows == values_wanted() else [f"{len(rows)} rows are left of {len(lines)} changes, and not as they should be"]
 
 
+def wanted_of(line):
+    """What a trail has of a full line: the place, the times, the table, the kind, and both names and rows."""
+    told = json.loads(line)
+    names = [told[row] and [told["schema"], told["table"], *(told[row][column] for column in told["key"])] for row in ("before", "after")]
+    when = told["gtid"], told.get("committed"), told["timestamp"]
+    return (*token_parts(told["token"]), *when, told["schema"], told["table"], told["kind"], *names, told["before"], told["after"])
+
+
 def free_port():
     """A port of this machine that nobody listens at."""
     with socket.socket() as taken:
@@ -121,8 +131,8 @@ class Sizes(unittest.TestCase):
     """The examples are short, and none is left out of their page."""
 
     def test_lines(self):
-        for name in ("search_index/search_index.py", "cache/cache.py", "broker/broker.py", "warehouse/warehouse.py"):
-            lines = (TOP / "examples" / name).read_text(encoding="utf-8").splitlines()
+        for name in ("search_index", "audit_trail", "cache", "broker", "warehouse"):
+            lines = (TOP / "examples" / name / f"{name}.py").read_text(encoding="utf-8").splitlines()
             self.assertLessEqual(sum(map(bool, map(str.strip, lines))), 40, name)
 
 
@@ -146,6 +156,15 @@ class Pages(ExampleTest):
             self.assertIn(json.dumps(name), found)
         self.assertNotIn("CUP-0007", found)
 
+    def test_audit_trail(self):
+        """The story of a customer, whose number changes at its end."""
+        inserted, updated = map(ast.literal_eval, self.shown("audit_trail").splitlines())
+        place = ("2026-11-22 07:23:06", 844957, f"{SERVER}:6", "binlog.000001", 1697, 2)
+        customer = '{"email":null,"id":%d,"joined":"2024-02-29","level":"basic","name":"Søren Kierkegaard"}'
+        self.assertEqual(inserted, (*place, "insert", None, customer % 2))
+        place = ("2026-11-22 07:23:06", 885944, f"{SERVER}:14", "binlog.000002", 1656, 1)
+        self.assertEqual(updated, (*place, "update", customer % 2, customer % 20))
+
     def test_warehouse(self):
         manifest, _, lines = self.shown("warehouse").partition("\n}")
         self.assertIn('"shop.purchase.2026-11-22.jsonl"', manifest)
@@ -159,16 +178,40 @@ class Pages(ExampleTest):
         self.assertEqual([name for name in folders if f"[{name}]({name}/" not in page], [])
 
 
-class SearchIndex(ExampleTest):
-    """The index in SQLite."""
+class SqliteTest(ExampleTest):
+    """A test of what is kept in a file of SQLite."""
 
     def answered(self, file, statement, *values):
-        """What a file of SQLite answers."""
-        connection = sqlite3.connect(file)
+        """What a file of SQLite answers. What a statement changes stays."""
+        connection = sqlite3.connect(file, isolation_level=None)
         try:
             return connection.execute(statement, values).fetchall()
         finally:
             connection.close()
+
+    def judge_a_second_process(self, path, table):
+        """Who finds another place than its own ends, and changes nothing."""
+        file, example = self.folder / "kept.db", loaded(path)
+        self.ran(path, file, SHOP_LOGS)
+
+        class Batches(BinLogStreamReader):
+            """A reader beside which another process moves on."""
+
+            def batches(reader, *options):
+                """Moves on, and gives a batch."""
+                self.answered(file, "UPDATE place SET kept = 'another'")
+                yield list(BinLogStreamReader(SHOP, program=PROGRAM, together=False).transactions())
+
+        example.BinLogStreamReader = Batches
+        before = self.answered(file, f"SELECT * FROM {table}")
+        with self.assertRaisesRegex(SystemExit, "another process"):
+            example.main(str(file), SHOP_LOGS)
+        self.assertEqual(self.answered(file, "SELECT kept FROM place"), [("another",)])
+        self.assertEqual(self.answered(file, f"SELECT * FROM {table}"), before)
+
+
+class SearchIndex(SqliteTest):
+    """The index in SQLite."""
 
     def test_shop(self):
         """Words are found where they stand at the end, and where they stood before they aren't."""
@@ -183,26 +226,7 @@ class SearchIndex(ExampleTest):
             self.assertEqual([it for it in found if it[0] in ("customer", "product")], wanted, words)
 
     def test_a_second_process(self):
-        """Who finds another place than its own ends, and changes nothing."""
-        file, search_index = self.folder / "index.db", loaded("search_index/search_index.py")
-        self.ran("search_index/search_index.py", file, SHOP_LOGS)
-
-        class Batches(BinLogStreamReader):
-            """A reader beside which another process moves on."""
-
-            def batches(reader, *options):
-                """Moves on, and gives a batch."""
-                connection = sqlite3.connect(file, isolation_level=None)
-                connection.execute("UPDATE place SET kept = 'another'")
-                connection.close()
-                yield list(BinLogStreamReader(SHOP, program=PROGRAM, together=False).transactions())
-
-        search_index.BinLogStreamReader = Batches
-        before = self.answered(file, "SELECT * FROM document")
-        with self.assertRaisesRegex(SystemExit, "another process"):
-            search_index.main(str(file), SHOP_LOGS)
-        self.assertEqual(self.answered(file, "SELECT kept FROM place"), [("another",)])
-        self.assertEqual(self.answered(file, "SELECT * FROM document"), before)
+        self.judge_a_second_process("search_index/search_index.py", "document")
 
     def judged(self, target):
         """What is wrong with an index of the bank."""
@@ -218,6 +242,71 @@ class SearchIndex(ExampleTest):
 
     def test_killed(self):
         main = loaded("search_index/search_index.py").main
+        self.killed(main, lambda target: [str(self.folder / target)], self.judged, KILLS)
+
+
+class AuditTrail(SqliteTest, LinesTest):
+    """The trail in SQLite."""
+
+    def changes(self, file):
+        """The changes of a trail in their order, but for their numbers. The rows and their names are taken apart."""
+        changes = self.answered(file, "SELECT * FROM change ORDER BY id")
+        return [(*told, *(text and json.loads(text) for text in texts)) for _, *told, a, b, c, d in changes for texts in [(a, b, c, d)]]
+
+    def wanted(self, *words):
+        """What a trail has of the lines of `read --full` with these words."""
+        return [wanted_of(line) for line in subprocess.check_output([PROGRAM, "read", "--full", *words], text=True).splitlines()]
+
+    def test_shop(self):
+        """It has each change of the lines, in their order."""
+        file = self.folder / "audit.db"
+        for _ in range(2):
+            self.ran("audit_trail/audit_trail.py", file, SHOP_LOGS)
+        self.assertEqual(self.changes(file), self.wanted(*SHOP))
+
+    def test_it_only_grows(self):
+        file = self.folder / "audit.db"
+        self.ran("audit_trail/audit_trail.py", file, SHOP_LOGS)
+        before = self.changes(file)
+        for statement in ("UPDATE change SET after = NULL WHERE id = 1", "DELETE FROM change", "INSERT INTO change SELECT NULL, * FROM ({})"):
+            every_column = "SELECT file, position, number, gtid, committed, timestamp, 1, 2, 3, 4, 5, 6, 7 FROM change WHERE id = 1"
+            with self.assertRaisesRegex(sqlite3.IntegrityError, "a trail only grows|UNIQUE"):
+                self.answered(file, statement.format(every_column))
+        self.assertEqual(self.changes(file), before)
+
+    def test_a_second_process(self):
+        self.judge_a_second_process("audit_trail/audit_trail.py", "change")
+
+    def test_times_and_keys(self):
+        """A log may say no time of a commit, and a table may have no key."""
+        types = {"id": "int", "v": "varchar utf8mb4"}
+        first = json.loads(full_line((1, 1), "t", None, {"id": 1, "v": "é"}, types))
+        rows = {name: first.pop(name) for name in ("after", "before")}
+        second = {**rows, "committed": 1700092800000001, **first, "key": [], "token": "2.1@binlog.000001"}
+        lines = [json.dumps(line, ensure_ascii=False, separators=(",", ":")) for line in ({**rows, **first}, second)]
+        told = self.told(lines)
+        (self.folder / "binlogfeed").unlink()
+        (self.folder / "binlogfeed").symlink_to(told["program"])
+        self.ran("audit_trail/audit_trail.py", self.folder / "audit.db", told["logs"])
+        changes = self.changes(self.folder / "audit.db")
+        self.assertEqual(changes, [wanted_of(line) for line in lines])
+        self.assertEqual([change[4] for change in changes], [None, 1700092800000001])
+        self.assertEqual([change[10] for change in changes], [["made", "t", 1], ["made", "t"]])
+
+    def judged(self, target):
+        """What is wrong with a trail of the bank: it has the changes of the lines, and these leave the server's rows."""
+        changes, wanted, rows = self.changes(self.folder / target), self.wanted(*BANK), {}
+        for *_, old_name, new_name, _, after in changes:
+            if old_name:
+                del rows[tuple(old_name)]
+            if new_name:
+                rows[tuple(new_name)] = after
+        if changes != wanted:
+            return [f"{len(changes)} changes, and not the {len(wanted)} of the lines"]
+        return [] if rows == {("bank", table, row[KEYS[table]]): row for (table, _), row in rows_by_name().items()} else ["other rows"]
+
+    def test_killed(self):
+        main = loaded("audit_trail/audit_trail.py").main
         self.killed(main, lambda target: [str(self.folder / target)], self.judged, KILLS)
 
 
