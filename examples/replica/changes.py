@@ -6,12 +6,14 @@ from collections.abc import Iterator
 from typing import NamedTuple
 
 from binlogfeed import JSON_NULL, BinlogfeedError, Place
-from binlogfeed.begin import FIRST
+from binlogfeed.begin import FIRST, place_of
 from binlogfeed.columns import Tables
 from binlogfeed.lines import Change, reader_of_lines
 from binlogfeed.program import Run
+from binlogfeed.statements import Statement, Statements
 from binlogfeed.summary.changes import Changes as Counted
 from binlogfeed.summary.changes import counted_block
+from binlogfeed.tokens import token_parts
 from binlogfeed.values import Style
 from binlogfeed.watch import Watch
 
@@ -54,13 +56,23 @@ class Changes:
         self._source = source
         # Values stay as the line has them, but for bytes and the JSON null.
         self._taken_apart = reader_of_lines(Style(raw=True, json_null=JSON_NULL), {}, source.tables)
+        # Begun with the first look, once its place is known.
+        self._statements: Statements | None = None
+        # Whether changes were taken before, by this run or an earlier one, and the first one of this run.
+        self._is_kept, self._first = place.file is not None, ""
 
     def look(self) -> Iterator[tuple[Change, int]]:
         """The changes that are new by now, each with the length of its line. What ended the reading early is raised."""
         taken_apart = self._taken_apart
+        self._watch.begin()
+        if self._statements is None:
+            place = self._watch.place if self._watch.place.file else place_of(self._source.begin)
+            self._statements = Statements(place.file, token_parts(place.resume).position if place.resume else 0)
         for block in self._watch.look():
             for line in block.split(b"\n")[:-1]:
-                yield Change(taken_apart(line)), len(line)
+                change = Change(taken_apart(line))
+                self._first = self._first or change.token
+                yield change, len(line)
 
     @property
     def place(self) -> Place:
@@ -95,6 +107,19 @@ class Changes:
         finally:
             run.end()
         return sorted(names)
+
+    def statements(self) -> list[Statement]:
+        """The statements of the last look's logs that change the schema's rows or columns, and that no line tells of, each once.
+
+        Those before the first change of all aren't among them: tables have no rows there.
+        """
+        paths = [log.path for log in self._watch.told]
+        found = list(self._statements.of(paths)) if self._statements else []
+        if not self._is_kept:
+            first, places = token_parts(self._first) if self._first else None, {path.name: number for number, path in enumerate(paths)}
+            found = [it for it in found if first and (places[it.file], it.position) > (places[first.file], first.position)]
+            self._is_kept = first is not None
+        return [statement for statement in found if statement.changes(self._source.schema, self._source.only_tables)]
 
     def begin(self) -> bool:
         """Finds the place where the first look begins, if that is the logs' end by now. Answers whether it is found now."""

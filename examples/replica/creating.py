@@ -52,3 +52,18 @@ def statement(
     if key:
         parts.append(f"PRIMARY KEY ({', '.join(map(quoted, key))})")
     return f"CREATE TABLE {quoted(name)} ({', '.join(parts)})"
+
+
+def alterations(
+    name: str, columns: Sequence[tuple[str, str]], there: Sequence[str], type_of: Callable[[str], str], quoted: Callable[[str], str]
+) -> list[str]:
+    """The statements that make a table with the columns that are there one with these, which have their types in the log."""
+    names, front = [column for column, _ in columns], f"ALTER TABLE {quoted(name)}"
+    gone = [column for column in there if column not in names]
+    new = [(column, log) for column, log in columns if column not in there]
+    drops = [f"{front} DROP COLUMN {quoted(column)}" for column in gone]
+    adds = [f"{front} ADD COLUMN {quoted(column)} {type_of(log)}".rstrip() for column, log in new]
+    if len(gone) == len(new) == 1:
+        rename = f"{front} RENAME COLUMN {quoted(gone[0])} TO {quoted(new[0][0])}"
+        return [rename, f"or, if it wasn't renamed: {'; '.join([*adds, *drops])}"]
+    return [*adds, *drops]

@@ -3,6 +3,7 @@ from __future__ import annotations
 
 import contextlib
 import json
+import time
 from collections.abc import Iterator, Sequence
 from functools import lru_cache
 from typing import Optional, Union
@@ -36,7 +37,22 @@ SETTINGS = (
     "SET DateStyle = 'ISO'",
     "SET IntervalStyle = 'postgres'",
     "SET bytea_output = 'hex'",
+    # A machine that is gone from the network keeps its lock for two minutes, and not for two hours.
+    "SET tcp_keepalives_idle = 60",
+    "SET tcp_keepalives_interval = 10",
+    "SET tcp_keepalives_count = 6",
 )
+# The lock of a replica on the table of its place: an advisory one of this class, by the table's number. It ends with the connection.
+LOCK_CLASS = 0x62696E6C
+LOCK = f"SELECT pg_try_advisory_lock(({LOCK_CLASS}::bigint << 32) + '{PLACE}'::regclass::oid::bigint)::text"
+HOLDER = f"""
+SELECT pid::text FROM pg_locks JOIN pg_database AS d ON d.oid = database AND datname = current_database()
+WHERE locktype = 'advisory' AND granted AND classid = {LOCK_CLASS} AND objid = '{PLACE}'::regclass AND objsubid = 1
+"""
+# A server notices the end of a killed client some milliseconds later, or behind the statement that it carries out. For so many seconds
+# the lock is asked for again, each time after such a pause.
+PATIENCE = 5.0
+PAUSE = 0.05
 SHAPE = """
 SELECT jsonb_build_array(
     attname, format_type(CASE typtype WHEN 'd' THEN typbasetype ELSE atttypid END, -1), array_position(indkey, attnum)
@@ -104,17 +120,19 @@ class Postgres(Target):
     distinct = True
 
     def __init__(self, words: str, client: str, schema: str, unfit_is_null: bool) -> None:
-        """Connects. The client is `psycopg` or `psql`; where none is named, psycopg if it is installed."""
+        """Connects. The client is `psycopg` or `psql`; where none is named, psycopg if it is installed. No other replica may do so."""
         super().__init__(schema, unfit_is_null)
         self._words = words, client
         self._connection = connected(*self._words)
         self._waiting = Waiting()
+        self._is_locked = False
         try:
             self._make_place()
         except MisfitError:
             # Another process may have made it at the same moment.
             self.rollback()
             self._make_place()
+        self._take_lock()
 
     def place(self) -> str:
         """The place that is kept."""
@@ -170,6 +188,8 @@ class Postgres(Target):
         except ReplicaError:
             self._connection.close()
             self._connection = connected(*self._words)
+            if self._is_locked:
+                self._take_lock()
 
     def close(self) -> None:
         """Ends the connection."""
@@ -192,6 +212,10 @@ class Postgres(Target):
         self._waiting.add(creating.statement(name, columns, key, creating.postgres_type, quoted), -1)
         self.flush()
 
+    def alterations(self, name: str, columns: Sequence[tuple[str, str]], there: Sequence[str]) -> list[str]:
+        """Statements that make a table with the columns that are there one with these."""
+        return creating.alterations(name, columns, there, creating.postgres_type, quoted)
+
     def has_rows(self, name: str) -> bool:
         """Whether a table has a row."""
         self.flush()
@@ -202,6 +226,18 @@ class Postgres(Target):
         """Makes the table of the place where there is none."""
         with judged():
             self._connection.run(list(PLACE_MADE))
+
+    def _take_lock(self) -> None:
+        """Takes the lock on the place, or says who has it."""
+        until = time.monotonic() + PATIENCE
+        with judged():
+            while self._connection.query(LOCK) != ["true"]:
+                if time.monotonic() >= until:
+                    holder = "".join(self._connection.query(HOLDER)[:1])
+                    self._connection.close()
+                    raise AwayError(f"another replica uses this target: the server's process {holder or '?'} has the lock of {PLACE}")
+                time.sleep(PAUSE)
+        self._is_locked = True
 
     def _copy(self, batch: Batch) -> None:
         """Puts in many rows."""

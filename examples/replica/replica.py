@@ -38,25 +38,31 @@ from changes import Changes, Source  # noqa: E402
 from copying import Server, take_copy  # noqa: E402
 from postgres import Postgres  # noqa: E402
 from sqlite import Sqlite  # noqa: E402
-from targets import AwayError, MisfitError, ReplicaError, Target, WrongWordsError  # noqa: E402
+from targets import NEW_COLUMNS, AwayError, MisfitError, ReplicaError, Target, WrongWordsError  # noqa: E402
 
 ENDS = """exit status:
   0   the logs are taken to their end, or SIGTERM ended it
   1   something in a log can't be taken in
   2   the words are wrong, or neither psycopg nor psql is there
   3   the kept place is none, or fits no place of the logs
-  4   a log or the target can't be reached, read or written: it may be there again later
+  4   a log or the target can't be reached, read or written, or another replica uses it: it may be there again later
   5   out of memory
   6   logs that were still to be read are gone
   7   a change doesn't fit the target
   70  the program can't be started, or a mistake in this one"""
 
+# So many statements that aren't carried over are told of each look.
+MOST_STATEMENTS = 10
+
 
 class Replica:
     """A target that is kept as a schema's tables are."""
 
-    def __init__(self, target: Target, source: Source, commit_every: int) -> None:
-        """A replica of what the logs have of a schema. A transaction of the target has so many of the log's."""
+    def __init__(self, target: Target, source: Source, commit_every: int, follows: bool = False) -> None:
+        """A replica of what the logs have of a schema. A transaction of the target has so many of the log's.
+
+        One that follows waits for the first change of the schema, where the logs have those of others alone.
+        """
         self._target = target
         self._source = source
         self._commit_every = commit_every
@@ -71,6 +77,7 @@ class Replica:
         # How many transactions are still to be taken change by change.
         self._alone = 0
         self._said_none = False
+        self._follows, self._is_waiting = follows, False
 
     def catch_up(self) -> None:
         """Takes what the logs have by now."""
@@ -112,26 +119,48 @@ class Replica:
         except ColumnsMismatch as mismatch:
             if self._transaction and self._transaction != beginning(mismatch.token):
                 self._commit()
-            raise
+            raise mismatch.hinted(NEW_COLUMNS)
         if self._transaction:
             self._commit()
-        if not self._kept and self._source.begin == FIRST:
-            self._check_schema()
-        self._keep(self._changes.place)
+        if not self._is_unknown():
+            self._keep(self._changes.place)
+        self._say_statements()
         if self._changes.is_empty and not self._said_none:
             self._said_none = True
             print(f"replica: no log matches {self._source.logs} yet", file=sys.stderr, flush=True)
 
-    def _check_schema(self) -> None:
-        """Raises an error where the logs have changes of other schemas alone: the name may be wrong, and the place isn't to move on."""
-        others = self._changes.other_schemas()
-        if self._source.schema in others and self._source.only_tables:
-            raise WrongWordsError(f"no log has a change of {self._source.only_tables}: mend the names, or begin with --begin now")
-        if others:
-            few = ", ".join(others)
-            raise WrongWordsError(
-                f"no log has a change of the schema {self._source.schema}, but of {few}: mend the name, or begin with --begin now"
-            )
+    def _say_statements(self) -> None:
+        """Says which statements of the look changed the schema, and have no rows in the log."""
+        statements = self._changes.statements()
+        for statement in statements[:MOST_STATEMENTS]:
+            print(f"replica: this has no rows in the log and isn't carried over: {statement}", file=sys.stderr)
+        if more := statements[MOST_STATEMENTS:]:
+            print(f"replica: nor are {len(more)} more statements, up to {more[-1]}", file=sys.stderr)
+        sys.stderr.flush()
+
+    def _is_unknown(self) -> bool:
+        """Whether the logs have changes of other schemas alone. The name may be wrong then, and the place isn't to move on.
+
+        They are read for that once: what was found stays so until a change of this schema comes, with which a place is kept.
+        """
+        source = self._source
+        if self._kept or source.begin != FIRST or self._changes.is_empty:
+            return False
+        others = [] if self._is_waiting else self._changes.other_schemas()
+        # One of this schema may have come meanwhile.
+        if others and (source.only_tables or source.schema not in others):
+            self._wait_for_one(others)
+        return self._is_waiting
+
+    def _wait_for_one(self, others: list[str]) -> None:
+        """Says that only others have changes, and waits for one, if that is wanted. Else it is an error."""
+        wanted, but, name = f"the schema {self._source.schema}", f", but of {', '.join(others)}", "name"
+        if self._source.schema in others:
+            wanted, but, name = self._source.only_tables, "", "names"
+        if not self._follows:
+            raise WrongWordsError(f"no log has a change of {wanted}{but}: mend the {name}, or begin with --begin now")
+        self._is_waiting = True
+        print(f"replica: no log has a change of {wanted} yet{but}: waiting for one", file=sys.stderr, flush=True)
 
     def _take(self, change: Change, size: int) -> None:
         """Takes a change, and ends the transaction before it where it is of another."""
@@ -210,7 +239,9 @@ def count(word: str) -> int:
 def given_words() -> argparse.Namespace:
     """Reads the command line."""
     form = argparse.RawDescriptionHelpFormatter
-    parser = argparse.ArgumentParser(description=__doc__, epilog=ENDS, formatter_class=form)
+    parser = argparse.ArgumentParser(epilog=ENDS, formatter_class=form)
+    # The command `binlogfeed` calls it by another name.
+    parser.description = (__doc__ or "").replace("replica.py", "%(prog)s")
     parser.add_argument("target", help="sqlite:FILE, postgres:CONNECTION, psycopg:CONNECTION or psql:CONNECTION")
     parser.add_argument("schema", help="the schema whose tables are kept")
     parser.add_argument("logs", metavar="LOGS", nargs="+", action=only_one(), help="where the logs are")
@@ -245,7 +276,7 @@ def keep_up(given: argparse.Namespace) -> None:
         if given.server:
             only = [name for name in given.only_tables.split(",") if name]
             take_copy(target, Server(given.server, given.defaults_file), given.schema, only)
-        replica = Replica(target, logs, given.commit_every)
+        replica = Replica(target, logs, given.commit_every, given.follow)
         try:
             replica.catch_up()
             while given.follow:
@@ -273,7 +304,7 @@ def main() -> int:
         print("\nhint: ".join((error.line, *hints_of(error))), file=sys.stderr)
         return error.status if error.status > 0 else 128 - error.status
     except ReplicaError as error:
-        print(f"replica: {error}", file=sys.stderr)
+        print("\nhint: ".join((f"replica: {error}", *error.hints)), file=sys.stderr)
         return error.status
     except MemoryError:
         print("replica: out of memory", file=sys.stderr)

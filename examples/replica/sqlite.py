@@ -2,11 +2,16 @@
 from __future__ import annotations
 
 import contextlib
+import os
 import sqlite3
 from collections.abc import Iterator, Sequence
+from pathlib import Path
+from typing import TextIO
 
 import creating
 from batches import Batch
+from binlogfeed import files
+from binlogfeed.faults import FileFault
 from fitting import Converter, for_sqlite
 from targets import PLACE, PLACE_MADE, AwayError, MisfitError, Shape, Target
 
@@ -18,11 +23,14 @@ class Sqlite(Target):
     """A file of SQLite."""
 
     def __init__(self, file: str, schema: str, unfit_is_null: bool) -> None:
-        """Opens the file."""
+        """Opens the file, which no other replica may use."""
         super().__init__(schema, unfit_is_null)
         self._statements: dict[tuple[str, str, tuple[str, ...]], str] = {}
         with judged():
             self._connection = sqlite3.connect(file, isolation_level=None, timeout=PATIENCE)
+        # It comes before the first statement, which would wait for the end of another's transaction.
+        self._lock = locked(file)
+        with judged():
             for statement in PLACE_MADE:
                 self._connection.execute(statement)
 
@@ -66,8 +74,9 @@ class Sqlite(Target):
                 self._connection.execute("ROLLBACK")
 
     def close(self) -> None:
-        """Closes the file."""
+        """Closes the file, and lets others use it."""
         self._connection.close()
+        self._lock.close()
 
     def shape(self, table: str) -> Shape:
         """A table as the target has it."""
@@ -85,10 +94,28 @@ class Sqlite(Target):
         with judged():
             self._connection.execute(creating.statement(name, columns, key, creating.sqlite_type, quoted))
 
+    def alterations(self, name: str, columns: Sequence[tuple[str, str]], there: Sequence[str]) -> list[str]:
+        """Statements that make a table with the columns that are there one with these."""
+        return creating.alterations(name, columns, there, creating.sqlite_type, quoted)
+
     def has_rows(self, name: str) -> bool:
         """Whether a table has a row."""
         with judged():
             return self._connection.execute(f"SELECT 1 FROM {quoted(name)} LIMIT 1").fetchone() is not None
+
+
+def locked(file: str) -> TextIO:
+    """The lock beside a file, which the system gives free where this process ends in any way.
+
+    A lock on the file itself is SQLite's, which would keep readers out.
+    """
+    lock = Path(f"{os.path.realpath(file)}.lock")
+    try:
+        return files.locked(lock, f"another replica uses {file}: it has the lock {lock}")
+    except FileFault as error:
+        raise AwayError(error.line) from error
+    except OSError as error:
+        raise AwayError(f"can't write {lock}, beside the target: {error.strerror}") from error
 
 
 def statement_of(batch: Batch) -> str:

@@ -21,12 +21,24 @@ PLACE_MADE = (
     f"CREATE TABLE IF NOT EXISTS {PLACE} (nr integer PRIMARY KEY, place text NOT NULL)",
     f"INSERT INTO {PLACE} (nr, place) VALUES (1, '') ON CONFLICT (nr) DO NOTHING",
 )
+# What to do where the server's table was altered.
+PAGE = "examples/replica/README.md, \"After an ALTER TABLE\""
+ALTER = f"alter the target's table as the server's was altered, and start again ({PAGE}); to have the log's columns it takes:"
+TYPES_ALONE = f"the names are the same: change the target's types where they can't hold the new values, and start again ({PAGE})"
+NEW_COLUMNS = f"make the file of --columns anew, alter the target's table as the server's was altered, and start again ({PAGE})"
 
 
 class ReplicaError(Exception):
     """What ends the replica. `status` is the exit status that stands for it."""
 
     status = 70
+    # What to do, below the line.
+    hints: tuple[str, ...] = ()
+
+    def hinted(self, *hints: str) -> ReplicaError:
+        """The same, with these hints."""
+        self.hints = hints
+        return self
 
 
 class WrongWordsError(ReplicaError):
@@ -159,6 +171,10 @@ class Target:
         """Whether a table has a row."""
         raise NotImplementedError
 
+    def alterations(self, name: str, columns: Sequence[tuple[str, str]], there: Sequence[str]) -> list[str]:
+        """Statements that make a table with the columns that are there one with these, which have their types in the log."""
+        raise NotImplementedError
+
     def table(self, change: Change) -> Table:
         """The table of a change, which has to have the columns of the target's, and those that it had before."""
         name, columns = change.form.table, change.form.columns
@@ -174,16 +190,18 @@ class Target:
         if not shape.types and self.creates:
             raise MisfitError(unnamed)
         if not shape.types:
-            raise MisfitError(f"the target has no table {name}, which a change at {change.token} is of")
+            missing = MisfitError(f"the target has no table {name}, which a change at {change.token} is of")
+            raise missing.hinted("make it, or have --create make it; or rename it, where the server's was renamed, and start again")
         lists = f"in the log it has {listed(columns)}; in the target {listed(tuple(shape.types.items()))}"
+        statements = self.alterations(name, columns, list(shape.types))
         if met and met != columns:
             # Begun again, the replica takes the table as it is by then.
             changed = f"the columns of {where} have changed at {change.token}"
-            raise MisfitError(f"{changed}: before, it had {listed(met)}; {lists}")
+            raise MisfitError(f"{changed}: before, it had {listed(met)}; {lists}").hinted(ALTER if statements else TYPES_ALONE, *statements)
         if {column.name for column in columns} != set(shape.types):
             if are_numbered(columns):
                 raise MisfitError(f"{unnamed}; {lists}")
-            raise MisfitError(f"the columns of {where} at {change.token} aren't those of the target: {lists}")
+            raise MisfitError(f"the columns of {where} at {change.token} aren't those of the target: {lists}").hinted(ALTER, *statements)
         converters = {column.name: self.converter(column.type, shape.types[column.name]) for column in columns}
         if self._unfit_is_null:
             converters = {column: convert and or_null(convert) for column, convert in converters.items()}

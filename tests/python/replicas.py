@@ -88,14 +88,20 @@ def started(target, schema, *options, python=sys.executable, program=PROGRAM, lo
     return subprocess.Popen(words, stdout=subprocess.DEVNULL, stderr=subprocess.PIPE, text=True, env=environment)
 
 
-def ended(*words, **options):
+def ended_with_hints(*words, **options):
     """The status of a replica that has ended, and what it said."""
     with started(*words, **options) as process:
         late = threading.Timer(SECONDS, process.kill)
         late.start()
         said = process.stderr.read()
         late.cancel()
-    return process.returncode, without_hints(without_beginning(said))
+    return process.returncode, without_beginning(said)
+
+
+def ended(*words, **options):
+    """The same without hints."""
+    status, said = ended_with_hints(*words, **options)
+    return status, without_hints(said)
 
 
 def full_line(number, table, before, after, types, key=("id",)):

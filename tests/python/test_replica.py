@@ -8,7 +8,8 @@ import time
 import replica
 import targets
 from binlogfeed import Place
-from replicas import SHOP_ROWS, Kills, LinesTest, SqliteFiles, ended, full_line, started
+from logs import insert, log_of
+from replicas import SHOP_ROWS, Kills, LinesTest, SqliteFiles, ended, ended_with_hints, full_line, started
 from sqlite import Sqlite
 from support import PROGRAM, SECONDS, SHOP, without_beginning
 
@@ -182,6 +183,44 @@ class Misfits(Files):
             self.assertEqual(ended(target, "made", *options, **told), (0, ""))
             self.assertEqual(len(self.files.asked(target, "SELECT id FROM t")), 4)
 
+    def test_after_an_alter_table(self):
+        """What the hints say makes the target's table that of the log, and the replica goes on where it ended."""
+        first, wider = {"id": "int", "v": "varchar utf8mb4"}, {"id": "int", "v": "varchar utf8mb4", "w w": "varchar utf8mb4"}
+        other, last = {"id": "int", "u": "varchar utf8mb4", "w w": "varchar utf8mb4"}, {"id": "int", "w w": "varchar utf8mb4"}
+        images = [(first, {"v": "a"}), (wider, {"v": "b", "w w": "c"}), (other, {"u": "d", "w w": "e"}), (last, {"w w": "f"})]
+        lines = [full_line((n, 1), "t", None, {"id": n, **row}, types) for n, (types, row) in enumerate(images, 1)]
+        told = self.told(lines)
+        target = self.files.made("CREATE TABLE t (id INTEGER PRIMARY KEY, v TEXT)")
+        rename = 'ALTER TABLE "t" RENAME COLUMN "v" TO "u"'
+        for token, hints, more in (
+            (200, ['ALTER TABLE "t" ADD COLUMN "w w" TEXT'], " DEFAULT 'of the server'"),
+            (300, [rename, 'or, if it wasn\'t renamed: ALTER TABLE "t" ADD COLUMN "u" TEXT; ALTER TABLE "t" DROP COLUMN "v"'], ""),
+            (400, ['ALTER TABLE "t" DROP COLUMN "u"'], ""),
+        ):
+            status, said = ended_with_hints(target, "made", **told)
+            line, step, *statements = said.splitlines()
+            self.assertEqual((status, statements), (7, [f"hint: {hint}" for hint in hints]), said)
+            self.assertIn(f"the columns of made.t have changed at {token}.1@", line)
+            self.assertRegex(step, 'hint: alter the target.* start again .*, "After an ALTER TABLE"')
+            self.files.asked(target, hints[0] + more)
+        self.assertEqual(ended_with_hints(target, "made", **told), (0, ""))
+        wanted = [{"id": 1, "w w": "of the server"}, *({"id": n, "w w": w} for n, w in ((2, "c"), (3, "e"), (4, "f")))]
+        self.assertEqual(self.files.asked(target, "SELECT * FROM t ORDER BY id"), wanted)
+
+    def test_steps(self):
+        """What to do where the names are the same, where there is no table, and where --columns has names that aren't right any more."""
+        lines = [full_line((n, 1), "t", None, {"id": n}, {"id": "bigint" if n > 1 else "int"}) for n in (1, 2)]
+        table = "CREATE TABLE t (id INTEGER PRIMARY KEY)"
+        for tables, step in ((table, "the names are the same: change the target's types"), ("", "make it, or have --create make it")):
+            status, said = ended_with_hints(self.files.made(tables), "made", **self.told(lines))
+            self.assertEqual((status, said.count("\n")), (7, 2))
+            self.assertIn(f"\nhint: {step}", said)
+        columns = self.put("columns", b"TABLE_SCHEMA\tTABLE_NAME\tCOLUMN_NAME\tORDINAL_POSITION\tCOLUMN_TYPE\nmade\tt\tid\t1\tint\n")
+        told = self.told([full_line((1, 1), "t", None, {"@1": 1, "@2": 2}, {"@1": "int", "@2": "int"}, ())])
+        status, said = ended_with_hints(self.files.made(table), "made", "--columns", str(columns), **told)
+        self.assertEqual(status, 7, said)
+        self.assertIn("\nhint: make the file of --columns anew", said)
+
     def test_another_that_moved_the_target_on(self):
         target = self.files.new_target()
         self.put_place(target, "first")
@@ -299,6 +338,60 @@ class Follows(Files):
             process.send_signal(signal.SIGTERM)
             self.assertEqual((process.wait(), without_beginning(process.stderr.read())), (0, ""))
         self.assertEqual(json.loads(self.place(target))["file"], "binlog.000002")
+
+    def waits(self, schema, wanted, contents, *options):
+        """A replica that waits for the first change: it says so once, and reads the logs once for that. No place is kept before."""
+        calls, target = self.folder / f"{schema}.calls", self.files.made("")
+        program = self.stub(f'echo "$*" >> {calls}\nexec {PROGRAM} "$@"')
+        first, quiet, more = contents
+        first()
+        options = (*options, "--create", "--follow", "--interval", "0.02")
+        with started(target, schema, *options, program=program, logs=f"{self.folder}/binlog.0*") as process:
+            self.in_time(process.kill)
+            self.assertIn("begins with binlog.000001", process.stderr.readline())
+            self.assertEqual(process.stderr.readline(), f"replica: no log has a change of {wanted}: waiting for one\n")
+            quiet()
+            time.sleep(0.5)
+            self.assertEqual((process.poll(), self.place(target)), (None, ""))
+            more()
+            self.soon(lambda: self.place(target), "the first change isn't taken")
+            process.send_signal(signal.SIGTERM)
+            self.assertEqual((process.wait(), process.stderr.read()), (0, ""))
+        self.assertEqual([line.split()[0] for line in calls.read_text().splitlines() if "--follow" not in line], ["read"])
+        return target
+
+    def test_a_schema_without_a_change_yet(self):
+        contents = (
+            lambda: self.put("binlog.000001", SHOP[0].read_bytes()),
+            lambda: self.put("binlog.000002", SHOP[1].read_bytes()),
+            lambda: self.put("binlog.000003", log_of([insert(1)])),
+        )
+        target = self.waits("s", "the schema s yet, but of shop", contents)
+        self.assertEqual(len(self.files.asked(target, "SELECT * FROM t")), 1)
+        self.assertEqual(json.loads(self.place(target))["file"], "binlog.000003")
+
+    def test_a_table_without_a_change_yet(self):
+        ends = 2149, 2149 + 1, SHOP[0].stat().st_size
+        contents = [lambda end=end: self.put("binlog.000001", SHOP[0].read_bytes()[:end]) for end in ends]
+        target = self.waits("shop", "line yet", contents, "--only-tables=line")
+        self.assertEqual(len(self.files.rows_of(target)["line"]), 2)
+
+    def test_a_second_one(self):
+        """It is refused when it starts, by any name of the file. The lock ends with the first one's process, however that ends."""
+        target, told = self.files.made("CREATE TABLE t (id INTEGER PRIMARY KEY, v TEXT)"), self.told([])
+        file = target.partition(":")[2]
+        (self.folder / "link").symlink_to(file)
+        with started(target, "made", "--follow", **told) as process:
+            self.in_time(process.kill)
+            self.assertIn("begins with binlog.000001", process.stderr.readline())
+            for name in (file, f"{self.folder}/link"):
+                said = f"replica: another replica uses {name}: it has the lock {file}.lock\n"
+                self.assertEqual(ended(f"sqlite:{name}", "made", **told), (4, said))
+            # Whoever only reads isn't kept out.
+            self.assertEqual(self.files.asked(target, "SELECT * FROM t"), [])
+            self.assertIsNone(process.poll())
+            process.kill()
+        self.assertEqual(ended(target, "made", **told), (0, ""))
 
     def test_index_away_for_a_moment(self):
         """Without --follow, too, an index that is away is looked for again."""

@@ -161,3 +161,15 @@ class Types(TestCase):
     def test_a_statement(self):
         made = creating.statement("t", [("a", "int"), ("b", "date")], ["b", "a"], creating.postgres_type, lambda name: f'"{name}"')
         self.assertEqual(made, 'CREATE TABLE "t" ("a" integer NOT NULL, "b" date NOT NULL, PRIMARY KEY ("b", "a"))')
+
+    def test_alterations(self):
+        """Statements that make the columns that are there those of the log."""
+        def made(columns, there):
+            return creating.alterations("t", columns, there, creating.postgres_type, lambda name: f'"{name}"')
+
+        self.assertEqual(made([("a", "int"), ("b", "date")], ["b", "a"]), [])
+        added = ['ALTER TABLE "t" ADD COLUMN "b" date', 'ALTER TABLE "t" ADD COLUMN "c" numeric(8,2)']
+        self.assertEqual(made([("a", "int"), ("b", "date"), ("c", "decimal(8,2)")], ["a"]), added)
+        self.assertEqual(made([("a", "int")], ["a", "b", "c"]), [f'ALTER TABLE "t" DROP COLUMN "{name}"' for name in "bc"])
+        either = 'or, if it wasn\'t renamed: ALTER TABLE "t" ADD COLUMN "b" integer; ALTER TABLE "t" DROP COLUMN "a"'
+        self.assertEqual(made([("b", "int")], ["a"]), ['ALTER TABLE "t" RENAME COLUMN "a" TO "b"', either])

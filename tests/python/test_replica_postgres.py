@@ -146,15 +146,41 @@ class Postgres(LinesTest):
             opened = postgres.Postgres(target.partition(":")[2], client, "made", False)
             self.addCleanup(opened.close)
             self.assertEqual(opened.place(), "")
-            other = postgres.Postgres(target.partition(":")[2], client, "made", False)
-            other.begin("")
-            other.commit("first")
-            other.close()
+            self.server.asked(target.replace("psycopg:", "psql:"), f"UPDATE {targets.PLACE} SET place = 'first'")
             opened.begin("")
             with self.assertRaisesRegex(targets.AwayError, "start again"):
                 opened.commit("second")
             opened.rollback()
             self.assertEqual(opened.place(), "first")
+
+    def test_a_second_one(self):
+        """It is refused when it starts. The lock ends with the first one's process, however that ends, and with its connection."""
+        told = self.told([full_line((1, 1), "t", None, {"id": 1, "v": "a"}, TYPES)])
+        for target, python in self.in_clients(TABLE):
+            with started(target, "made", "--follow", "--interval", "0.02", **told, **python) as process:
+                self.in_time(process.kill)
+                while self.count(target) != ["1"]:
+                    self.assertIsNone(process.poll())
+                held = "SELECT pid FROM pg_locks WHERE locktype = 'advisory'"
+                (holder,) = self.server.asked(target.replace("psycopg:", "psql:"), held)
+                said = f"replica: another replica uses this target: the server's process {holder} has the lock of binlogfeed_place\n"
+                self.assertEqual(ended(target, "made", **told, **python), (4, said))
+                self.assertIsNone(process.poll())
+                process.kill()
+            self.assertEqual(ended(target, "made", **told, **python), (0, ""))
+
+    def test_a_lock_comes_back_with_the_connection(self):
+        """psql ends with an error. What takes the changes back takes the lock anew."""
+        target = self.server.made(TABLE)
+        opened = postgres.Postgres(target.partition(":")[2], "psql", "made", False)
+        self.addCleanup(opened.close)
+        opened.begin("another")
+        with self.assertRaises(targets.AwayError):
+            opened.commit("second")
+        with self.assertRaises(targets.MisfitError), postgres.judged():
+            opened._connection.run(["SELECT 1 / 0"])
+        opened.rollback()
+        self.assertEqual(len(self.server.asked(target, "SELECT pid FROM pg_locks WHERE locktype = 'advisory'")), 1)
 
     def test_away(self):
         """A server that isn't there, and one that goes while it is followed; with it back, the replica goes on."""
