@@ -107,7 +107,7 @@ def parsed_in_python(name: str, about: str, text: str) -> Help:
     # Of the options the usage shows those that have to be given.
     wanted = re.sub(r" \[-[^\]]*\]", "", usage[len("usage: ") :])
     wanted = re.sub(r"(\w+) \[\1 \.\.\.\]", r"\1...", wanted).replace(f"binlogfeed {name}", f"binlogfeed {name} [OPTIONS]")
-    return Help(about, wanted, *sections.values(), "\n\n".join(rest).replace("replica.py ", "binlogfeed replica "))
+    return Help(about, wanted, *sections.values(), "\n\n".join(rest))
 
 
 def asked_in_python(program: Path, name: str, about: str) -> Help:

@@ -332,12 +332,8 @@ class RotateEvent(Event):
         return [f"Position: {self.position}", f"Next binlog file: {self.next_binlog}"]
 
 
+# The class of the event of a change, by the kind that its form has.
 ROWS_EVENTS: dict[str, type[RowsEvent]] = {kind.kind: kind for kind in (WriteRowsEvent, UpdateRowsEvent, DeleteRowsEvent)}
-
-
-def event_of(change: Parts) -> RowsEvent:
-    """The event of a change."""
-    return ROWS_EVENTS[change[0].kind](change)
 
 
 class Transaction:

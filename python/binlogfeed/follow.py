@@ -107,15 +107,25 @@ class Follower:
 
     def measure(self) -> Measure:
         """How far it is: the place that is kept, and how far the printed lines are behind the logs."""
-        time_of_line = self._watch.last_time
-        seconds = None if time_of_line is None else int(time.time()) - time_of_line
-        return Measure(self._kept, self._lines, self._bytes_behind(), seconds)
+        behind = self._bytes_behind()
+        return Measure(self._kept, self._lines, behind, 0 if behind == 0 else self._seconds_behind())
 
     def status(self) -> str:
         """A line that says the same."""
         place, _, *behind = self.measure()
         size, seconds = ("-" if it is None else it for it in behind)
         return f"binlogfeed: place {place.resume or place.file or '-'}, {size} bytes behind, {seconds} seconds behind"
+
+    def _seconds_behind(self) -> int | None:
+        """How many seconds ago at most what is still to be read was committed, by two bounds of which the lesser is taken.
+
+        It came behind the last line that was given; and behind the beginning of the last look that took all.
+        """
+        time_of_line, caught_up = self._watch.last_time, self._watch.caught_up
+        bounds = [] if time_of_line is None else [int(time.time()) - time_of_line]
+        if caught_up is not None:
+            bounds.append(int(time.monotonic() - caught_up))
+        return min(bounds, default=None)
 
     def _bytes_behind(self) -> int | None:
         """How many bytes the logs have behind the last whole look's end, or behind the kept place where that is further on.

@@ -188,11 +188,15 @@ def reader_of_lines(
                 behind = line.rindex(TIMESTAMP_BYTES)
                 key = line.rindex(KEY_BYTES, 0, behind)
                 form = forms.get(line[key:behind]) or new_form(line[key:behind])
-                members = (loads_exactly if form.has_documents else loads)(line[:key] + line[behind:])
+                if form.has_documents:
+                    members = loads_exactly(line[:key] + line[behind:])
+                    nulls = members.get("json_null")
+                else:
+                    members = loads(line[:key] + line[behind:])
                 after, before, gtid = members["after"], members["before"], members["gtid"]
                 timestamp, token = members["timestamp"], members["token"]
                 if len(members) > ALWAYS:
-                    committed, nulls = members.get("committed"), members.get("json_null")
+                    committed = members.get("committed")
         except (StopIteration, ValueError, LookupError) as error:
             raise not_full() from error
         steps = form.always if line.find(BYTES) < 0 else form.with_bytes

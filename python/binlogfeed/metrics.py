@@ -38,7 +38,7 @@ def metrics_of(measure: Measure, faults: int) -> list[Metric]:
         Metric("place_bytes", "gauge", "The place that is kept, in bytes from its log's start.", position, (("log", place.file or ""),)),
         Metric("lines_total", "counter", "Lines that were written since the process began.", measure.lines),
         Metric("behind_bytes", "gauge", "Bytes that the logs have behind the place.", measure.bytes_behind),
-        Metric("behind_seconds", "gauge", "The clock less the time of the last line in the log.", measure.seconds_behind),
+        Metric("behind_seconds", "gauge", "Age of what is still to be read, at most; 0 where nothing is.", measure.seconds_behind),
         Metric("faults_total", "counter", "Errors that ended the following: 0, or 1 in the last file of a process.", faults),
     ]
 

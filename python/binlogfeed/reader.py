@@ -14,7 +14,7 @@ from typing import Any, Generic, Optional, TypeVar, Union, cast, overload
 from binlogfeed.arguments import asked_events, refuse_others, words
 from binlogfeed.begin import FIRST, NOW
 from binlogfeed.columns import GivenColumns, tables_of
-from binlogfeed.events import ROWS_EVENTS, Event, GtidEvent, RotateEvent, RowsEvent, Transaction, XidEvent, event_of
+from binlogfeed.events import ROWS_EVENTS, Event, GtidEvent, RotateEvent, RowsEvent, Transaction, XidEvent
 from binlogfeed.faults import BinlogfeedError, ColumnsMismatch, FileFault, LogFault, TokenRefused, WordsRefused
 from binlogfeed.lines import Parts, reader_of_lines
 from binlogfeed.logs import Log, is_pattern, is_place_of_logs
@@ -296,12 +296,12 @@ class BinLogStreamReader(Generic[Given]):
 
     def _singly(self) -> Iterator[Given]:
         """The events. None but the classes that were asked for come."""
-        for event in self._steps:
+        for event in cast("Iterator[Optional[Given]]", self._steps):
             if event is None:
                 self._reach_end()
             else:
                 self._given = event.token
-                yield cast(Given, event)
+                yield event
 
     def _reach_end(self) -> None:
         """Moves the place on to where the logs ended."""
@@ -429,7 +429,7 @@ class BinLogStreamReader(Generic[Given]):
     def _one_by_one(self, changes: Iterator[Optional[Parts]]) -> Iterator[Optional[RowsEvent]]:
         """An event for each change."""
         for change in changes:
-            yield None if change is None else event_of(change)
+            yield None if change is None else ROWS_EVENTS[change[0].kind](change)
 
     def _joined(self, changes: Iterator[Optional[Parts]]) -> Iterator[Optional[RowsEvent]]:
         """An event for changes that stand together."""
@@ -440,7 +440,7 @@ class BinLogStreamReader(Generic[Given]):
                     if change is not None and event.takes(change):
                         continue
                     yield event
-                event = None if change is None else event_of(change)
+                event = None if change is None else ROWS_EVENTS[change[0].kind](change)
                 if event is None:
                     yield None
         except BinlogfeedError:

@@ -87,6 +87,8 @@ class Watch:
         self.is_empty = False
         # The log that the last whole look came to, and how long it was then.
         self.reached: tuple[Optional[str], int] = (None, 0)
+        # When that look began, by `time.monotonic`: all that was in the logs by then was given.
+        self.caught_up: Optional[float] = None
 
     @property
     def place(self) -> Place:
@@ -109,12 +111,13 @@ class Watch:
     def look(self) -> Generator[bytes, None, None]:
         """The lines that are new by now, in blocks of whole lines. Raises what ended the reading early behind the lines before it."""
         self.begin()
+        began = time.monotonic()
         logs = self._found()
         if self._is_cut(logs):
             self._say_cut()
             return
         try:
-            yield from self._look(logs)
+            yield from self._look(logs, began)
         except LogFault as fault:
             raise fault.among(log.path for log in logs)
         except (LogLost, TokenRefused) as error:
@@ -126,7 +129,7 @@ class Watch:
             return
         except FileFault:
             # The server takes a log off its index before it purges it. The new index says whether that one was still needed.
-            yield from self._look(self._found())
+            yield from self._look(self._found(), began)
 
     def begin(self) -> bool:
         """Finds the place where the first look begins, if that is the logs' end by now. Answers whether it is found now."""
@@ -192,8 +195,8 @@ class Watch:
             end = _last_end(self._skipping.blocks())
             self._place = Place(last.name, last.begins, None if end is None else f"{end}.0@{last.name}")
 
-    def _look(self, logs: list[Log]) -> Iterator[bytes]:
-        """The lines that are new in these logs, where one of them has changed."""
+    def _look(self, logs: list[Log], began: float) -> Iterator[bytes]:
+        """The lines that are new in these logs, where one of them has changed. The look began at that moment."""
         marks = {log.path: self._seen[log.path].mark for log in logs}
         self.is_empty = not logs
         if logs and not self.begun:
@@ -201,6 +204,9 @@ class Watch:
             LOG.info(told_beginning(self.place, logs[0].name, self._begin, self._is_kept, self._kept_in))
         if not logs or self._closed or marks.items() <= self._finished.items():
             self._check()
+            # Where the last log is to grow again, nothing more of it was given.
+            if logs and not self._closed and not self._said_cut:
+                self.caught_up = began
             return
         whole = False
         try:
@@ -214,6 +220,7 @@ class Watch:
             self._finished = marks
             self._said_cut = False
             self.reached = logs[-1].name, marks[logs[-1].path].size
+            self.caught_up = began
 
     def _asked(self, logs: list[Log]) -> Generator[bytes, None, bool]:
         """What the run answers to these logs. A new run begins behind the place. Answers whether the look came to its end."""

@@ -2,6 +2,7 @@
 import contextlib
 import io
 import os
+import re
 import shutil
 import subprocess
 import sys
@@ -22,10 +23,10 @@ ENVIRONMENT = {**{name: value for name, value in os.environ.items() if name != "
 class FrontTest(FolderTest):
     """A test of the command."""
 
-    def run_command(self, *words, program=PROGRAM, replica=REPLICA, python=sys.executable, **environment):
-        """The status of the command, its output, and what it says."""
+    def run_command(self, *words, program=PROGRAM, replica=REPLICA, python=sys.executable, command=None, **environment):
+        """The status of the command, or of another one, its output, and what it says."""
         ended = subprocess.run(
-            [python, COMMAND, program, replica, *words],
+            [python, *([command] if command else [COMMAND, program, replica]), *words],
             env={**ENVIRONMENT, **environment}, cwd=self.folder, capture_output=True, text=True, check=False,
         )  # fmt: skip
         return ended.returncode, ended.stdout, ended.stderr
@@ -82,6 +83,19 @@ class InPython(FrontTest):
         status, _, said = self.run_command("replica")
         self.assertEqual(status, 2)
         self.assertRegex(said, r"\Ausage: binlogfeed replica ")
+
+    def test_the_replicas_name(self):
+        """Its help calls it by the name that it is started with."""
+        examples = ["%s sqlite:FILE SCHEMA LOGS", "%s postgres:CONNECTION SCHEMA LOGS"]
+        for name, (status, out, said) in (
+            ("binlogfeed replica", self.run_command("replica", "--help")),
+            ("binlogfeed replica", self.run_command("help", "replica")),
+            ("replica.py", self.run_command("--help", command=REPLICA)),
+        ):
+            self.assertEqual((status, said), (0, ""))
+            self.assertEqual(re.findall(r"(?m)^    (.* LOGS)$", out), [example % name for example in examples])
+            self.assertRegex(out, rf"\Ausage: {name} \[")
+            self.assertEqual("replica.py" in out, name == "replica.py")
 
     def test_no_replica(self):
         said = f"binlogfeed: {self.folder}/none, the replica, isn't there\n"

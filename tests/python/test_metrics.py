@@ -55,7 +55,6 @@ class Metrics(ServerTest):
         """Its last change is that of byte 2072 in its second log, and nothing is behind it."""
         ended = subprocess.run(self.command("--once", f"{SHOP[0].parent}/binlog.0*"), env=ENVIRONMENT, stdout=subprocess.PIPE, check=True)
         found = parsed(self.path.read_text())
-        self.assertLess(int(time.time()) - found.pop("binlogfeed_behind_seconds")[1] - 1795332186, 60)
         state = {"state": str(self.state)}
         self.assertEqual(
             found,
@@ -64,6 +63,7 @@ class Metrics(ServerTest):
                 "binlogfeed_place_bytes": ({"log": "binlog.000002", **state}, 2072),
                 "binlogfeed_lines_total": (state, 19),
                 "binlogfeed_behind_bytes": (state, 0),
+                "binlogfeed_behind_seconds": (state, 0),
                 "binlogfeed_faults_total": (state, 0),
             },
         )
@@ -88,6 +88,25 @@ class Metrics(ServerTest):
             self.assertEqual(process.wait(SECONDS), 0)
         found = self.values()
         self.assertEqual([found[f"binlogfeed_{name}"] for name in ("place_bytes", "lines_total", "faults_total")], [589, 3, 0])
+
+    def test_seconds_behind(self):
+        """None, where nothing is left to be read, though the last line is years old. Else the lesser of two bounds."""
+        self.index("binlog.000001")
+        self.log("binlog.000001", log(1))
+        follower = self.follower()
+        for size in (1, 2):
+            self.assertNotEqual(follower.measure().seconds_behind, 0)
+            follower.catch_up()
+            # A look that finds nothing new counts, too.
+            follower.catch_up()
+            self.assertEqual(follower.measure()[2:], (0, 0))
+            self.assertLess(time.monotonic() - follower._watch.caught_up, SECONDS)
+            self.assertIn('binlogfeed_behind_seconds{state="s"} 0\n', as_text(metrics_of(follower.measure(), 0), "s"))
+            self.log("binlog.000001", log(*range(1, size + 2)))
+            follower._watch.caught_up -= 1000
+            self.assertAlmostEqual(follower.measure().seconds_behind, 1000, delta=SECONDS)
+        follower._watch.caught_up = None
+        self.assertAlmostEqual(follower.measure().seconds_behind, time.time() - logs.TIME, delta=SECONDS)
 
     def until(self, holds):
         """Waits for what comes soon."""

@@ -1,4 +1,5 @@
-"""The types of the package, as mypy takes them."""
+"""The types of the package, as mypy takes them; and what the oldest Python takes."""
+import ast
 import importlib.util
 import os
 import subprocess
@@ -74,3 +75,18 @@ class Types(FolderTest):
         for line, wanted in WRONG.items():
             with self.subTest(line=line):
                 self.assertIn(wanted, self.said(f"from binlogfeed import BinLogStreamReader, GtidEvent\n\n{line}\n")[0])
+
+
+class Oldest(unittest.TestCase):
+    """Python 3.9 reads all scripts, whatever Python runs these tests."""
+
+    def test_syntax_and_annotations(self):
+        """It knows `X | Y` in no annotation that it evaluates."""
+        scripts = [path for folder in ("bench", "examples", "packaging", "python", "tests") for path in (TOP / folder).rglob("*.py")]
+        self.assertGreater(len(scripts), 100)
+        for script in scripts:
+            tree = ast.parse(script.read_text(encoding="utf-8"), feature_version=(3, 9))
+            imports = [node.module for node in tree.body if isinstance(node, ast.ImportFrom)]
+            annotations = [getattr(node, name, None) for node in ast.walk(tree) for name in ("annotation", "returns")]
+            has_unions = any(isinstance(part, ast.BitOr) for it in annotations if it is not None for part in ast.walk(it))
+            self.assertTrue("__future__" in imports or not has_unions, script)
