@@ -74,10 +74,11 @@ class FolderTest(unittest.TestCase):
         self.addCleanup(shutil.rmtree, self.folder, ignore_errors=True)
 
     def put(self, name: str, content: bytes) -> Path:
-        """Writes a file of the folder."""
+        """Writes a file of the folder. Whoever reads it meanwhile finds it as it was before, or whole."""
         path = self.folder / name
-        path.write_bytes(content)
-        return path
+        written = path.with_name(f".{path.name}.new")
+        written.write_bytes(content)
+        return written.replace(path)
 
     def in_time(self, end):
         """Has something ended where the test takes too long."""
