@@ -2,6 +2,7 @@
 
 What stands in them is worked out from a row's number, so that a log is the same each time it is made.
 """
+from __future__ import annotations
 
 import struct
 from typing import Callable, NamedTuple

@@ -1,4 +1,5 @@
 """What the documents show is run as it is written, in a folder that has what the repository's has."""
+import json
 import os
 import re
 import sqlite3
@@ -99,6 +100,17 @@ class Documents(FolderTest):
         left = self.shown(last).splitlines()
         self.assertEqual((len(left), left[-1]), (9, LAST_ROW))
 
+    def test_the_story_of_a_row(self):
+        """Where it is empty, nothing says so, and the page says how to see what the key has to be."""
+        shows, look = blocks("docs/USAGE.md", "The story of a row")
+        story, lines = shows.split("\n\n")
+        self.assertEqual(self.shown(story), lines)
+        for wrong in (story.replace("[2]", '["2"]'), story.replace("[2]", "[2,1]"), story.replace("customer", "costumer")):
+            self.assertEqual(self.shown(wrong), "")
+        shown = json.loads(self.shown(look))
+        key = json.dumps([shown["after"][name] for name in shown["key"]])
+        self.assertIn(f'"name":"{shown["after"]["name"]}"', self.shown(story.replace("[2]", key)))
+
     def test_a_missing_file(self):
         """Who notices it ("What to know before use"). The bank's second log ends without a ROTATE, its first with one."""
         logs = {number: self.put(path.name, path.read_bytes()) for number, path in enumerate(BANK[:5], 1)}
@@ -123,13 +135,24 @@ class Documents(FolderTest):
         (block,) = blocks("README.md", "In Python")
         self.assertEqual(self.shown(block), README_SHOWS)
 
+    def test_readme_where_it_is_installed(self):
+        """The same block, in a folder that has the examples alone: the command is on PATH, and Python finds the package by itself."""
+        (block,) = blocks("README.md", "In Python")
+        room, installed = self.folder / "room", self.folder / "installed"
+        for folder in (room, installed):
+            folder.mkdir()
+        (room / "examples").symlink_to(TOP / "examples")
+        (installed / "binlogfeed").symlink_to(self.folder / "binlogfeed")
+        self.put("installed/python3", f'#!/bin/sh\nPYTHONPATH=$PYTHONPATH:{TOP}/python exec {sys.executable} "$@"\n'.encode()).chmod(0o700)
+        self.assertEqual(self.shown(f"PATH={installed}:$PATH\ncd room\n{block}"), README_SHOWS)
+
     def test_readme_is_short(self):
         part = (TOP / "README.md").read_text(encoding="utf-8").partition("## In Python\n")[2].partition("\n## ")[0]
         self.assertLessEqual(part.count("\n") + 1, 12)
 
     def test_python(self):
         (block,) = blocks("docs/USAGE.md", "In Python")
-        lines = self.shown(f"PYTHONPATH=python python3 - <<'END'\n{block}END\n").splitlines()
+        lines = self.shown(f"PATH=.:$PATH PYTHONPATH=python python3 - <<'END'\n{block}END\n").splitlines()
         # Six updates, in four transactions; behind the last of them one more was deleted.
         tables = ["purchase", "product", "product", "customer", "purchase", "customer"]
         self.assertEqual([line.split()[1] for line in lines[:6]], tables)

@@ -70,9 +70,8 @@ def shell_lines():
 
 
 def example():
-    """The README's example for Python. It finds the program by itself."""
-    code = re.search(r"(?m)^from binlogfeed import .*\n(?:.+\n)+?(?=```$)", README)[0]
-    return re.sub(r', program="[^"]*"', "", code).rstrip("'\n") + "\n"
+    """The README's example for Python, as it stands. It finds the program by itself."""
+    return re.search(r"(?m)^from binlogfeed import .*\n(?:.+\n)+?(?=```$)", README)[0].rstrip("'\n") + "\n"
 
 
 class Package(unittest.TestCase):
