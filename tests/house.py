@@ -44,6 +44,12 @@ EVENT_STEPS = (
     ("binlog_frame/src/frames.rt", "next_over"),
     ("binlog_frame/src/reads.rt", "read_event"),
 )
+# Two of these make the list of `Looks` and add to it, and two say which look is added (docs/DECISIONS.md).
+OF_LOOKS = TOP / "crates/binlogfeed"
+PROOFS_THAT_SET_LOOKS = {
+    OF_LOOKS / "proofs/looks/Looks" / proof
+    for proof in ("none/Proof.antt", "add/Proof.antt", "add_for/Invariants.antt", "note/Invariants.antt")
+}
 # These are no types round an event: its own header, what stands where no event does, and the standard library's.
 OWN_TYPES = {"Result", "Option", "Header", "Ending"}
 # So much counts what a way lacks.
@@ -293,12 +299,18 @@ def types_round_an_event() -> Iterator[Item]:
     yield from (Item(name) for name in sorted((told | {name for name in named_in(told) if holds_header(name)}) - OWN_TYPES))
 
 
-def proofs_that_set_looks() -> Iterator[Item]:
-    """The proofs that set what `Looks` has, by hand or by a call that is told the look: one more could note a look that never was."""
+def other_proofs_that_set_looks() -> Iterator[Item]:
+    """The proofs that set what `Looks` has, by hand or by a call that is told the look, but for those that have to.
+
+    Any other could note a look that never was.
+    """
     for path in sorted(TOP.glob("crates/*/proofs/**/*.antt")):
         text = path.read_text(encoding="utf-8")
-        if (path.name == "Proof.antt" and "looks.Looks" in text) or re.search(r"\bghost-add(_for)?\b *:", text):
-            yield Item(str(path.relative_to(TOP)))
+        # A proof by hand of that crate may name the type by way of another module.
+        by_hand = path.name == "Proof.antt" and (OF_LOOKS in path.parents or "looks.Looks" in text)
+        if by_hand or re.search(r"\bghost-add(_for)?\b *:", text):
+            if path not in PROOFS_THAT_SET_LOOKS:
+                yield Item(str(path.relative_to(TOP)))
 
 
 FIGURES = {
@@ -313,7 +325,7 @@ FIGURES = {
     "public_calls_with_over_16_clauses": calls_with_many_clauses,
     "functions_over_40_lines": long_functions,
     "files_over_800_lines": long_files,
-    "proofs_that_set_looks": proofs_that_set_looks,
+    "other_proofs_that_set_looks": other_proofs_that_set_looks,
     "unreachables": unreachables,
     "flat_wrong_bodies": flat_wrong_bodies,
     "lines_of_proofs": proof_lines,
