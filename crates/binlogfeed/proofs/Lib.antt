@@ -13,6 +13,7 @@ pub mod KeyParts
 pub mod Found
 pub mod Stopping
 pub mod Gone
+pub mod FailedReads
 pub mod Refusing
 pub mod InputLines
 pub mod Looked
