@@ -75,10 +75,16 @@ FailuresOfEither =
 abbrev pub failed_look : Look
 failed_look = record (look_at one_file) { failures = 1 }
 
--- A refused list is the newest one: a later fault is one of its files and reads, and an earlier one of those of the look before it.
+-- over both, with one that failed there
+abbrev pub failed_in_both : Look
+failed_in_both = record (look_at both_files) { failures = 1 }
+
+-- A refused list is the newest one: a later fault is one of its files and reads, of the file with the name of the last one of the look before
+-- it, and an earlier one of those of that look.
 abbrev pub FailuresOfRefusals : Type 0
 FailuresOfRefusals =
-    FailsAs (Err (Refused (going.Later (reading.Read 0)))) (failed_look ∷ look_at both_files ∷ [])
+    FailsAs (Err (Refused (going.Later (reading.Read 0)))) (failed_in_both ∷ look_at one_file ∷ [])
+    × (FailsAs (Err (Refused (going.Later (reading.Read 1)))) (failed_in_both ∷ look_at one_file ∷ []) → ⊥)
     × (FailsAs (Err (Refused (going.Earlier (reading.Read 0)))) (failed_look ∷ look_at both_files ∷ []) → ⊥)
     × FailsAs (Err (Refused (going.Earlier (reading.Read 0)))) (look_at both_files ∷ failed_look ∷ [])
     × (FailsAs (Err (Refused (going.Later (reading.Read 0)))) (look_at both_files ∷ failed_look ∷ []) → ⊥)

@@ -17,11 +17,13 @@ pub mod Following
 pub mod LastFiles
 pub mod OtherTurns
 pub mod FollowEnds
+pub mod FollowNext
 pub mod Parts
 pub mod Frames
 pub mod Growing
 pub mod GoingOn
 pub mod Runs
+pub mod RunsOn
 pub mod Sources
 pub mod SystemFiles
 pub mod Statuses

@@ -6,7 +6,7 @@ use Rattle.binlog_feed.specs.Tokens.Judgement.{NoFile, Fits, NoChange, Faulty, N
 use Rattle.binlog_feed.specs.declared.fault.LogFault.{LogFault}
 use Rattle.binlog_feed.specs.declared.what.What.TheVariants.{BadRows}
 use Rattle.binlogfeed.specs.GoingOn.{CountsNew, GoesOnWith, IsNoRefusal}
-use Rattle.binlogfeed.specs.Runs.{Answers, AnswersIfBegun, AnswersOutput, AnswersRefusal, Output, line_count, refusal_by}
+use Rattle.binlogfeed.specs.Runs.{Answers, AnswersAll, AnswersIfBegun, AnswersOutput, AnswersRefusal, Output, line_count, refusal_by}
 use Rattle.binlogfeed.specs.declared.fault.RunFault.TheVariants as run
 use Rattle.binlogfeed.specs.declared.fault.TokenRefusal.TheVariants as refusals
 use Rattle.binlog_samples.specs.Statuses.{two_names}
@@ -77,6 +77,15 @@ abbrev pub LinesNotCut : Type 0
 LinesNotCut =
     (AnswersOutput two_lines (Some kept) (behind_kept line_b) (Err run.Write) → ⊥) × (AnswersOutput two_lines (Some kept) (behind_kept line_b) (Err (run.Read 0)) → ⊥)
     × (AnswersOutput two_lines (Some kept) (behind_kept line_b) (Err run.OutOfMemory) → ⊥)
+
+-- Of lines that are gone a failed read keeps none back, neither a part of one nor a whole one. All other answers are as before.
+abbrev pub AllGoneLines : Type 0
+AllGoneLines =
+    AnswersAll two_lines (Some kept) (behind_kept (line_a ++ line_b)) (Err (run.Read 0)) × (AnswersAll two_lines (Some kept) (behind_kept (line_a ++ codes "b")) (Err (run.Read 0)) → ⊥)
+    × (AnswersAll two_lines (Some kept) (behind_kept line_a) (Err (run.Read 0)) → ⊥) × (AnswersAll two_lines (Some kept) (Some kept) (Err (run.Read 0)) → ⊥)
+    × AnswersAll two_lines (Some kept) (behind_kept line_a) (Err run.Write) × AnswersAll two_lines (Some kept) (behind_kept line_a) (Err run.OutOfMemory)
+    × (AnswersAll two_lines (Some kept) (behind_kept line_b) (Err run.Write) → ⊥)
+    × AnswersAll two_lines (Some kept) (behind_kept (line_a ++ line_b)) (Ok 2) × (AnswersAll two_lines (Some kept) (behind_kept line_a) (Ok 1) → ⊥)
 
 -- neither names nor a token are refused once there is an output
 abbrev pub OutputsRefuseNothing : Type 0

@@ -3,6 +3,7 @@ ghost use Rattle.binlog_samples.specs.Following.{ListTexts, ListsBegin, NoLists,
 ghost use Rattle.binlog_samples.specs.Following.{PartsOfLooks, BeginsAtEnd, GoneFiles, JoinedParts, EmptyLooks, LastFilesStay, LooksAreHonest, LooksAreWritten, MadeLooks};
 ghost use Rattle.binlog_samples.specs.Following.{TextsOfRefusals, StatusesOfRefusals, StatusesOfEnds, TextsOfEnds, FailuresOfEnds};
 ghost use Rattle.binlog_samples.specs.LastFiles.{ComesOnce, LastFilesReach};
+ghost use Rattle.binlog_samples.specs.FollowNext.{BothAreNotWritten, BothAreWritten, LastIsWritten, LooksDiffer, NextIsNotWritten, NextIsWritten};
 ghost use Rattle.binlog_samples.specs.FollowEnds.{EndsWithoutFault, EndsWithFault, EndsByDevice, FaultsAtStarts, FilesNamed, FailuresOfEither, FailuresOfRefusals};
 ghost use Rattle.binlog_samples.specs.FollowEnds.{FailuresOfBeginnings, LooksNotBegun, FirstRefused, BlanksWritten, ListsRefused, LooksContinue, RefusedAsShorter, RefusedForReading};
 ghost use Rattle.binlog_samples.specs.FollowEnds.{NextIsRefused, LookedAtIsNotRefused, AllListsLookedAt, ListLeft, LooksSupplied};
@@ -31,6 +32,16 @@ pub fn sample_looks()
     ensures comes_once { ComesOnce }
     ensures looks_are_honest { LooksAreHonest }
     ensures made_looks { MadeLooks }
+{}
+
+/// What is written of two looks that stand one behind the other.
+pub fn sample_next_looks()
+    ensures looks_differ { LooksDiffer }
+    ensures next_is_written { NextIsWritten }
+    ensures next_is_not_written { NextIsNotWritten }
+    ensures last_is_written { LastIsWritten }
+    ensures both_are_written { BothAreWritten }
+    ensures both_are_not_written { BothAreNotWritten }
 {}
 
 /// How runs that follow end.

@@ -28,7 +28,7 @@ pub use feeds::sample_feeds;
 pub use files::sample_files;
 pub use following::{
     sample_follow_ends, sample_lists, sample_look_ends, sample_looked_at, sample_looks,
-    sample_refused_lists,
+    sample_next_looks, sample_refused_lists,
 };
 pub use frames::sample_frames;
 pub use going_on::{sample_found_places, sample_refused_feeds, sample_unfound_places};
@@ -36,7 +36,7 @@ pub use growing::sample_growing;
 pub use laws::sample_laws;
 pub use parts::{sample_begins, sample_parts};
 pub use profiles::sample_profiles;
-pub use runs::{sample_further_runs, sample_outputs, sample_refused_runs};
+pub use runs::{sample_further_runs, sample_outputs, sample_refused_runs, sample_runs_on};
 pub use sources::{sample_honesty, sample_paths, sample_sources};
 pub use statuses::sample_statuses;
 pub use system_files::sample_system_files;

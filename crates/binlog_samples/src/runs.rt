@@ -1,6 +1,7 @@
 //! The definitions of what runs write and answer, over two lines.
-ghost use Rattle.binlog_samples.specs.Runs.{LinesCounted, AllLines, OtherLines, FaultOfLines, LinesCut, LinesNotCut, OutputsRefuseNothing};
+ghost use Rattle.binlog_samples.specs.Runs.{LinesCounted, AllGoneLines, AllLines, OtherLines, FaultOfLines, LinesCut, LinesNotCut, OutputsRefuseNothing};
 ghost use Rattle.binlog_samples.specs.Runs.{RunsRefused, RunsNotRefused, RefusalsWriteNothing, RefusalsByJudgement, NamesAnswered, StartsAnswered, NotBegun};
+ghost use Rattle.binlog_samples.specs.RunsOn.{ChangesUpTo, DoesNotGoOn, GoesOnOverNone, LastNamed, ReadsPlaced};
 ghost use Rattle.binlog_samples.specs.Runs.{GoesOn, GoesOnToFault, GoesOnCut, GoesOnRefused, NewCounted};
 
 /// Which lines a run writes, and what it answers.
@@ -11,6 +12,7 @@ pub fn sample_outputs()
     ensures fault_of_lines { FaultOfLines }
     ensures lines_cut { LinesCut }
     ensures lines_not_cut { LinesNotCut }
+    ensures all_gone_lines { AllGoneLines }
     ensures outputs_refuse_nothing { OutputsRefuseNothing }
 {}
 
@@ -32,4 +34,13 @@ pub fn sample_further_runs()
     ensures goes_on_cut { GoesOnCut }
     ensures goes_on_refused { GoesOnRefused }
     ensures new_counted { NewCounted }
+{}
+
+/// Which feeds go on, and where a read failed.
+pub fn sample_runs_on()
+    ensures goes_on_over_none { GoesOnOverNone }
+    ensures does_not_go_on { DoesNotGoOn }
+    ensures reads_placed { ReadsPlaced }
+    ensures changes_up_to { ChangesUpTo }
+    ensures last_named { LastNamed }
 {}

@@ -1,4 +1,6 @@
-use Rattle.std.proofs.Common.{◌≡◌, refl, inl, inr, arith}
+use Rattle.std.proofs.Common.{◌≡◌, ◌∙◌, [], ◌∷◌, refl, sym, inl, inr, arith}
+use Rattle.std.proofs.lemmas.Option.{same_Some}
+use Rattle.binlog_frame.specs.Logs.{HasRisen}
 use Rattle.binlog_feed.specs.Tokens.{judge}
 use Rattle.binlog_feed.specs.Tokens.Judgement.{NoTransaction as no_transaction}
 use Rattle.binlog_feed.specs.declared.fault.OpenFeedFault.{OpenFeedFault}
@@ -10,8 +12,10 @@ use Rattle.binlogfeed.specs.Follow.{RefusesFirst}
 use Rattle.binlogfeed.specs.Looks.{IsNoEnd, RefusesFollowing}
 use Rattle.binlogfeed.specs.declared.fault.RunFault.TheVariants as run
 use Rattle.binlogfeed.specs.declared.fault.TokenRefusal.TheVariants.{NoTransaction}
-use Rattle.binlog_samples.specs.Tokens.{first_name, token}
+use Rattle.binlog_samples.specs.Tokens.{first_name, second_name, token}
 use Rattle.binlog_samples.specs.Following.{look_at, one_file}
+use Rattle.binlog_samples.proofs.GrownFiles.{first_named}
+use Rattle.binlog_samples.proofs.NextLooks.{first_is_not_second}
 use Rattle.binlog_samples.proofs.OnBytes.{on_bytes}
 use Rattle.binlog_samples.proofs.following.sample_look_ends.Goals as goal
 
@@ -40,4 +44,18 @@ returns-clause-first_refused c = (
   (λ refuses. (is_refused (token 371 0 first_name) refuses).1 refl),
   (λ refuses. let judged = (is_refused (token 153 0 first_name) refuses).0 in cc),
   inl refl,
+)
+
+still_none : HasRisen 0 0 → ⊥
+still_none (inl more) = omega (arith, more)
+still_none (inr most) = omega (arith, most)
+
+pub returns-clause-failures_of_refusals : goal.returns-clause-failures_of_refusals
+returns-clause-failures_of_refusals c = (
+  (omega arith, inl (omega arith), record { name = first_name; named = refl; found = first_named first_name (second_name ∷ []) }),
+  (λ fails. first_is_not_second (sym (same_Some second_name first_name (fails.2.found.1 ∙ sym fails.2.named)))),
+  (λ fails. still_none fails.1),
+  (omega arith, inl (omega arith), tt),
+  (λ fails. still_none fails.1),
+  (λ fails. let below = fails.0 in omega (arith, below)),
 )

@@ -1,11 +1,10 @@
-use Rattle.std.proofs.Common.{rules, Bool, ◌≡◌, ◌<◌, ◌≤◌, ℕ, zero, suc, List, [], ◌∷◌, ◌++◌, length, length-append, map, take, None, Some, refl, sym, ap, ◌∙◌, subst, inl, inr, arith}
+use Rattle.std.proofs.Common.{rules, Bool, ◌≡◌, ◌<◌, ℕ, zero, suc, List, [], ◌∷◌, ◌++◌, length, length-append, map, take, None, Some, refl, sym, ap, ◌∙◌, subst, inl, inr, arith}
 use Rattle.std.specs.Prelude.{drop, slice_get, unwrap_or}
 use Rattle.binlog_frame.specs.Cutting.{Event, Reading}
 use Rattle.binlog_frame.specs.Frames.{place_of, to_come}
 use Rattle.binlog_frame.specs.Logs.{content}
 use Rattle.binlog_frame.specs.Reading.{event_at, reading_of}
 use Rattle.binlog_frame.specs.Splitting.{SplitsFile, then_all}
-use Rattle.binlog_feed.specs.Changes.{RowChange}
 use Rattle.binlog_feed.specs.ChangeMachine.{RemainingChanges, feed_files, nothing_so_far, remaining_changes_at, remaining_changes_in_file}
 use Rattle.binlog_feed.specs.Contents.{content_fault}
 use Rattle.binlog_feed.specs.FeedView.{filtered, passes_by}
@@ -15,12 +14,13 @@ use Rattle.binlog_feed.specs.Places.{begin_file}
 use Rattle.binlog_feed.specs.UnitMachine.{take_kind, text_kind}
 use Rattle.binlog_feed.specs.declared.place.Place.{Place}
 use Rattle.binlog_feed.specs.declared.unit_state.UnitState.TheVariants.{Nothing}
-use Rattle.binlogfeed.specs.Looks.{ComesBehindLast, HasLast}
+use Rattle.binlogfeed.specs.Looks.{HasLast}
 use Rattle.binlogfeed.specs.Lines.{change_lines}
 use Rattle.binlog_samples.specs.Changes.{brief}
 use Rattle.binlog_samples.specs.Statuses.{two_names}
 use Rattle.binlog_samples.specs.Tokens.{first_file, first_name, second_change, second_file, second_name, third_file, third_name}
-use Rattle.binlog_samples.specs.Following.{all, both_files, cut_look, given, last_files, look_at, one_file}
+use Rattle.binlog_samples.specs.Following.{all, both_files, given, last_files, look_at, one_file}
+use Rattle.binlog_samples.proofs.NextLooks.{cut_short}
 use Rattle.binlog_samples.proofs.OnBytes.{on_bytes}
 use Rattle.binlog_samples.proofs.following.sample_looks.Goals as goal
 
@@ -72,16 +72,6 @@ returns-clause-last_files_stay c = (
   none_has two_names (first_name ∷ []) first_name second_name refl refl (λ e. search rules),
   λ style chosen kept. none_has (first_name ∷ []) (third_name ∷ []) third_name first_name refl refl (λ e. search rules) (kept.0.there (search rules)),
 )
-
--- the first file is cut before the end of its transaction
-cut_short : (passes : RowChange → Bool) (coming : RemainingChanges) → ComesBehindLast passes (look_at one_file) (cut_look 370) coming → ⊥
-unfolding on_bytes take_kind text_kind
-cut_short passes coming h =
-    let there : h.place.file < 1 = h.behind.found.0 in
-    let first : h.place.file ≡ 0 = omega (arith, there) in
-    let reaches : 371 ≤ length (content (cut_look 370).contents 0) = subst (λ (n : ℕ). 371 ≤ length (content (cut_look 370).contents n)) first h.behind.reaches in
-    let bytes : length (content (cut_look 370).contents 0) ≡ 370 = refl in
-    omega (arith, reaches, bytes)
 
 pub returns-clause-last_files_reach : goal.returns-clause-last_files_reach
 unfolding on_bytes take_kind text_kind content_fault
