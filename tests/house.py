@@ -39,8 +39,8 @@ ANSWER = re.compile(r"->([^{]*?)(?:\{|\n *(?:requires|ensures|ghost))")
 EVENT_STEPS = (
     ("binlog_feed/src/feed_step.rt", "step"),
     ("binlog_feed/src/feed_step.rt", "judge"),
-    ("binlog_feed/src/next_event.rt", "take_found"),
-    ("binlog_feed/src/next_event.rt", "read_next"),
+    ("binlog_units/src/next_event.rt", "take_found"),
+    ("binlog_units/src/next_event.rt", "read_next"),
     ("binlog_frame/src/frames.rt", "next_over"),
     ("binlog_frame/src/reads.rt", "read_event"),
 )
@@ -271,9 +271,9 @@ def calls_between(way: str, first: Step, last: Step) -> Iterator[Item]:
 
 
 def members_of_types() -> dict[str, set[str]]:
-    """The types of binlog_frame and binlog_feed, and those that each one's fields name."""
+    """The types of binlog_frame, binlog_units and binlog_feed, and those that each one's fields name."""
     found = {}
-    for path in (path for path in sources() if path.parts[-3] in {"binlog_frame", "binlog_feed"}):
+    for path in (path for path in sources() if path.parts[-3] in {"binlog_frame", "binlog_units", "binlog_feed"}):
         text = re.sub(r"//.*", "", path.read_text(encoding="utf-8"))
         for name, body in re.findall(r"\n(?:pub(?:\([^)]*\))? )?(?:struct|enum) (\w+)[^;{]*\{(.*?)\n\}", text, re.DOTALL):
             found[name] = set(re.findall(r"\b[A-Z]\w+", body))

@@ -6,7 +6,7 @@ use Rattle.binlog_frame.specs.Logs.{Contents, content}
 use Rattle.binlog_frame.specs.Splitting.{EndsInFront}
 use Rattle.binlog_feed.specs.Growing.{IsShort, end_from_mark, last_file}
 use Rattle.binlog_feed.specs.Searching.{IsFirstNamed}
-use Rattle.binlog_feed.specs.declared.place.Place.{Place}
+use Rattle.binlog_units.specs.declared.place.Place.{Place}
 use Rattle.binlog_samples.proofs.Paths.{first_of}
 
 pub first_named : (name : List ℕ) (more : List (List ℕ)) → IsFirstNamed (name ∷ more) name 0

@@ -1,6 +1,6 @@
 -- When transactions were committed, by the bodies of GTID events, and what the changes of small files say of it.
 use Rattle.std.specs.Prelude.{◌≡◌, ℕ, List, [], ◌∷◌, ◌++◌, map, Option, Some, None, codes}
-use Rattle.binlog_feed.specs.Bodies.{commit_time_of}
+use Rattle.binlog_units.specs.Bodies.{commit_time_of}
 use Rattle.binlog_feed.specs.Changes.{RowChange}
 use Rattle.binlog_feed.specs.Feeds.{changes}
 use Rattle.binlog_samples.specs.Changes.{first_map, image, inserted, one_row}

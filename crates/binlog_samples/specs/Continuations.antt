@@ -1,16 +1,15 @@
 -- Small files that have gone on: what stands behind a token, and which files continue others.
-use Rattle.std.specs.Prelude.{◌≡◌, ℕ, List, [], ◌∷◌, ◌++◌, length, take, drop, Some, None, true}
+use Rattle.std.specs.Prelude.{◌≡◌, ℕ, List, [], ◌∷◌, ◌++◌, length, take, drop, Some, None, true, codes}
 use Rattle.binlog_frame.specs.Closing.{closed}
 use Rattle.binlog_select.specs.declared.kind.ChangeKind.TheVariants.{Insert}
 use Rattle.binlog_feed.specs.Changes.{RowChange}
 use Rattle.binlog_feed.specs.Continues.{Extends, Continues}
-use Rattle.binlog_feed.specs.Parsing.{LogFile}
+use Rattle.binlog_units.specs.Parsing.{LogFile}
 use Rattle.binlog_feed.specs.Starts.{Anew}
 use Rattle.binlog_feed.specs.Tokens.Judgement.{NoFile}
 use Rattle.binlog_feed.specs.declared.start.Start.TheVariants.{After}
 use Rattle.binlog_samples.specs.Files.{front, named, alone, xid_event}
 use Rattle.binlog_samples.specs.Changes.{Has, image, cells, begun, one_row, one_more, change_at, first_change, two_updates}
-use Rattle.std.specs.Prelude.{codes}
 use Rattle.binlog_samples.specs.Tokens.{first_name, second_name, third_name, fourth_name, token, Judges, Rests, first_file, second_file, third_file, two_files, third_change, bad_behind_second}
 
 -- ---- one file

@@ -4,12 +4,12 @@ use Rattle.binlog_frame.specs.Logs.{Contents}
 use Rattle.binlog_feed.specs.Changes.{RowChange}
 use Rattle.binlog_feed.specs.FeedReaching.{ReachesChange, ReachesEnd, UnitBeginsAt}
 use Rattle.binlog_feed.specs.FeedView.{AnswersFrom, MarksOn}
-use Rattle.binlog_feed.specs.Places.{begin_file}
-use Rattle.binlog_feed.specs.Reaching.{ReachesFault}
-use Rattle.binlog_feed.specs.declared.fault.FeedFault.TheVariants.{OutOfMemory, Read}
-use Rattle.binlog_feed.specs.declared.unit.Unit.{Unit as UnitSummary}
-use Rattle.binlog_feed.specs.declared.unit.UnitEnding.TheVariants.{Xid}
-use Rattle.binlog_feed.specs.declared.what.What.TheVariants.{BadLength, OutOfPlace}
+use Rattle.binlog_units.specs.Places.{begin_file}
+use Rattle.binlog_units.specs.UnitsView.{ReachesFault}
+use Rattle.binlog_units.specs.declared.fault.FeedFault.TheVariants.{OutOfMemory, Read}
+use Rattle.binlog_units.specs.declared.unit.Unit.{Unit as UnitSummary}
+use Rattle.binlog_units.specs.declared.unit.UnitEnding.TheVariants.{Xid}
+use Rattle.binlog_units.specs.declared.what.What.TheVariants.{BadLength, OutOfPlace}
 use Rattle.binlog_profile.specs.declared.profile.Profile.TheVariants.{Strict}
 use Rattle.binlog_samples.specs.Files.{fault_at, four_bytes, front, xid_event, zeros}
 

@@ -6,14 +6,14 @@ use Rattle.binlog_feed.specs.Changes.{RowChange}
 use Rattle.binlog_feed.specs.Continues.{has_file, in_files}
 use Rattle.binlog_feed.specs.FeedLaws.{ChangesAreFound, ChangesStandAtTheirPlaces, PlacesRise, FeedsResume, FilesAreApart, UnitsAreApart, changes_read_apart, units_read_apart}
 use Rattle.binlog_feed.specs.Feeds.{feed, end_from}
-use Rattle.binlog_feed.specs.Parsing.{LogFile}
+use Rattle.binlog_units.specs.Parsing.{LogFile}
 use Rattle.binlog_feed.specs.Tokens.{Judgement, change_at, judge, judge_change, token_of, is_after, rest}
 use Rattle.binlog_feed.specs.Tokens.Judgement.{NoFile, Fits, NoChange, NoTransaction}
-use Rattle.binlog_feed.specs.UnitSummaries.{all_units}
-use Rattle.binlog_feed.specs.declared.fault.LogFault.{LogFault}
-use Rattle.binlog_feed.specs.declared.unit.Unit.{Unit as UnitSummary}
-use Rattle.binlog_feed.specs.declared.unit.UnitEnding.TheVariants.{Xid}
-use Rattle.binlog_feed.specs.declared.what.What.TheVariants.{BadMagic, BadRows, RotationMismatch}
+use Rattle.binlog_units.specs.UnitSummaries.{all_units}
+use Rattle.binlog_units.specs.declared.fault.LogFault.{LogFault}
+use Rattle.binlog_units.specs.declared.unit.Unit.{Unit as UnitSummary}
+use Rattle.binlog_units.specs.declared.unit.UnitEnding.TheVariants.{Xid}
+use Rattle.binlog_units.specs.declared.what.What.TheVariants.{BadMagic, BadRows, RotationMismatch}
 use Rattle.binlog_samples.specs.Hex.{hex}
 use Rattle.binlog_samples.specs.Files.{alone, unit_at, fault_at}
 use Rattle.binlog_samples.specs.Changes.{Brief, brief, one_row, first_change, two_updates, update_of}

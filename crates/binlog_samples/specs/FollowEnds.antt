@@ -3,13 +3,12 @@ use Rattle.std.specs.Prelude.{ℕ, List, [], ◌∷◌, ◌++◌, drop, map, tru
 use Rattle.binlog_select.specs.declared.filter.Filter.{Filter}
 use Rattle.binlog_json.specs.declared.style.Style.{Style}
 use Rattle.binlog_frame.specs.declared.open_fault.OpenFault.TheVariants as opening
-use Rattle.binlog_feed.specs.Parsing.{LogFile}
-use Rattle.binlog_feed.specs.declared.fault.FeedFault.TheVariants as reading
-use Rattle.binlog_feed.specs.declared.fault.GoOnFault.TheVariants as going
-use Rattle.binlog_feed.specs.declared.fault.LogFault.{LogFault}
+use Rattle.binlog_units.specs.Parsing.{LogFile}
+use Rattle.binlog_units.specs.declared.fault.FeedFault.TheVariants as reading
+use Rattle.binlog_units.specs.declared.fault.LogFault.{LogFault}
 use Rattle.binlog_feed.specs.declared.start.Start.{Start}
 use Rattle.binlog_feed.specs.declared.start.Start.TheVariants.{Beginning, After}
-use Rattle.binlog_feed.specs.declared.what.What.TheVariants.{BadMagic, BadRows}
+use Rattle.binlog_units.specs.declared.what.What.TheVariants.{BadMagic, BadRows}
 use Rattle.binlog_profile.specs.declared.profile.Profile.TheVariants.{Strict, Server}
 use Rattle.binlogfeed.specs.Follow.{AreSupplied, EitherFailed, EndsAs, EndsLists, FailsAs, FollowsLooks, NamesFiles, RefusesFirst, RefusesForReading, RefusesList, RefusesNext, RefusesShorter, WritesBlanks}
 use Rattle.binlogfeed.specs.Looks.{EachContinues, EndsBehindStart, Look}
@@ -20,6 +19,7 @@ use Rattle.binlogfeed.specs.declared.lists.ListFault.TheVariants as lists
 use Rattle.binlog_samples.specs.Statuses.{two_names}
 use Rattle.binlog_samples.specs.Tokens.{first_name, second_name, token, first_file, bad_in_second, bad_behind_second, bad_before}
 use Rattle.binlog_samples.specs.Following.{a_path, a_names, all, look_at, cut_look, one_file, both_files, last_files, earlier_looks}
+use Rattle.binlog_feed.specs.declared.fault.GoOnFault.TheVariants as going
 
 -- ---- the newest look
 

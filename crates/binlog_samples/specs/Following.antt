@@ -7,9 +7,8 @@ use Rattle.binlog_json.specs.declared.style.Style.{Style}
 use Rattle.binlog_feed.specs.Changes.{RowChange}
 use Rattle.binlog_feed.specs.ChangeMachine.{RemainingChanges}
 use Rattle.binlog_feed.specs.Feeds.{feed}
-use Rattle.binlog_feed.specs.Parsing.{LogFile}
-use Rattle.binlog_feed.specs.declared.fault.FeedFault.TheVariants as reading
-use Rattle.binlog_feed.specs.declared.fault.GoOnFault.TheVariants as going
+use Rattle.binlog_units.specs.Parsing.{LogFile}
+use Rattle.binlog_units.specs.declared.fault.FeedFault.TheVariants as reading
 use Rattle.binlog_feed.specs.declared.start.Start.TheVariants.{Beginning, After}
 use Rattle.binlogfeed.specs.Follow.{EachKeepsLast, FailsAs, ReadsLists, WroteEach, WritesText, looks_made, blank_text, follow_status_of, input_text, list_status_of, refusal_status_of, list_refusal_text}
 use Rattle.binlogfeed.specs.Lists.{BeginsWithList, HasNoList, list_text}
@@ -22,6 +21,7 @@ use Rattle.binlog_samples.specs.Changes.{brief, first_change}
 use Rattle.binlog_samples.specs.Statuses.{two_names, second_is_bad}
 use Rattle.binlog_samples.specs.Tokens.{first_name, second_name, third_name, token, first_file, second_file, third_file, second_change, third_change}
 use Rattle.binlog_profile.specs.declared.profile.Profile.TheVariants.{Strict}
+use Rattle.binlog_feed.specs.declared.fault.GoOnFault.TheVariants as going
 
 -- ---- lists
 

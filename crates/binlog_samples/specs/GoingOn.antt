@@ -5,19 +5,19 @@ use Rattle.binlog_frame.specs.Logs.{Contents}
 use Rattle.binlog_feed.specs.FeedView.{FeedView}
 use Rattle.binlog_feed.specs.Following.{IsOfReading, RefusesGoOn}
 use Rattle.binlog_feed.specs.Growing.{IsFaultOfGrown, IsShort, IsUnfound, StandsBehind}
-use Rattle.binlog_feed.specs.Parsing.{LogFile}
-use Rattle.binlog_feed.specs.Places.{begin_file}
-use Rattle.binlog_feed.specs.declared.fault.FeedFault.TheVariants as reading
+use Rattle.binlog_units.specs.Parsing.{LogFile}
+use Rattle.binlog_units.specs.Places.{begin_file}
+use Rattle.binlog_units.specs.declared.fault.FeedFault.TheVariants as reading
 use Rattle.binlog_feed.specs.declared.fault.GoOnFault.{GoOnFault}
-use Rattle.binlog_feed.specs.declared.fault.GoOnFault.TheVariants as going
-use Rattle.binlog_feed.specs.declared.fault.LogFault.{LogFault}
-use Rattle.binlog_feed.specs.declared.place.Place.{Place}
-use Rattle.binlog_feed.specs.declared.unit_state.UnitState.TheVariants.{Nothing}
-use Rattle.binlog_feed.specs.declared.what.What.TheVariants.{BadMagic, EventAfterEnd, NoFormat}
+use Rattle.binlog_units.specs.declared.fault.LogFault.{LogFault}
+use Rattle.binlog_units.specs.declared.place.Place.{Place}
+use Rattle.binlog_units.specs.declared.unit_state.UnitState.TheVariants.{Nothing}
+use Rattle.binlog_units.specs.declared.what.What.TheVariants.{BadMagic, EventAfterEnd, NoFormat}
 use Rattle.binlog_profile.specs.declared.profile.Profile.TheVariants.{Strict}
 use Rattle.binlog_samples.specs.Files.{alone, event_of, front}
 use Rattle.binlog_samples.specs.Changes.{one_row}
 use Rattle.binlog_samples.specs.Tokens.{first_name, second_name, third_name, first_file, second_file, third_file}
+use Rattle.binlog_feed.specs.declared.fault.GoOnFault.TheVariants as going
 
 abbrev pub names_in : List LogFile → List (List ℕ)
 names_in files = map LogFile.name files

@@ -4,10 +4,10 @@ use Rattle.binlog_frame.specs.Cutting.{magic}
 use Rattle.binlog_frame.specs.Splitting.{EndsInFront, TellsIfEvents}
 use Rattle.binlog_frame.specs.declared.fault.FrameFault.TheVariants as frame_faults
 use Rattle.binlog_feed.specs.Growing.{IsFaultInFront, IsLastByName, LacksGrown}
-use Rattle.binlog_feed.specs.declared.fault.FeedFault.TheVariants.{Log}
-use Rattle.binlog_feed.specs.declared.fault.LogFault.{LogFault}
-use Rattle.binlog_feed.specs.declared.what.What.{What}
-use Rattle.binlog_feed.specs.declared.what.What.TheVariants.{BadMagic, NoFormat, BadLength}
+use Rattle.binlog_units.specs.declared.fault.FeedFault.TheVariants.{Log}
+use Rattle.binlog_units.specs.declared.fault.LogFault.{LogFault}
+use Rattle.binlog_units.specs.declared.what.What.{What}
+use Rattle.binlog_units.specs.declared.what.What.TheVariants.{BadMagic, NoFormat, BadLength}
 use Rattle.binlog_samples.specs.Files.{first_log, xid_event}
 use Rattle.binlog_samples.specs.Hex.{hex}
 

@@ -3,7 +3,7 @@ use Rattle.std.specs.Prelude.{List, [], ◌∷◌, drop, None}
 use Rattle.binlog_feed.specs.Changes.{RowChange}
 use Rattle.binlog_feed.specs.ChangeMachine.{RemainingChanges}
 use Rattle.binlog_feed.specs.declared.start.Start.TheVariants.{Beginning, After}
-use Rattle.binlog_feed.specs.declared.what.What.TheVariants.{RotationMismatch}
+use Rattle.binlog_units.specs.declared.what.What.TheVariants.{RotationMismatch}
 use Rattle.binlogfeed.specs.Looks.{AreParts, BeginsFollowing}
 use Rattle.binlog_samples.specs.Files.{fault_at}
 use Rattle.binlog_samples.specs.Tokens.{first_name, second_name, token}

@@ -3,8 +3,8 @@
 use Rattle.std.specs.Prelude.{◌≡◌, ℕ, List, [], ◌∷◌, ◌++◌, Option, Some, None, Ok, Err, codes}
 use Rattle.binlog_feed.specs.Changes.{RowChange}
 use Rattle.binlog_feed.specs.Tokens.Judgement.{NoFile, Fits, NoChange, Faulty, NoTransaction}
-use Rattle.binlog_feed.specs.declared.fault.LogFault.{LogFault}
-use Rattle.binlog_feed.specs.declared.what.What.TheVariants.{BadRows}
+use Rattle.binlog_units.specs.declared.fault.LogFault.{LogFault}
+use Rattle.binlog_units.specs.declared.what.What.TheVariants.{BadRows}
 use Rattle.binlogfeed.specs.GoingOn.{CountsNew, GoesOnWith, IsNoRefusal}
 use Rattle.binlogfeed.specs.Runs.{Answers, AnswersAll, AnswersIfBegun, AnswersOutput, AnswersRefusal, Output, line_count, refusal_by}
 use Rattle.binlogfeed.specs.declared.fault.RunFault.TheVariants as run

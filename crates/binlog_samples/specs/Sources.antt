@@ -4,8 +4,8 @@ use Rattle.binlog_frame.specs.Files.{IsLastPart, RefusesPath, RefusesOne, length
 use Rattle.binlog_frame.specs.Logs.{Contents, HasRisen, KeepsSource}
 use Rattle.binlog_frame.specs.Transcript.{FileRead, is_true, are_true}
 use Rattle.binlog_frame.specs.declared.open_fault.OpenFault.TheVariants.{BadName, CannotOpen}
-use Rattle.binlog_feed.specs.Names.{IsDuplicate}
-use Rattle.binlog_feed.specs.declared.fault.OpenFeedFault.TheVariants.{DuplicateFile}
+use Rattle.binlog_units.specs.Names.{IsDuplicate}
+use Rattle.binlog_units.specs.declared.fault.OpenFeedFault.TheVariants.{DuplicateFile}
 use Rattle.binlog_profile.specs.declared.profile.Profile.TheVariants.{Strict}
 
 -- ---- reads

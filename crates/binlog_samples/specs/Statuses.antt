@@ -2,9 +2,9 @@
 use Rattle.std.specs.Prelude.{◌≡◌, ℕ, List, [], ◌∷◌, ◌++◌, None, Ok, Err, String, string_bytes, codes}
 use Rattle.std.specs.declared.alloc.Global.{Global}
 use Rattle.binlog_frame.specs.declared.open_fault.OpenFault.TheVariants as opening
-use Rattle.binlog_feed.specs.declared.fault.OpenFeedFault.TheVariants as open_feed
-use Rattle.binlog_feed.specs.declared.unit.UnitEnding.TheVariants.{Xid, Commit, Rollback, Statement}
-use Rattle.binlog_feed.specs.declared.what.What.TheVariants.{BadMagic, NoFormat, BadFormat, ChecksumUnknown, BadLength, EventAfterEnd, KindOutOfProfile, BadBody, Xa, RollbackTo, OutOfPlace, RotationMismatch, BadMap, TypeOutOfProfile, NoColumnNames, BadRows, UnmappedTable, SourceChanged}
+use Rattle.binlog_units.specs.declared.fault.OpenFeedFault.TheVariants as open_feed
+use Rattle.binlog_units.specs.declared.unit.UnitEnding.TheVariants.{Xid, Commit, Rollback, Statement}
+use Rattle.binlog_units.specs.declared.what.What.TheVariants.{BadMagic, NoFormat, BadFormat, ChecksumUnknown, BadLength, EventAfterEnd, KindOutOfProfile, BadBody, Xa, RollbackTo, OutOfPlace, RotationMismatch, BadMap, TypeOutOfProfile, NoColumnNames, BadRows, UnmappedTable, SourceChanged}
 use Rattle.binlogfeed.specs.Faults.{what_text, fault_text, fault_of_opening}
 use Rattle.binlogfeed.specs.Lines.{ending_text}
 use Rattle.binlogfeed.specs.Statuses.{run_status_of, open_status_of}

@@ -3,14 +3,14 @@ use Rattle.std.specs.Prelude.{◌≡◌, ℕ, List, [], ◌∷◌, ◌++◌, tak
 use Rattle.binlog_select.specs.declared.kind.ChangeKind.TheVariants.{Insert}
 use Rattle.binlog_select.specs.declared.token.Token.{Token}
 use Rattle.binlog_feed.specs.AtEnd.{judge_end, up_to_file}
-use Rattle.binlog_feed.specs.Parsing.{LogFile}
+use Rattle.binlog_units.specs.Parsing.{LogFile}
 use Rattle.binlog_feed.specs.Changes.{RowChange}
 use Rattle.binlog_feed.specs.FeedLaws.{changes_read_apart}
 use Rattle.binlog_feed.specs.Tokens.{Judgement, judge, rest, end_after}
 use Rattle.binlog_feed.specs.Tokens.Judgement.{NoFile, Fits, NoChange, Faulty, NoTransaction}
-use Rattle.binlog_feed.specs.declared.fault.LogFault.{LogFault}
-use Rattle.binlog_feed.specs.declared.what.What.{What}
-use Rattle.binlog_feed.specs.declared.what.What.TheVariants.{BadMagic, BadRows, RotationMismatch}
+use Rattle.binlog_units.specs.declared.fault.LogFault.{LogFault}
+use Rattle.binlog_units.specs.declared.what.What.{What}
+use Rattle.binlog_units.specs.declared.what.What.TheVariants.{BadMagic, BadRows, RotationMismatch}
 use Rattle.binlog_samples.specs.Hex.{hex}
 use Rattle.binlog_samples.specs.Files.{front, named, alone, rotate_event, xid_event, fault_at}
 use Rattle.binlog_samples.specs.Changes.{Brief, brief, Has, image, cells, one_row, one_more, change_at, first_change, two_updates, update_of, two_tables, of_table, rolled_back, bad_second}

@@ -1,6 +1,5 @@
 //! The definitions of files that go on, over small files.
-ghost use Rattle.binlog_samples.specs.Continuations.{FileGrows, FileWithoutUnits, FilesGoOn, FileIsKept, TwoAreGone, FaultIsMended, AllAtOnce, TwoAreKept};
-ghost use Rattle.binlog_samples.specs.Continuations.{ClosedBytes, LastIsClosed, KeptIsClosed, LastIsRotated, LastIsOpened, AnewAfterFirst};
+ghost use Rattle.binlog_samples.specs.Continuations.{FileGrows, FileWithoutUnits, FilesGoOn, FileIsKept, TwoAreGone, FaultIsMended, AllAtOnce, TwoAreKept, ClosedBytes, LastIsClosed, KeptIsClosed, LastIsRotated, LastIsOpened, AnewAfterFirst};
 
 /// Which files continue others, and what stands behind tokens when files have gone on.
 pub fn sample_continuations()

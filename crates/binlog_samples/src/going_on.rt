@@ -1,6 +1,5 @@
 //! The definitions of feeds that go on: the place that one finds in files that have grown, and why one doesn't go on.
-ghost use Rattle.binlog_samples.specs.GoingOn.{ShorterFiles, FilesNotShorter, FaultsOfGrown, OtherFaults, NoFaultsOfGrown, PlacesUnfound, PlacesFound};
-ghost use Rattle.binlog_samples.specs.GoingOn.{PlaceFound, OtherPlaces, RefusalsOfReading, RefusalsOfFiles, NotAtEnd, GoOnRefused};
+ghost use Rattle.binlog_samples.specs.GoingOn.{ShorterFiles, FilesNotShorter, FaultsOfGrown, OtherFaults, NoFaultsOfGrown, PlacesUnfound, PlacesFound, PlaceFound, OtherPlaces, RefusalsOfReading, RefusalsOfFiles, NotAtEnd, GoOnRefused};
 
 /// Why no place is found in files that have grown.
 pub fn sample_unfound_places()

@@ -1,6 +1,5 @@
 //! The definitions of the two profiles, over table maps and small files.
-ghost use Rattle.binlog_samples.specs.Profiles.{TwoUnnamed, StrictRefuses, ServerNames, ServerRefuses, ServerValues, ElevenUnnamed, Numbers, ByProfiles, NamedLater};
-ghost use Rattle.binlog_samples.specs.Profiles.{GovernsNamed, ReadsNamed, AgreesOnBoth};
+ghost use Rattle.binlog_samples.specs.Profiles.{TwoUnnamed, StrictRefuses, ServerNames, ServerRefuses, ServerValues, ElevenUnnamed, Numbers, ByProfiles, NamedLater, GovernsNamed, ReadsNamed, AgreesOnBoth};
 
 /// What bodies of table maps say by the server's profile, and what files give by both profiles.
 pub fn sample_profiles()

@@ -1,8 +1,7 @@
 //! The definitions of sources of files and their names.
 ghost use Rattle.std.specs.Prelude.{◌≡◌, IsTrue};
 ghost use Rattle.binlog_frame.specs.FileLogs.{is_honest};
-ghost use Rattle.binlog_samples.specs.Sources.{TrueReads, FalseReads, ManyReads, Lengths, Rises, Kept, NotKept};
-ghost use Rattle.binlog_samples.specs.Sources.{LastParts, NoLastParts, PathsRefused, PathsNotRefused, Duplicates};
+ghost use Rattle.binlog_samples.specs.Sources.{TrueReads, FalseReads, ManyReads, Lengths, Rises, Kept, NotKept, LastParts, NoLastParts, PathsRefused, PathsNotRefused, Duplicates};
 
 use binlog_frame::{FileLogs, Logs, MemoryLogs};
 use std::rt::Files;

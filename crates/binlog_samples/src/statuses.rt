@@ -1,6 +1,5 @@
 //! The definitions of the program's lines on standard error and of its statuses.
-ghost use Rattle.binlog_samples.specs.Statuses.{Whats, FurtherWhats, RunTexts, OpenFaults, WordsTexts, Endings};
-ghost use Rattle.binlog_samples.specs.Statuses.{RunStatuses, WordsStatuses, OpenStatuses};
+ghost use Rattle.binlog_samples.specs.Statuses.{Whats, FurtherWhats, RunTexts, OpenFaults, WordsTexts, Endings, RunStatuses, WordsStatuses, OpenStatuses};
 
 /// How faults are told, and with what status runs, words and openings end.
 pub fn sample_statuses()

@@ -1,6 +1,5 @@
 //! The definitions of values of columns, dates and times among them, and of packed numbers, over their bytes.
-ghost use Rattle.binlog_samples.specs.Values.{Integers, WideIntegers, Floats, BitFields, Enums, Sets, Texts, Blobs};
-ghost use Rattle.binlog_samples.specs.Values.{Decimals, DecimalGroups, DecimalGroupsBelowZero, WideDecimals, BadDecimals};
+ghost use Rattle.binlog_samples.specs.Values.{Integers, WideIntegers, Floats, BitFields, Enums, Sets, Texts, Blobs, Decimals, DecimalGroups, DecimalGroupsBelowZero, WideDecimals, BadDecimals};
 ghost use Rattle.binlog_samples.specs.Times.{Dates, DateTimes, Times, TimesBelowZero, Timestamps};
 ghost use Rattle.binlog_samples.specs.Packed.{PackedNumbers, LongNumbers, NoNumbers};
 

@@ -8,8 +8,8 @@ use Rattle.std.specs.Io.BufRead.{take_through, drop_through, DropsThrough}
 use Rattle.std.proofs.lemmas.Bool.{eqb-true, eqb-false}
 use Rattle.std.proofs.lemmas.List.Concat.{flat_map-append}
 use Rattle.clap.specs.Words.{Text}
-use Rattle.binlog_feed.specs.Units.{Each}
-use Rattle.binlog_feed.proofs.Lists.{each_append}
+use Rattle.binlog_units.specs.Units.{Each}
+use Rattle.binlog_units.proofs.Lists.{each_append}
 use Rattle.binlogfeed.specs.Lists.{HasNoLineFeed, IsPath, ReadsLine, ReadsList, line_text}
 
 -- ---- a line of bytes

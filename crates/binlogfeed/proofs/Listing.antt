@@ -1,8 +1,7 @@
 -- The words of a list, and the kinds that they name.
-use Rattle.std.proofs.Common.{◌≡◌, ◌≢◌, ℕ, suc, ◌+◌, ◌<◌, ◌==◌, true, false, refl, List, [], ◌∷◌, ◌++◌, None, map, take, drop, length, get_or, sym, ap, ap₂, ◌∙◌, take-append-drop, drop-cons}
+use Rattle.std.proofs.Common.{◌≡◌, ◌≢◌, ℕ, suc, ◌+◌, ◌<◌, ◌==◌, true, false, refl, List, [], ◌∷◌, ◌++◌, None, map, take, drop, length, get_or, sym, ap, ap₂, ◌∙◌, take-append-drop, drop-cons, String, Global}
 use Rattle.std.proofs.lemmas.Bool.{eqb-true, eqb-false}
 use Rattle.std.proofs.lemmas.List.{map-append, nil_from_length, take_more}
-use Rattle.std.proofs.Common.{String, Global}
 use Rattle.std.specs.Prelude.{string_bytes}
 use Rattle.std.specs.Borrow.{Bor}
 use Rattle.clap.specs.Words.{Text}

@@ -3,7 +3,6 @@ use Rattle.std.proofs.Common.{◌≡◌, ℕ, List, Bool, Option, Result, Ok, Er
 use Rattle.binlog_frame.specs.declared.open_fault.OpenFault.{OpenFault}
 use Rattle.binlog_frame.specs.declared.open_fault.OpenFault.TheVariants as open_faults
 use Rattle.binlog_feed.specs.declared.fault.GoOnFault.{GoOnFault}
-use Rattle.binlog_feed.specs.declared.fault.GoOnFault.TheVariants as going
 use Rattle.clap.specs.Words.{Text}
 use Rattle.binlogfeed.specs.Coming.{fault_of_reading}
 use Rattle.binlogfeed.specs.Endings.{EndsAnswer, EndsFollowing, EndsOrder, EndsTask}
@@ -25,6 +24,7 @@ use Rattle.binlogfeed.specs.declared.fault.RunFault.{RunFault}
 use Rattle.binlogfeed.specs.declared.fault.RunFault.TheVariants.{DuplicateFile, Token, Log, OutOfMemory}
 use Rattle.binlogfeed.specs.declared.words.Task.{Task}
 use Rattle.binlog_frame.specs.Logs.{Contents}
+use Rattle.binlog_feed.specs.declared.fault.GoOnFault.TheVariants as going
 
 -- the files kept their names, hold what they are supposed to, and had no failure before
 pub ends_over : (task : Task) (old_names names : List (List ℕ)) (old_contents contents : Contents) (old_failures failures : ℕ) (honest : Bool)

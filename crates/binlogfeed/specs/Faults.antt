@@ -1,9 +1,9 @@
 -- The lines and the statuses of runs that ended early.
 use Rattle.std.specs.Prelude.{ℕ, ◌<◌, List, [], ◌∷◌, ◌++◌, length, slice_get, unwrap_or, codes, decimal}
-use Rattle.binlog_feed.specs.declared.what.What.{What}
-use Rattle.binlog_feed.specs.declared.what.What.TheVariants.{BadMagic, NoFormat, BadFormat, ChecksumUnknown, BadLength, EventAfterEnd, KindOutOfProfile, BadBody, Xa, RollbackTo, OutOfPlace, RotationMismatch, BadMap, TypeOutOfProfile, NoColumnNames, BadRows, UnmappedTable, SourceChanged}
-use Rattle.binlog_feed.specs.declared.fault.OpenFeedFault.{OpenFeedFault}
-use Rattle.binlog_feed.specs.declared.fault.OpenFeedFault.TheVariants as open_faults
+use Rattle.binlog_units.specs.declared.what.What.{What}
+use Rattle.binlog_units.specs.declared.what.What.TheVariants.{BadMagic, NoFormat, BadFormat, ChecksumUnknown, BadLength, EventAfterEnd, KindOutOfProfile, BadBody, Xa, RollbackTo, OutOfPlace, RotationMismatch, BadMap, TypeOutOfProfile, NoColumnNames, BadRows, UnmappedTable, SourceChanged}
+use Rattle.binlog_units.specs.declared.fault.OpenFeedFault.{OpenFeedFault}
+use Rattle.binlog_units.specs.declared.fault.OpenFeedFault.TheVariants as open_faults
 use Rattle.line_output.specs.declared.fault.AddFault.{AddFault}
 use Rattle.line_output.specs.declared.fault.AddFault.TheVariants as add_faults
 use Rattle.binlogfeed.specs.declared.fault.RunFault.{RunFault}

@@ -2,7 +2,7 @@
 use Rattle.std.specs.Prelude.{◌≡◌, ◌≢◌, ℕ, List, [], ◌∷◌, ◌++◌, Option, Some, None}
 use Rattle.std.specs.List.{flat_map}
 use Rattle.clap.specs.Words.{Text}
-use Rattle.binlog_feed.specs.Units.{Each}
+use Rattle.binlog_units.specs.Units.{Each}
 
 -- a line with its line feed
 abbrev pub line_text : Text → List ℕ

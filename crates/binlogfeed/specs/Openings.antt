@@ -3,11 +3,11 @@ use Rattle.std.specs.Prelude.{◌≡◌, ◌⊎◌, ℕ, length, IsTrue, Vec}
 use Rattle.binlog_frame.specs.declared.logs.Logs.{Ghosts}
 use Rattle.binlog_select.specs.declared.filter.Filter.{Filter}
 use Rattle.binlog_select.specs.declared.token.Token.{Token}
-use Rattle.binlog_feed.specs.FeedSources.{files_in}
+use Rattle.binlog_units.specs.FeedSources.{files_in}
 use Rattle.binlog_feed.specs.FeedView.{FeedView, passes_by, remaining_changes}
 use Rattle.binlog_feed.specs.Starts.{RefusesOpening}
-use Rattle.binlog_feed.specs.declared.fault.OpenFeedFault.{OpenFeedFault}
-use Rattle.binlog_feed.specs.declared.fault.OpenFeedFault.TheVariants.{OutOfMemory, WindowTooSmall}
+use Rattle.binlog_units.specs.declared.fault.OpenFeedFault.{OpenFeedFault}
+use Rattle.binlog_units.specs.declared.fault.OpenFeedFault.TheVariants.{OutOfMemory, WindowTooSmall}
 use Rattle.binlog_feed.specs.declared.start.Start.{Start}
 use Rattle.binlogfeed.specs.Faults.{IsNamed, fault_of_opening}
 use Rattle.binlogfeed.specs.Looks.{BeginsFollowing, RefusesAtEndOf, RefusesFollowing}

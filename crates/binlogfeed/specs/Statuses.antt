@@ -4,7 +4,7 @@ use Rattle.binlog_frame.specs.declared.open_fault.OpenFault.{OpenFault}
 use Rattle.binlog_frame.specs.declared.open_fault.OpenFault.TheVariants as open_faults
 use Rattle.binlog_frame.specs.Files.{RefusesOne}
 use Rattle.binlog_feed.specs.Starts.{judge_start}
-use Rattle.binlog_feed.specs.Parsing.{files_of}
+use Rattle.binlog_units.specs.Parsing.{files_of}
 use Rattle.binlog_feed.specs.Tokens.{Judgement}
 use Rattle.binlog_feed.specs.Tokens.Judgement.{Fits}
 use Rattle.binlogfeed.specs.Faults.{status_of, IsNamed}

@@ -2,7 +2,7 @@
 use Prim.Native.String.{String}
 use Rattle.std.specs.Prelude.{◌≡◌, ℕ, ◌+◌, ◌/◌, ◌%◌, List, [], ◌∷◌, ◌++◌, length, map, replicate, codes}
 use Rattle.binlog_frame.specs.Cutting.{magic}
-use Rattle.binlog_feed.specs.Parsing.{LogFile}
+use Rattle.binlog_units.specs.Parsing.{LogFile}
 use Rattle.binlog_feed.specs.Changes.{RowChange}
 use Rattle.binlog_json.specs.declared.style.Style.{Style}
 use Rattle.binlog_json.specs.declared.style.Style.TheVariants.{Plain, Full}

@@ -5,7 +5,7 @@ use Rattle.binlog_select.specs.declared.token.Token.{Token}
 use Rattle.binlog_feed.specs.Changes.{RowChange}
 use Rattle.binlog_feed.specs.Continues.{has_file, in_files}
 use Rattle.binlog_feed.specs.Feeds.{feed}
-use Rattle.binlog_feed.specs.Parsing.{LogFile}
+use Rattle.binlog_units.specs.Parsing.{LogFile}
 use Rattle.binlog_feed.specs.Tokens.{token_of, rest, change_at, judge_change}
 use Rattle.binlog_feed.specs.Tokens.Judgement.{Fits}
 use Rattle.binlog_json.specs.Index.{Places, no_places, filled, PassesAll, HoldsHistories, HistoriesAreHeld, LendChanges, PlacesLendTheirChanges, KeptIndexesGoOn, IndexesGoOn}

@@ -1,8 +1,7 @@
 -- Texts by the character sets of their columns.
 use Prim.Native.String.{String}
 use Rattle.std.specs.Prelude.{◌≡◌, ℕ, false, Option, Some, None}
-use Rattle.binlog_json.specs.Json.{string}
-use Rattle.binlog_json.specs.Json.{compact_text}
+use Rattle.binlog_json.specs.Json.{string, compact_text}
 use Rattle.binlog_table.specs.Value as cell
 use Rattle.binlog_types.specs.declared.charsets.Charset.{Charset}
 use Rattle.binlog_types.specs.declared.charsets.Charset.TheVariants.{Ascii, Binary, Cp1250, Cp1251, Cp850, Gbk, Greek, Hebrew, Koi8r, Latin1, Latin2, Macroman, Swe7, Tis620, Ucs2, Utf16, Utf16le, Utf32, Utf8mb3, Utf8mb4}

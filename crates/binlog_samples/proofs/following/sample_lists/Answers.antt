@@ -1,7 +1,7 @@
 use Rattle.std.proofs.Common.{rules, ℕ, List, [], ◌∷◌, ◌≡◌, ◌<◌, zero, suc, length, refl, arith, inl, inr, subst}
 use Rattle.std.specs.Prelude.{codes, ◌≢◌}
 use Rattle.binlog_frame.specs.Files.{AreLastParts, IsLastPart}
-use Rattle.binlog_feed.specs.Units.{Each}
+use Rattle.binlog_units.specs.Units.{Each}
 use Rattle.binlogfeed.specs.Lists.{IsPath}
 use Rattle.binlogfeed.specs.Turns.{Turns}
 use Rattle.binlogfeed.specs.Turns.Turns.{Waiting, Given, Blank, Again, Other}

@@ -3,8 +3,8 @@ use Rattle.std.proofs.lemmas.Option.{same_Some}
 use Rattle.binlog_frame.specs.Logs.{HasRisen}
 use Rattle.binlog_feed.specs.Tokens.{judge}
 use Rattle.binlog_feed.specs.Tokens.Judgement.{NoTransaction as no_transaction}
-use Rattle.binlog_feed.specs.declared.fault.OpenFeedFault.{OpenFeedFault}
-use Rattle.binlog_feed.specs.declared.fault.OpenFeedFault.TheVariants as opening
+use Rattle.binlog_units.specs.declared.fault.OpenFeedFault.{OpenFeedFault}
+use Rattle.binlog_units.specs.declared.fault.OpenFeedFault.TheVariants as opening
 use Rattle.binlog_feed.specs.declared.start.Start.TheVariants.{After}
 use Rattle.binlog_select.specs.declared.token.Token.{Token}
 use Rattle.binlogfeed.specs.Faults.{fault_of_opening}

@@ -9,12 +9,11 @@ use Rattle.binlog_feed.specs.ChangeMachine.{RemainingChanges, feed_files, nothin
 use Rattle.binlog_feed.specs.Contents.{content_fault}
 use Rattle.binlog_feed.specs.FeedView.{filtered, passes_by}
 use Rattle.binlog_feed.specs.Growing.{IsBehindAt, last_file}
-use Rattle.binlog_feed.specs.Parsing.{terms_of}
-use Rattle.binlog_feed.specs.Places.{begin_file}
-use Rattle.binlog_feed.specs.UnitMachine.{take_kind, text_kind}
-use Rattle.binlog_feed.specs.declared.place.Place.{Place}
-use Rattle.binlog_feed.specs.declared.unit_state.UnitState.TheVariants.{Nothing}
-use Rattle.binlogfeed.specs.Looks.{HasLast}
+use Rattle.binlog_units.specs.Parsing.{terms_of}
+use Rattle.binlog_units.specs.Places.{begin_file}
+use Rattle.binlog_units.specs.declared.place.Place.{Place}
+use Rattle.binlog_units.specs.declared.unit_state.UnitState.TheVariants.{Nothing}
+use Rattle.binlogfeed.specs.Looks.{ComesBehindLast, HasLast}
 use Rattle.binlogfeed.specs.Lines.{change_lines}
 use Rattle.binlog_samples.specs.Changes.{brief}
 use Rattle.binlog_samples.specs.Statuses.{two_names}
@@ -73,8 +72,18 @@ returns-clause-last_files_stay c = (
   λ style chosen kept. none_has (first_name ∷ []) (third_name ∷ []) third_name first_name refl refl (λ e. search rules) (kept.0.there (search rules)),
 )
 
+-- the first file is cut before the end of its transaction
+cut_short : (passes : RowChange → Bool) (coming : RemainingChanges) → ComesBehindLast passes (look_at one_file) (cut_look 370) coming → ⊥
+unfolding on_bytes
+cut_short passes coming h =
+    let there : h.place.file < 1 = h.behind.found.0 in
+    let first : h.place.file ≡ 0 = omega (arith, there) in
+    let reaches : 371 ≤ length (content (cut_look 370).contents 0) = subst (λ (n : ℕ). 371 ≤ length (content (cut_look 370).contents n)) first h.behind.reaches in
+    let bytes : length (content (cut_look 370).contents 0) ≡ 370 = refl in
+    omega (arith, reaches, bytes)
+
 pub returns-clause-last_files_reach : goal.returns-clause-last_files_reach
-unfolding on_bytes take_kind text_kind content_fault
+unfolding on_bytes content_fault
 returns-clause-last_files_reach c = (
   record {
     place = begin_file 0;
@@ -104,7 +113,7 @@ behind_all (event ∷ events) one other e =
 comes_behind : (coming : RemainingChanges) (place : Place) → place ≡ record { file = 1; frames = place.frames; state = Nothing } → place_of place.frames ≡ 371 → SplitsFile first_file.bytes place.frames
     → coming ≡ filtered all (remaining_changes_at (look_at (third_file ∷ both_files)).names (look_at (third_file ∷ both_files)).contents place nothing_so_far)
     → (map brief coming.changes ≡ second_change ∷ []) × (coming.end ≡ None)
-unfolding on_bytes take_kind text_kind content_fault
+unfolding on_bytes content_fault
 comes_behind coming place is at splits comes =
     let reading = reading_of first_file.bytes in
     let seventh = unwrap_or (slice_get reading.events 6) (event_at 0 0 []) in
@@ -115,7 +124,7 @@ comes_behind coming place is at splits comes =
     (ap (λ (r : RemainingChanges). map brief r.changes) all_come, ap (λ (r : RemainingChanges). r.end) all_come)
 
 pub returns-clause-comes_once : goal.returns-clause-comes_once
-unfolding on_bytes take_kind text_kind
+unfolding on_bytes
 returns-clause-comes_once c coming h =
     let next = look_at (third_file ∷ both_files) in
     let named : Some first_name ≡ Some h.behind.name = h.behind.named in

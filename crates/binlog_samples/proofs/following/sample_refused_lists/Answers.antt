@@ -5,9 +5,8 @@ use Rattle.binlog_frame.specs.Logs.{Contents, content}
 use Rattle.binlog_frame.specs.Splitting.{EndsInFront}
 use Rattle.binlog_feed.specs.Continues.{Continues}
 use Rattle.binlog_feed.specs.Growing.{IsShort}
-use Rattle.binlog_feed.specs.Parsing.{LogFile}
-use Rattle.binlog_feed.specs.Places.{begin_file}
-use Rattle.binlog_feed.specs.UnitMachine.{take_kind, text_kind}
+use Rattle.binlog_units.specs.Parsing.{LogFile}
+use Rattle.binlog_units.specs.Places.{begin_file}
 use Rattle.binlogfeed.specs.Looks.{files_at}
 use Rattle.binlog_samples.specs.Statuses.{two_names}
 use Rattle.binlog_samples.specs.Tokens.{first_name, second_name, first_file, second_file, third_file}
@@ -122,7 +121,7 @@ is_zero (suc n) none = absurd (none (omega arith))
 -- a list whose first file has the name, as many bytes, and something in place of its first event
 not_short : (names : List (List ℕ)) (contents : Contents) → slice_get names 0 ≡ Some first_name → 371 ≤ length (content contents 0) → (EndsInFront (content contents 0) → ⊥)
     → IsShort (look_at one_file).names (look_at one_file).contents names contents (begin_file 0) → ⊥
-unfolding on_bytes take_kind text_kind
+unfolding on_bytes
 not_short names contents first long some short =
     let there : short.file ≡ 0 = is_zero short.file (λ (lt : 0 < short.file). short.found.2 0 lt (first ∙ short.named)) in
     elim short.lacks [
@@ -133,7 +132,7 @@ not_short names contents first long some short =
     ]
 
 pub returns-clause-refused_as_shorter : goal.returns-clause-refused_as_shorter
-unfolding on_bytes take_kind text_kind
+unfolding on_bytes
 returns-clause-refused_as_shorter c chosen = (
   (λ honest continues behind some. record { name = first_name; file = 0; named = refl; found = search rules; lacks = inl (omega arith) }),
   (λ refuses. not_short (cut_look 371).names (cut_look 371).contents refl (omega arith) (λ ends. let none = ends.0 in cc) (refuses (refl, (refl, tt)) tt tt (omega arith))),

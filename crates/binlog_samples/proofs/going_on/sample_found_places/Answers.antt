@@ -8,10 +8,9 @@ use Rattle.binlog_frame.specs.Reading.{event_at, reading_from, reading_of, then_
 use Rattle.binlog_frame.specs.Splitting.{SplitsFile, then_all}
 use Rattle.binlog_frame.proofs.Splitting.{splits_rest}
 use Rattle.binlog_feed.specs.Growing.{HasEventBefore, IsBehindAt, end_from_mark}
-use Rattle.binlog_feed.specs.Parsing.{LogFile}
-use Rattle.binlog_feed.specs.Places.{begin_file}
-use Rattle.binlog_feed.specs.UnitMachine.{take_kind, text_kind}
-use Rattle.binlog_feed.specs.declared.place.Place.{Place}
+use Rattle.binlog_units.specs.Parsing.{LogFile}
+use Rattle.binlog_units.specs.Places.{begin_file}
+use Rattle.binlog_units.specs.declared.place.Place.{Place}
 use Rattle.binlog_samples.specs.Files.{alone, front}
 use Rattle.binlog_samples.specs.Tokens.{first_name, second_name, third_name, first_file}
 use Rattle.binlog_samples.specs.GoingOn.{Found, behind, cut_to, held_by, names_in, one_followed, two_followed, with_other_byte}
@@ -52,7 +51,7 @@ never_before : (bytes : List ℕ) → 0 < 0 → (reading_of bytes).events ≢ []
 never_before bytes some none = omega (arith, some)
 
 pub returns-clause-place_found : goal.returns-clause-place_found
-unfolding on_bytes take_kind text_kind
+unfolding on_bytes
 returns-clause-place_found c = (
   record {
     name = first_name;
@@ -77,7 +76,7 @@ found_at files later place found =
     stands_at (content (held_by later) place.file) place.file (end_from_mark (names_in files) (held_by files) (begin_file 0)) place found.behind
 
 pub returns-clause-other_places : goal.returns-clause-other_places
-unfolding on_bytes take_kind text_kind
+unfolding on_bytes
 returns-clause-other_places c = (
   (λ found. let at : 0 ≡ 371 = found_at one_followed two_followed (begin_file 0) found in omega (arith, at)),
   (λ found. let at : 370 ≡ 371 = found_at one_followed two_followed (behind 370) found in omega (arith, at)),

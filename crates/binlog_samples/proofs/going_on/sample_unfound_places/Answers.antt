@@ -1,12 +1,11 @@
 use Rattle.std.proofs.Common.{◌≡◌, ◌≤◌, ◌<◌, ◌∙◌, ℕ, [], ◌∷◌, Option, Some, None, refl, sym, ap, inl, arith}
 use Rattle.std.specs.Prelude.{◌≢◌}
 use Rattle.std.proofs.lemmas.Option.{same_Some}
-use Rattle.binlog_feed.specs.Parsing.{FileFault}
-use Rattle.binlog_feed.specs.Places.{begin_file}
-use Rattle.binlog_feed.specs.UnitMachine.{take_kind, text_kind}
-use Rattle.binlog_feed.specs.declared.fault.LogFault.{LogFault}
-use Rattle.binlog_feed.specs.declared.what.What.{What}
-use Rattle.binlog_feed.specs.declared.what.What.TheVariants.{BadMagic, NoFormat}
+use Rattle.binlog_units.specs.Machine.{FileFault}
+use Rattle.binlog_units.specs.Places.{begin_file}
+use Rattle.binlog_units.specs.declared.fault.LogFault.{LogFault}
+use Rattle.binlog_units.specs.declared.what.What.{What}
+use Rattle.binlog_units.specs.declared.what.What.TheVariants.{BadMagic, NoFormat}
 use Rattle.binlog_samples.specs.Tokens.{first_name, second_name, third_name, first_file, second_file}
 use Rattle.binlog_samples.specs.GoingOn.{behind, cut_to, held_by, magic_of, names_in, one_followed, two_followed, second_end}
 use Rattle.binlog_samples.proofs.GrownFiles.{first_named, second_named, not_alone, not_short, numbers_differ}
@@ -22,7 +21,7 @@ third_is_not_first = numbers_differ third_name first_name (λ e. omega (arith, e
 -- ---- shorter files
 
 pub returns-clause-shorter_files : goal.returns-clause-shorter_files
-unfolding on_bytes take_kind text_kind
+unfolding on_bytes
 returns-clause-shorter_files c = (
   record { name = first_name; file = 0; named = refl; found = first_named first_name []; lacks = inl (omega arith) },
   record { name = first_name; file = 0; named = refl; found = first_named first_name []; lacks = inl (omega arith) },
@@ -32,7 +31,7 @@ returns-clause-shorter_files c = (
 )
 
 pub returns-clause-files_not_shorter : goal.returns-clause-files_not_shorter
-unfolding on_bytes take_kind text_kind
+unfolding on_bytes
 returns-clause-files_not_shorter c = (
   not_short (names_in one_followed) (held_by one_followed) (first_name ∷ []) (held_by (cut_to 371 first_file ∷ [])) (begin_file 0) first_name 0 refl (first_named first_name []) (omega arith) (λ ends. let none = ends.0 in cc),
   not_short (names_in one_followed) (held_by one_followed) (first_name ∷ []) (held_by (cut_to 371 first_file ∷ [])) (behind 371) first_name 0 refl (first_named first_name []) (omega arith) (λ ends. let none = ends.0 in cc),
@@ -46,7 +45,7 @@ returns-clause-files_not_shorter c = (
 -- ---- faults in place of the first event
 
 pub returns-clause-faults_of_grown : goal.returns-clause-faults_of_grown
-unfolding on_bytes take_kind text_kind
+unfolding on_bytes
 returns-clause-faults_of_grown c = (
   record { last = record { name = first_name; named = refl; found = first_named first_name [] }; some = omega arith; long = omega arith; in_front = (refl, refl) },
   record { last = record { name = first_name; named = refl; found = second_named third_name first_name [] third_is_not_first }; some = omega arith; long = omega arith; in_front = (refl, refl) },
@@ -71,7 +70,7 @@ returns-clause-other_faults c = (
 )
 
 pub returns-clause-no_faults_of_grown : goal.returns-clause-no_faults_of_grown
-unfolding on_bytes take_kind text_kind
+unfolding on_bytes
 returns-clause-no_faults_of_grown c = (
   (λ faulty. let long : 371 ≤ 370 = faulty.long in omega (arith, long)),
   (λ faulty. let none = faulty.in_front.0 in cc),
@@ -81,7 +80,7 @@ returns-clause-no_faults_of_grown c = (
 -- ---- why no place is found
 
 pub returns-clause-places_unfound : goal.returns-clause-places_unfound
-unfolding on_bytes take_kind text_kind
+unfolding on_bytes
 returns-clause-places_unfound c = (
   record { name = first_name; file = 0; named = refl; found = first_named first_name []; lacks = inl (omega arith) },
   record { last = record { name = first_name; named = refl; found = first_named first_name [] }; some = omega arith; long = omega arith; in_front = (refl, refl) },
@@ -94,7 +93,7 @@ position_in None = 0
 position_in (Some fault) = fault.position
 
 pub returns-clause-places_found : goal.returns-clause-places_found
-unfolding on_bytes take_kind text_kind
+unfolding on_bytes
 returns-clause-places_found c = (
   not_short (names_in one_followed) (held_by one_followed) (first_name ∷ []) (held_by (cut_to 371 first_file ∷ [])) (begin_file 0) first_name 0 refl (first_named first_name []) (omega arith) (λ ends. let none = ends.0 in cc),
   (λ faulty. let place : 0 ≡ 4 = ap place_in faulty.in_front.1 in omega (arith, place)),

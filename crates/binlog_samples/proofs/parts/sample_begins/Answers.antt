@@ -4,11 +4,11 @@ use Rattle.binlog_feed.specs.AtEnd.{judge_end}
 use Rattle.binlog_feed.specs.Changes.{RowChange}
 use Rattle.binlog_feed.specs.ChangeMachine.{RemainingChanges}
 use Rattle.binlog_feed.specs.Feeds.{end_of_changes, feed}
-use Rattle.binlog_feed.specs.Parsing.{LogFile}
+use Rattle.binlog_units.specs.Parsing.{LogFile}
 use Rattle.binlog_feed.specs.Tokens.{judge}
 use Rattle.binlog_feed.specs.Tokens.Judgement.{NoFile, Fits, NoChange, NoTransaction}
 use Rattle.binlog_feed.specs.declared.start.Start.TheVariants.{Beginning, After}
-use Rattle.binlog_feed.specs.declared.what.What.TheVariants.{RotationMismatch}
+use Rattle.binlog_units.specs.declared.what.What.TheVariants.{RotationMismatch}
 use Rattle.binlogfeed.specs.Looks.{BeginsFollowing}
 use Rattle.binlog_samples.specs.Files.{fault_at}
 use Rattle.binlog_samples.specs.Tokens.{first_name, second_name, token}

@@ -3,7 +3,7 @@ use Rattle.binlog_feed.specs.Changes.{RowChange}
 use Rattle.binlog_feed.specs.ChangeMachine.{RemainingChanges}
 use Rattle.binlog_feed.specs.Continues.{in_files}
 use Rattle.binlog_feed.specs.Feeds.{feed}
-use Rattle.binlog_feed.specs.Parsing.{LogFile}
+use Rattle.binlog_units.specs.Parsing.{LogFile}
 use Rattle.binlog_feed.specs.declared.start.Start.{Start}
 use Rattle.binlog_feed.specs.declared.start.Start.TheVariants.{Beginning}
 use Rattle.binlogfeed.specs.Looks.{AreParts, BeginsFollowing, Look, files_at}

@@ -3,7 +3,7 @@ use Rattle.std.specs.Prelude.{◌≢◌, codes, slice_index}
 use Rattle.std.specs.List.{flat_map}
 use Rattle.clap.specs.Words.{Text}
 use Rattle.binlog_frame.specs.Files.{AreLastParts}
-use Rattle.binlog_feed.specs.Units.{Each}
+use Rattle.binlog_units.specs.Units.{Each}
 use Rattle.binlogfeed.specs.Lists.{HasNoLineFeed, IsPath, line_text}
 use Rattle.binlogfeed.specs.Turns.{Turns}
 use Rattle.binlogfeed.specs.Turns.Turns.{Waiting, Given, Blank, Again, Other}

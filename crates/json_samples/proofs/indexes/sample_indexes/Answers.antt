@@ -4,7 +4,7 @@ use Rattle.binlog_frame.specs.Closing.{closed}
 use Rattle.binlog_feed.specs.Changes.{RowChange}
 use Rattle.binlog_feed.specs.Continues.{last_units}
 use Rattle.binlog_feed.specs.Feeds.{feed}
-use Rattle.binlog_feed.specs.Laws.{last_end}
+use Rattle.binlog_units.specs.Laws.{last_end}
 use Rattle.binlog_json.specs.Index.{no_places, filled, LendChanges}
 use Rattle.json_samples.specs.Histories.{front, files}
 use Rattle.json_samples.specs.Indexes.{every, transaction, grown, two_files, place, under, first_key, second_key}

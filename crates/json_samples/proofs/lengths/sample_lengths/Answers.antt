@@ -1,5 +1,5 @@
 use Rattle.std.proofs.Common.{◌≡◌, ℕ, zero, suc, List, [], ◌∷◌, replicate, true, Bool, cond, ap, refl}
-use Rattle.std.specs.Prelude.{Option, Some, option_map}
+use Rattle.std.specs.Prelude.{Option, Some, option_map, codes, None}
 use Rattle.std.specs.Str.{IsUtf8, is_utf8}
 use Rattle.std.proofs.lemmas.Str.{IsUtf8-nil, IsUtf8-append, IsUtf8-from_is_utf8, is_utf8-from_IsUtf8}
 use Rattle.binlog_json.specs.Json.{string}
@@ -8,7 +8,6 @@ use Rattle.binlog_types.specs.declared.charsets.Encoding.TheVariants.{ByTable}
 use Rattle.binlog_json.specs.Encodings.{decoded}
 use Rattle.binlog_json.specs.FullValues.{text_or_bytes}
 use Rattle.binlog_json.specs.Values.{encoded_data}
-use Rattle.std.specs.Prelude.{codes, None}
 use Rattle.json_samples.specs.Lengths.{letters}
 use Rattle.json_samples.proofs.OnTypes.{on_types}
 use Rattle.json_samples.proofs.OnValues.{on_values}
