@@ -5,8 +5,7 @@ use Rattle.std.proofs.lemmas.Option.{same_Some}
 use Rattle.binlog_frame.specs.Logs.{content}
 use Rattle.binlog_feed.specs.Changes.{RowChange}
 use Rattle.binlog_feed.specs.ChangeMachine.{RemainingChanges}
-use Rattle.binlog_feed.specs.Names.{AllDiffer}
-use Rattle.binlog_feed.specs.UnitMachine.{take_kind, text_kind}
+use Rattle.binlog_units.specs.Names.{AllDiffer}
 use Rattle.binlogfeed.specs.Looks.{ComesBehindLast}
 use Rattle.binlog_samples.specs.Following.{cut_look, look_at, one_file}
 use Rattle.binlog_samples.specs.Tokens.{first_name, second_name, third_name}
@@ -39,7 +38,7 @@ two_texts front text part next lines is also =
 
 -- the first file is cut before the end of its transaction
 pub cut_short : (passes : RowChange → Bool) (coming : RemainingChanges) → ComesBehindLast passes (look_at one_file) (cut_look 370) coming → ⊥
-unfolding on_bytes take_kind text_kind
+unfolding on_bytes
 cut_short passes coming h =
     let there : h.place.file < 1 = h.behind.found.0 in
     let first : h.place.file ≡ 0 = omega (arith, there) in

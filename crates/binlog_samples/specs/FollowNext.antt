@@ -4,7 +4,7 @@ use Rattle.binlog_select.specs.declared.filter.Filter.{Filter}
 use Rattle.binlog_json.specs.declared.style.Style.{Style}
 use Rattle.binlog_feed.specs.Feeds.{feed}
 use Rattle.binlog_feed.specs.FeedView.{passes_by}
-use Rattle.binlog_feed.specs.Parsing.{LogFile}
+use Rattle.binlog_units.specs.Parsing.{LogFile}
 use Rattle.binlog_feed.specs.declared.start.Start.TheVariants.{Beginning}
 use Rattle.binlogfeed.specs.Follow.{Ending, TextGoesOn, WritesNext}
 use Rattle.binlogfeed.specs.Looks.{EachDiffers, look_text}

@@ -8,8 +8,8 @@ use Rattle.binlog_json.specs.declared.style.Style.{Style}
 use Rattle.binlog_feed.specs.Changes.{RowChange}
 use Rattle.binlog_feed.specs.FeedView.{FeedView}
 use Rattle.binlog_feed.specs.Growing.{NamesLast}
-use Rattle.binlog_feed.specs.Places.{begin_file}
-use Rattle.binlog_feed.specs.declared.fault.FeedFault.TheVariants as reading
+use Rattle.binlog_units.specs.Places.{begin_file}
+use Rattle.binlog_units.specs.declared.fault.FeedFault.TheVariants as reading
 use Rattle.binlog_feed.specs.declared.fault.GoOnFault.TheVariants as going
 use Rattle.binlog_profile.specs.declared.profile.Profile.TheVariants.{Strict}
 use Rattle.binlogfeed.specs.Coming.{IsReadIn, StandsUpTo}

@@ -1,7 +1,10 @@
 //! The definitions of runs that follow: lists of files, looks at them, and how such a run ends.
 ghost use Rattle.binlog_samples.specs.Following.{ListTexts, ListsBegin, NoLists, CutLists, TurnsOfLists, TurnsOfFiles, TwoListsAreNotOne, PartsOfLooks, BeginsAtEnd, GoneFiles, JoinedParts, EmptyLooks, LastFilesStay, LooksAreHonest, LooksAreWritten, MadeLooks, TextsOfRefusals, StatusesOfRefusals, StatusesOfEnds, TextsOfEnds, FailuresOfEnds};
 ghost use Rattle.binlog_samples.specs.LastFiles.{ComesOnce, LastFilesReach};
-ghost use Rattle.binlog_samples.specs.FollowEnds.{EndsWithoutFault, EndsWithFault, EndsByDevice, FaultsAtStarts, FilesNamed, FailuresOfEither, FailuresOfRefusals, FailuresOfBeginnings, LooksNotBegun, FirstRefused, BlanksWritten, ListsRefused, LooksContinue, RefusedAsShorter, RefusedForReading, NextIsRefused, LookedAtIsNotRefused, AllListsLookedAt, ListLeft, LooksSupplied};
+ghost use Rattle.binlog_samples.specs.FollowNext.{BothAreNotWritten, BothAreWritten, LastIsWritten, LooksDiffer, NextIsNotWritten, NextIsWritten};
+ghost use Rattle.binlog_samples.specs.FollowEnds.{EndsWithoutFault, EndsWithFault, EndsByDevice, FaultsAtStarts, FilesNamed, FailuresOfEither, FailuresOfRefusals};
+ghost use Rattle.binlog_samples.specs.FollowEnds.{FailuresOfBeginnings, LooksNotBegun, FirstRefused, BlanksWritten, ListsRefused, LooksContinue, RefusedAsShorter, RefusedForReading};
+ghost use Rattle.binlog_samples.specs.FollowEnds.{NextIsRefused, LookedAtIsNotRefused, AllListsLookedAt, ListLeft, LooksSupplied};
 
 /// Which bytes are lists, and which files each of them has looked at.
 pub fn sample_lists()

@@ -1,5 +1,8 @@
 //! The definitions of what runs write and answer, over two lines.
-ghost use Rattle.binlog_samples.specs.Runs.{LinesCounted, AllLines, OtherLines, FaultOfLines, LinesCut, LinesNotCut, OutputsRefuseNothing, RunsRefused, RunsNotRefused, RefusalsWriteNothing, RefusalsByJudgement, NamesAnswered, StartsAnswered, NotBegun, GoesOn, GoesOnToFault, GoesOnCut, GoesOnRefused, NewCounted};
+ghost use Rattle.binlog_samples.specs.Runs.{LinesCounted, AllGoneLines, AllLines, OtherLines, FaultOfLines, LinesCut, LinesNotCut, OutputsRefuseNothing};
+ghost use Rattle.binlog_samples.specs.Runs.{RunsRefused, RunsNotRefused, RefusalsWriteNothing, RefusalsByJudgement, NamesAnswered, StartsAnswered, NotBegun};
+ghost use Rattle.binlog_samples.specs.RunsOn.{ChangesUpTo, DoesNotGoOn, GoesOnOverNone, LastNamed, ReadsPlaced};
+ghost use Rattle.binlog_samples.specs.Runs.{GoesOn, GoesOnToFault, GoesOnCut, GoesOnRefused, NewCounted};
 
 /// Which lines a run writes, and what it answers.
 pub fn sample_outputs()

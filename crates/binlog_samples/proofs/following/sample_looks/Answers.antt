@@ -13,7 +13,7 @@ use Rattle.binlog_units.specs.Parsing.{terms_of}
 use Rattle.binlog_units.specs.Places.{begin_file}
 use Rattle.binlog_units.specs.declared.place.Place.{Place}
 use Rattle.binlog_units.specs.declared.unit_state.UnitState.TheVariants.{Nothing}
-use Rattle.binlogfeed.specs.Looks.{ComesBehindLast, HasLast}
+use Rattle.binlogfeed.specs.Looks.{HasLast}
 use Rattle.binlogfeed.specs.Lines.{change_lines}
 use Rattle.binlog_samples.specs.Changes.{brief}
 use Rattle.binlog_samples.specs.Statuses.{two_names}
@@ -71,16 +71,6 @@ returns-clause-last_files_stay c = (
   none_has two_names (first_name ∷ []) first_name second_name refl refl (λ e. search rules),
   λ style chosen kept. none_has (first_name ∷ []) (third_name ∷ []) third_name first_name refl refl (λ e. search rules) (kept.0.there (search rules)),
 )
-
--- the first file is cut before the end of its transaction
-cut_short : (passes : RowChange → Bool) (coming : RemainingChanges) → ComesBehindLast passes (look_at one_file) (cut_look 370) coming → ⊥
-unfolding on_bytes
-cut_short passes coming h =
-    let there : h.place.file < 1 = h.behind.found.0 in
-    let first : h.place.file ≡ 0 = omega (arith, there) in
-    let reaches : 371 ≤ length (content (cut_look 370).contents 0) = subst (λ (n : ℕ). 371 ≤ length (content (cut_look 370).contents n)) first h.behind.reaches in
-    let bytes : length (content (cut_look 370).contents 0) ≡ 370 = refl in
-    omega (arith, reaches, bytes)
 
 pub returns-clause-last_files_reach : goal.returns-clause-last_files_reach
 unfolding on_bytes content_fault

@@ -1,8 +1,7 @@
 use Rattle.std.proofs.Common.{rules, ◌≡◌, ◌+◌, ◌∙◌, [], ◌∷◌, ◌++◌, length, length-append, Some, None, refl, ap, inl, arith}
 use Rattle.binlog_feed.specs.Feeds.{feed}
 use Rattle.binlog_feed.specs.FeedView.{passes_by}
-use Rattle.binlog_feed.specs.Places.{begin_file}
-use Rattle.binlog_feed.specs.UnitMachine.{take_kind, text_kind}
+use Rattle.binlog_units.specs.Places.{begin_file}
 use Rattle.binlog_feed.specs.Contents.{content_fault}
 use Rattle.binlogfeed.specs.Lines.{change_lines}
 use Rattle.binlogfeed.specs.Looks.{look_text}
@@ -33,7 +32,7 @@ returns-clause-next_is_not_written c = (
 )
 
 pub returns-clause-both_are_written : goal.returns-clause-both_are_written
-unfolding on_bytes take_kind text_kind content_fault
+unfolding on_bytes content_fault
 returns-clause-both_are_written c style chosen = record {
   front = [];
   text = 10 ∷ [];

@@ -4,7 +4,7 @@ use Rattle.std.specs.Prelude.{get_or, slice_get}
 use Rattle.std.proofs.lemmas.List.Elements.{All-nil}
 use Rattle.std.proofs.lemmas.Option.{same_Some}
 use Rattle.binlog_frame.specs.Logs.{NotPast}
-use Rattle.binlog_feed.specs.Places.{begin_file}
+use Rattle.binlog_units.specs.Places.{begin_file}
 use Rattle.binlog_samples.specs.GoingOn.{second_end}
 use Rattle.binlog_samples.specs.Statuses.{two_names}
 use Rattle.binlog_samples.specs.Tokens.{first_name, second_name, third_name}
