@@ -13,7 +13,8 @@ PAGE = TOP / "docs/FORMAT.md"
 # A word of a definition. One that is behind a point isn't a name of its file.
 WORD = re.compile(r"(?<![\w.])[A-Za-z_]\w*(?!\.\w)")
 USED = re.compile(r"^use Rattle\.(\w+)\.specs\.([\w.]+)\.\{(.*)\}$", re.MULTILINE)
-EQUATION = re.compile(r"^([a-zA-Z_]\w*)\b(.*?) =(?: |$)(.*(?:\n .*)*)", re.MULTILINE)
+# Those of a module with parameters are indented.
+EQUATION = re.compile(r"^( *)([a-zA-Z_]\w*)\b(.*?) =(?: |$)(.*(?:\n\1 .*)*)", re.MULTILINE)
 
 
 class Equation(NamedTuple):
@@ -40,7 +41,7 @@ def module(crate: str, path: str) -> Module:
     """A file of specs/, by its crate and its name."""
     text = (TOP / f"crates/{crate}/specs/{path}.antt").read_text(encoding="utf-8")
     equations: dict[str, list[Equation]] = {}
-    for name, left, right in EQUATION.findall(text):
+    for _, name, left, right in EQUATION.findall(text):
         equations.setdefault(name, []).append(Equation(left, right))
     used = {name: f"{of}.{where}" for of, where, names in USED.findall(text) for name in names.split(", ")}
     return Module(crate, equations, used)
@@ -63,10 +64,13 @@ def faults_in(text: str, where: Module, variants: str, seen: set[str] | None = N
 
 
 def listed(name: str, where: Module) -> list[tuple[Module, str]]:
-    """The faults in the list of a definition, in its order; a list in a list is taken apart."""
-    inner = re.search(r"first_of \((.*)∷ \[\]\)", where.right(name), re.DOTALL)
+    """The faults in the list of a definition, in its order; a list in a list is taken apart, and so is one of another name."""
+    right = where.right(name)
+    inner = re.search(r"first_of \((.*)∷ \[\]\)", right, re.DOTALL)
     if not inner:
-        return [(where, name)]
+        called = right.split()[0]
+        is_list = called in where.equations and "first_of (" in where.right(called)
+        return listed(called, where) if is_list else [(where, name)]
     found = []
     for call in inner[1].split("∷"):
         called = call.split()[0]
