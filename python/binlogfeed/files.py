@@ -3,10 +3,16 @@ from __future__ import annotations
 
 import fcntl
 import os
+import time
 from pathlib import Path
 from typing import TextIO
 
 from binlogfeed.faults import FileFault
+
+# A process that is killed while it starts another leaves its locks to that one for some milliseconds, until that runs a program of its
+# own. For so many seconds a lock is asked for again, each time after such a pause.
+PATIENCE = 1.0
+PAUSE = 0.02
 
 
 def replace(path: Path, content: bytes) -> None:
@@ -30,11 +36,15 @@ def sync_folder(path: Path) -> None:
 
 
 def locked(path: Path, refusal: str) -> TextIO:
-    """The lock on a file, which is made where it isn't there. Where another process has it, it is refused with this line."""
+    """The lock on a file, which is made where it isn't there. Where another process keeps it, it is refused with this line."""
     lock = open(path, "w", encoding="utf-8")
-    try:
-        fcntl.flock(lock, fcntl.LOCK_EX | fcntl.LOCK_NB)
-    except OSError as error:
-        lock.close()
-        raise FileFault(refusal) from error
-    return lock
+    until = time.monotonic() + PATIENCE
+    while True:
+        try:
+            fcntl.flock(lock, fcntl.LOCK_EX | fcntl.LOCK_NB)
+            return lock
+        except OSError as error:
+            if not isinstance(error, BlockingIOError) or time.monotonic() >= until:
+                lock.close()
+                raise FileFault(refusal) from error
+        time.sleep(PAUSE)
