@@ -45,9 +45,9 @@ class Recorded:
                 self.answers[told["statement"]] = rows
 
     def ask(self, statement):
-        """The answer to a statement."""
+        """The answer to a statement. That to GET_LOCK wasn't recorded: by MySQL's manual it is 1 where the lock was free."""
         self.asked.append(statement)
-        return self.answers[statement]
+        return [(b"1",)] if statement.startswith("SELECT GET_LOCK(") else self.answers[statement]
 
     def stream(self, statement):
         """The same, some rows at a time."""
@@ -173,6 +173,56 @@ class Whole(CommandTest):
 
         status, _, said = self.ran("--jobs=2", "made", connection=Failing)
         self.assertEqual((status, said.count("altered (1412)")), (4, 1))
+
+
+class Another(CommandTest):
+    """Another snapshot that reads its rows."""
+
+    def behind(self, answers, *words):
+        """A snapshot where the server gives these answers to who asks for the lock; and its statements up to that which has all wait."""
+        made = []
+
+        class Second(Recorded):
+            """A connection that is looked at afterwards."""
+
+            def __init__(self, address):
+                """Keeps it."""
+                super().__init__(address)
+                made.append(self)
+
+            def ask(self, statement):
+                """Answers in turn who asks for the lock."""
+                found = super().ask(statement)
+                return [(answers.pop(0),)] if "GET_LOCK" in statement else found
+
+        status, lines, said = self.ran("made", "--only-tables=nokey", *words, connection=Second)
+        asked = made[0].asked[1:]
+        begin = "FLUSH TABLES WITH READ LOCK"
+        return status, len(lines), said, [it for it in asked[: asked.index(begin) if begin in asked else None] if "LOCK" in it]
+
+    def test_it_is_waited_for(self):
+        """That is said once, and nobody else has to wait meanwhile."""
+        waits = "binlogfeed: another snapshot reads its rows: waiting for its end, for {} seconds at most\n"
+        asks = [f"SELECT GET_LOCK('binlogfeed.snapshot', {seconds})" for seconds in (0, 10, 10, 5)]
+        for answers, words, told, count in (
+            ([b"1"], (), "", 1), ([b"0", b"1"], (), waits.format(86400), 2), ([b"0", b"0", b"1"], ("--wait=25",), waits.format(25), 3),
+            ([b"0", None, b"0", b"1"], ("--wait=24.5",), waits.format(25), 4),
+        ):  # fmt: skip
+            status, lines, said, asked = self.behind(answers, *words)
+            self.assertEqual((status, lines, asked, answers), (0, 2, asks[:count], []))
+            self.assertTrue(said.startswith(f"{told}binlogfeed: the tables as they are at "), said)
+
+    def test_for_so_long(self):
+        """Then it ends, and has had nobody wait."""
+        last = "binlogfeed: another snapshot reads its rows\nhint: begin this one behind it, or take all schemas by one\n"
+        for answers, wait in (([b"0"], "0"), ([b"0", b"0"], "0.5"), ([b"0"] * 4, "30")):
+            status, lines, said, asked = self.behind(answers, f"--wait={wait}")
+            self.assertEqual((status, lines, answers), (4, 0, []))
+            self.assertTrue(said.endswith(last), said)
+            self.assertEqual((said.count("waiting for its end"), "FLUSH" in "".join(asked)), (int(wait != "0"), False))
+        for word in ("-1", "long", "nan"):
+            with self.assertRaises(SystemExit), contextlib.redirect_stderr(io.StringIO()):
+                self.ran("made", "--wait", word)
 
 
 class Refused(CommandTest):

@@ -12,8 +12,9 @@ from pathlib import Path
 TOP = Path(__file__).resolve().parents[2]
 sys.path.insert(0, str(TOP / "python"))
 
+from binlogfeed.access import Settings  # noqa: E402
 from binlogfeed.snapshot.rows import Lines, characters_of, lines_of  # noqa: E402
-from binlogfeed.snapshot.server import Address, Connection, frozen  # noqa: E402
+from binlogfeed.snapshot.server import Connection, frozen  # noqa: E402
 from binlogfeed.snapshot.tables import tables_of  # noqa: E402
 
 
@@ -42,7 +43,7 @@ def write(statement, rows):
 def main():
     """Asks for all that a snapshot asks for."""
     socket, *schemas = sys.argv[1:]
-    connection = Recorder(Address(socket=socket, user="root"))
+    connection = Recorder(Settings("localhost", 3306, "root", "", socket=socket))
     moment = frozen([connection])
     tables = tables_of(connection, schemas)
     characters = characters_of(connection, tables)

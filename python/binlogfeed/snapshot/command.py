@@ -10,9 +10,9 @@ from typing import Any
 from binlogfeed.access import Settings, add_access, of_url, settings_of
 from binlogfeed.faults import WordsRefused
 from binlogfeed.follow import locked, read_state, write_state
-from binlogfeed.options import add_command
+from binlogfeed.options import add_command, lag_seconds
 from binlogfeed.snapshot.rows import Lines, characters_of, parts_of
-from binlogfeed.snapshot.server import Connection, Moment, frozen
+from binlogfeed.snapshot.server import READING_WAIT, Connection, Moment, frozen, wait_for_others
 from binlogfeed.snapshot.tables import Table, check_are_there, tables_of
 from binlogfeed.snapshot.work import Part, write_all
 
@@ -22,7 +22,8 @@ at that place of the server's log. It needs PyMySQL, and a user with the rights 
 The password is that of the option file, or of the environment's MYSQL_PWD. Tables are those of InnoDB.
 
 Exit status: 0 where all rows are written; 2 where the words are wrong, PyMySQL is missing, or FILE keeps a place already;
-4 where the server can't be reached or refuses a statement, or the output or FILE can't be written."""
+4 where the server can't be reached or refuses a statement, another snapshot reads for too long, or the output or FILE can't be
+written."""
 # A table of more rows is read by several processes, where there are several, in so many parts for each of them.
 MANY_ROWS, PARTS = 50_000, 4
 
@@ -37,6 +38,8 @@ def add_snapshot(commands: Any) -> None:
     parser.add_argument("--ignored-tables", metavar="LIST", default="", help="no tables with these names")
     parser.add_argument("--state", metavar="FILE", type=Path, help="keep the place as that of `follow --state FILE`, once all is written")
     parser.add_argument("--jobs", metavar="N", type=jobs, default=1, help="read by so many processes; large tables come in parts then (1)")
+    waits = f"wait for so long at most while another snapshot reads this server's rows ({READING_WAIT})"
+    parser.add_argument("--wait", metavar="SECONDS", type=lag_seconds, default=READING_WAIT, help=waits)
     parser.set_defaults(run=snapshot)
 
 
@@ -71,6 +74,7 @@ def write(given: argparse.Namespace, settings: Settings, schemas: Sequence[str])
     connections = [Connection(settings) for _ in range(given.jobs)]
     first = connections[0]
     check_are_there(first, schemas)
+    wait_for_others(first, say, given.wait)
     moment = frozen(connections)
     say(f"the tables as they are at {moment.token}; the lock on all tables was held for {moment.held:.3f} seconds")
     tables = tables_of(first, schemas, names(given.only_tables), names(given.ignored_tables))

@@ -2,8 +2,9 @@
 from __future__ import annotations
 
 import contextlib
+import math
 import time
-from collections.abc import Iterator, Sequence
+from collections.abc import Callable, Iterator, Sequence
 from typing import Any, NamedTuple
 
 from binlogfeed.access import Settings, connected, driver
@@ -16,6 +17,10 @@ ROWS = 1000
 LOCK_WAIT = 10
 # Who takes the lines may stop for so many seconds.
 WRITE_WAIT = 86400
+# The server's lock of this name is held by who reads a snapshot. It keeps nobody from writing, and ends with the connection.
+READING = "binlogfeed.snapshot"
+# How many seconds another one that reads is waited for, if nobody says how many, and for how many the server is asked to wait at once.
+READING_WAIT, READING_STEP = 86400, 10
 # Values come as they are stored, in the character sets of their columns, and moments as they are in UTC.
 SETTINGS = f"""SET SESSION character_set_results = NULL, time_zone = '+00:00', sql_mode = '', transaction_isolation = 'REPEATABLE-READ',
 lock_wait_timeout = {LOCK_WAIT}, net_write_timeout = {WRITE_WAIT}, wait_timeout = {WRITE_WAIT}, max_execution_time = 0,
@@ -143,6 +148,30 @@ def row_of(packet: Any) -> Row:
         row.append(data[at : at + size])
         at += size
     return tuple(row)
+
+
+def wait_for_others(connection: Connection, say: Callable[[str], None], wait: float = READING_WAIT) -> None:
+    """Waits while another snapshot reads its rows, for so many seconds at most, and then has the next one wait for this connection.
+
+    `frozen` would have who writes wait, too, since the lock on all tables comes behind the statements that read.
+    """
+
+    def is_free(seconds: int) -> bool:
+        """Whether nobody reads any more, or ends it within so many seconds."""
+        ((answer,),) = connection.ask(f"SELECT GET_LOCK('{READING}', {seconds})")
+        return bool(answer == b"1")
+
+    left = math.ceil(wait)
+    if is_free(0):
+        return
+    if left:
+        say(f"another snapshot reads its rows: waiting for its end, for {left} seconds at most")
+    while left:
+        step = min(left, READING_STEP)
+        if is_free(step):
+            return
+        left -= step
+    raise ServerFault("binlogfeed: another snapshot reads its rows", 0).hinted("begin this one behind it, or take all schemas by one")
 
 
 def frozen(connections: Sequence[Connection]) -> Moment:
