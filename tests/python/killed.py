@@ -136,8 +136,11 @@ class Killed:
 
     def forked(self, words, lines=0):
         """A process of the example, which needs no time to begin: it is a copy of this one. It kills itself behind so many lines."""
+        self.left, kept = os.pipe()
         process = os.fork()
-        if process == 0:
+        if process:
+            os.close(kept)
+        else:
             status = 70
             try:
                 os.dup2(os.open(self.folder / "said", os.O_WRONLY | os.O_CREAT | os.O_TRUNC, 0o600), 2)
@@ -154,9 +157,17 @@ class Killed:
         return process
 
     def status(self, process, options=0):
-        """The status with which a process has ended: below 0 the signal. It is waited for, unless the options say otherwise."""
+        """The status with which a process has ended: below 0 the signal. It is waited for, unless the options say otherwise.
+
+        One that was killed while it started the program leaves its files to what isn't the program yet, for some milliseconds. The end
+        of a pipe tells when that is over: else the next process could find the files locked.
+        """
         ended, status = os.waitpid(process, options)
-        return os.waitstatus_to_exitcode(status) if ended else None
+        if not ended:
+            return None
+        os.read(self.left, 1)
+        os.close(self.left)
+        return os.waitstatus_to_exitcode(status)
 
     def ended(self, process):
         """Waits for the end of a process, and answers what is wrong with it."""

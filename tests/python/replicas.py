@@ -15,9 +15,10 @@ from pathlib import Path
 import psql
 import replica
 from binlogfeed import JSON_NULL
-from support import BANK, PROGRAM, SHOP, TOP, FolderTest, bank_rows, without_beginning, without_hints
+from support import BANK, PATIENT, PROGRAM, SHOP, TOP, FolderTest, bank_rows, without_beginning, without_hints
 
 REPLICA = TOP / "examples/replica/replica.py"
+PATHS = [str(TOP / "python"), str(REPLICA.parent)]
 TABLES = {"shop": TOP / "examples/replica/shop.sql", "bank": TOP / "tests/python/bank.sql"}
 LOGS = {"shop": str(SHOP[0].parent / "binlog.0*"), "bank": str(BANK[0].parent / "binlog.0*")}
 HAS_POSTGRES = all(map(shutil.which, ("postgres", "initdb", "pg_ctl", "psql")))
@@ -81,9 +82,10 @@ def words_of(target, schema, *options, program=PROGRAM, logs=None):
     return ["--program", program, *options, target, schema, logs or LOGS[schema]]
 
 
-def started(target, schema, *options, python=sys.executable, program=PROGRAM, logs=None):
-    """A process that keeps the replica."""
-    words = [python, str(REPLICA), *words_of(target, schema, *options, program=program, logs=logs)]
+def started(target, schema, *options, python=sys.executable, program=PROGRAM, logs=None, patient=False):
+    """A process that keeps the replica. A patient one looks longer for an index that is away."""
+    code = f"import sys; sys.path[:0] = {PATHS}; {PATIENT}; import replica; sys.exit(replica.main())"
+    words = [python, *(["-c", code] if patient else [str(REPLICA)]), *words_of(target, schema, *options, program=program, logs=logs)]
     environment = {**os.environ, "PYTHONDONTWRITEBYTECODE": "1"}
     return subprocess.Popen(words, stdout=subprocess.DEVNULL, stderr=subprocess.PIPE, text=True, env=environment)
 

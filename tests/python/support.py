@@ -7,8 +7,12 @@ import shutil
 import subprocess
 import tempfile
 import threading
+import time
 import unittest
 from pathlib import Path
+from unittest import mock
+
+from binlogfeed.watch import Watch
 
 TOP = Path(__file__).resolve().parents[2]
 PROGRAM = os.environ.get("BINLOGFEED_PROGRAM") or str(TOP / "crates/program/out/program")
@@ -18,6 +22,9 @@ BANK = sorted((TOP / "tests/bank").glob("binlog.*"))
 BEGINS = re.compile(r"(?:binlogfeed|replica): (?:begins|goes on) [^\n]*\n")
 # What takes longer than so many seconds hangs.
 SECONDS = 60
+# A command, and the replica, that look longer for an index which is away: on a machine that stands still meanwhile a second is short.
+PATIENT = f"from binlogfeed import watch; watch.PATIENCE = {SECONDS}"
+PATIENT_COMMAND = f"{PATIENT}; import sys; from binlogfeed import __main__ as main; sys.exit(main.main())"
 
 
 def bank_rows():
@@ -80,9 +87,44 @@ class FolderTest(unittest.TestCase):
         written.write_bytes(content)
         return written.replace(path)
 
-    def in_time(self, end):
+    def write_on(self, name: str, content: bytes) -> Path:
+        """Gives a log another content as its writer does, in its place: a longer one is written on, and a copy that is made anew is cut.
+
+        Another log takes its name.
+        """
+        path = self.folder / name
+        before = path.read_bytes() if path.exists() else None
+        if before is None or not content[: len(before)] == before[: len(content)]:
+            return self.put(name, content)
+        if len(content) < len(before):
+            os.truncate(path, len(content))
+        else:
+            with open(path, "ab") as log:
+                log.write(content[len(before) :])
+        return path
+
+    def soon(self, holds, message="it doesn't come"):
+        """Waits until something holds."""
+        until = time.monotonic() + SECONDS / 2
+        while not holds():
+            self.assertLess(time.monotonic(), until, message)
+            time.sleep(0.01)
+
+    def once_it_waits(self, action, *words):
+        """Has something done soon after a reader of this process has looked for the first time, and waits for more."""
+        late, wait = threading.Timer(0.1, action, words), Watch.wait
+
+        def waits(watch, *more):
+            """Waits, and the first time has it done."""
+            if late.ident is None:
+                late.start()
+            return wait(watch, *more)
+
+        return mock.patch.object(Watch, "wait", waits)
+
+    def in_time(self, end, seconds=SECONDS):
         """Has something ended where the test takes too long."""
-        late = threading.Timer(SECONDS, end)
+        late = threading.Timer(seconds, end)
         late.daemon = True
         late.start()
         self.addCleanup(late.cancel)

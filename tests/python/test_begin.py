@@ -2,7 +2,6 @@
 import json
 import subprocess
 import sys
-import threading
 import time
 
 import logs
@@ -127,18 +126,13 @@ class Reader(FolderTest):
             self.assertEqual(self.tokens(begin=begin, resume=wanted[4]), wanted[5:])
 
     def test_now(self):
-        path, rest = self.put("binlog.000001", logs.worked_log(2)), logs.worked_log(3)[589:]
+        self.put("binlog.000001", logs.worked_log(2))
         events = BinLogStreamReader(f"{self.folder}/binlog.0*", program=PROGRAM, blocking=True, begin="now", interval=0.01)
         self.in_time(events.close)
         self.addCleanup(events.close)
 
-        def grow():
-            with open(path, "ab") as file:
-                file.write(rest)
-
-        late = threading.Timer(0.5, grow)
-        late.start()
-        self.assertEqual(next(events).token, "589.1@binlog.000001")
+        with self.once_it_waits(self.write_on, "binlog.000001", logs.worked_log(3)):
+            self.assertEqual(next(events).token, "589.1@binlog.000001")
 
     def test_it_is_logged(self):
         with self.assertLogs("binlogfeed", "INFO") as caught:

@@ -115,9 +115,7 @@ class Anew(ServerTest):
                 self.assertEqual(list(BinLogStreamReader(files, program=PROGRAM, resume=place)), [])
             events = BinLogStreamReader(files, program=PROGRAM, resume=place, blocking=True, interval=0.01)
             self.in_time(events.close)
-            late = threading.Timer(0.3, self.log, (FIRST, log(1, 2, 3)))
-            late.start()
-            with self.assertLogs("binlogfeed", "WARNING"):
+            with self.once_it_waits(self.log, FIRST, log(1, 2, 3)), self.assertLogs("binlogfeed", "WARNING"):
                 self.assertEqual(next(events).token, f"589.1@{FIRST}")
             events.close()
 
@@ -127,8 +125,7 @@ class Anew(ServerTest):
         command = [sys.executable, "-m", "binlogfeed", "follow", *words]
         with running(command, env=ENVIRONMENT, stdout=subprocess.PIPE, stderr=subprocess.PIPE) as process:
             self.assertEqual([process.stdout.readline() for _ in range(2)], [line(1, 153, FIRST), line(2, 371, FIRST)])
-            while not self.state.exists():
-                time.sleep(0.01)
+            self.soon(self.state.exists)
             self.assertIn(b"begins with", process.stderr.readline())
             self.log(FIRST, b"")
             self.assertEqual(process.stderr.readline(), f"binlogfeed: {CUT}\n".encode())
@@ -151,14 +148,14 @@ class Lags(FolderTest):
     def test_no_line_is_early(self):
         """While the log grows, each comes so late behind the moment at which it was written, and none is missing."""
         whole, lag, count = logs.worked_log(40), 0.3, 40
-        path = self.put(FIRST, whole[:153])
+        self.put(FIRST, whole[:153])
         written = {}
 
         def write():
             for number in range(count):
                 time.sleep(0.02)
                 written[f"{153 + 218 * number}.1@{FIRST}"] = time.monotonic()
-                path.write_bytes(whole[: 153 + 218 * (number + 1)])
+                self.write_on(FIRST, whole[: 153 + 218 * (number + 1)])
 
         thread = threading.Thread(target=write)
         watch, found = self.watch(lag), b""

@@ -1,18 +1,22 @@
 """What ends `follow`, readers and the replica: a program that was killed, SIGTERM, and options that are none."""
+import contextlib
 import json
 import math
 import os
 import signal
+import sqlite3
 import subprocess
 import sys
+import threading
 import time
+from unittest import mock
 
 import logs
-from binlogfeed import BinLogStreamReader, Place, ProgramFailed
+from binlogfeed import BinLogStreamReader, FileFault, Place, ProgramFailed, files
 from binlogfeed import watch as watching
 from binlogfeed.follow import read_state
 from binlogfeed.watch import Watch
-from support import PROGRAM, SECONDS, SHOP, TOP, running
+from support import PROGRAM, SECONDS, SHOP, TOP, FolderTest, running
 from test_follow import ENVIRONMENT, ServerTest, line, log
 
 REPLICA = TOP / "examples/replica/replica.py"
@@ -52,8 +56,7 @@ class Killed(CommandTest):
         """It is noticed long before the next look, with the place kept and a status that the service is started again for."""
         with self.follow("--interval", "60", program=self.noted()) as process:
             self.assertEqual(process.stdout.readline(), line(1, 153, "binlog.000001"))
-            while not self.state.exists():
-                time.sleep(0.01)
+            self.soon(self.state.exists)
             killed = time.monotonic()
             self.kill()
             said = process.communicate(timeout=SECONDS / 2)[1]
@@ -70,15 +73,21 @@ class Killed(CommandTest):
         subprocess.run([sys.executable, "-c", made, target, TOP / "examples/replica/shop.sql"], check=True)
         words = [f"sqlite:{target}", "shop", str(self.data), "--follow", "--interval", "60", "--program", self.noted()]
         with running([sys.executable, REPLICA, *words], stderr=subprocess.PIPE) as process:
-            until = time.monotonic() + SECONDS / 2
-            while not (self.folder / "process").exists() and time.monotonic() < until:
-                time.sleep(0.01)
-            time.sleep(1.0)
+            # The last transaction's place is kept behind the look.
+            self.soon(lambda: "3506.2@" in self.kept(target))
             killed = time.monotonic()
             self.kill()
             process.communicate(timeout=SECONDS / 2)
         self.assertEqual(process.returncode, 128 + 9)
         self.assertLess(time.monotonic() - killed, NOTICED + LATE)
+
+    def kept(self, target):
+        """The place that a target in SQLite keeps, or none."""
+        with contextlib.closing(sqlite3.connect(target, timeout=SECONDS)) as connection:
+            try:
+                return "".join(place for (place,) in connection.execute("SELECT place FROM binlogfeed_place"))
+            except sqlite3.OperationalError:  # there is no such table yet
+                return ""
 
     def test_reader(self):
         events = BinLogStreamReader(self.data, program=self.noted(), blocking=True, interval=60)
@@ -121,6 +130,27 @@ class Killed(CommandTest):
     def test_how_often(self):
         """Two seconds are promised, and a look at the program may come late."""
         self.assertLessEqual(watching.CHECK, NOTICED / 2)
+
+
+class Locks(FolderTest):
+    """The lock of who uses a file, for who comes when that one was killed."""
+
+    def test_it_may_end_late(self):
+        """What a killed process was starting has it for some milliseconds more."""
+        self.assertGreaterEqual(files.PATIENCE, 0.5)
+        path = self.folder / "lock"
+        late = threading.Timer(0.1, files.locked(path, "").close)
+        late.start()
+        with mock.patch.object(files, "PATIENCE", SECONDS):
+            files.locked(path, "it is in use").close()
+        late.join()
+
+    def test_refused(self):
+        path = self.folder / "lock"
+        with files.locked(path, ""), mock.patch.object(files, "PATIENCE", 0.1), self.assertRaises(FileFault) as caught:
+            files.locked(path, "it is in use")
+        self.assertEqual(caught.exception.line, "it is in use")
+        files.locked(path, "it is in use").close()
 
 
 class FullPipe(CommandTest):

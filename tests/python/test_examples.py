@@ -1,7 +1,9 @@
 """The examples that are one program each: killed at random moments, each gives the bank's rows as its server told them."""
 import ast
+import contextlib
 import json
 import os
+import random
 import shutil
 import socket
 import sqlite3
@@ -103,28 +105,32 @@ def wanted_of(line):
 
 
 def free_port():
-    """A port of this machine that nobody listens at."""
-    with socket.socket() as taken:
-        taken.bind(("127.0.0.1", 0))
-        return taken.getsockname()[1]
+    """A port of this machine that nobody listens at. It is none of those that Linux gives to connections, which may come meanwhile."""
+    while True:
+        port = random.SystemRandom().randrange(12_000, 32_000)
+        with socket.socket() as taken, contextlib.suppress(OSError):
+            taken.bind(("127.0.0.1", port))
+            return port
 
 
 class ServerTest(ExampleTest):
     """A test with a server of its own, which listens at a port."""
 
-    def serve(self, *command):
-        """Starts a server, and waits until it listens."""
-        self.server = subprocess.Popen(command, cwd=self.folder, stdout=subprocess.DEVNULL, stderr=subprocess.DEVNULL)
-        self.addCleanup(self.server.wait)
-        self.addCleanup(self.server.kill)
-        until = time.monotonic() + SECONDS
-        while time.monotonic() < until and self.server.poll() is None:
-            try:
-                socket.create_connection(("127.0.0.1", self.port)).close()
-                return
-            except ConnectionRefusedError:
-                time.sleep(0.05)
-        self.fail(f"{command[0]} doesn't listen")
+    def serve(self, command):
+        """Starts a server by its command, which is given a port, and waits until it listens. One that finds its port taken gets another."""
+        for _ in range(3):
+            self.port = free_port()
+            server = subprocess.Popen(command(str(self.port)), cwd=self.folder, stdout=subprocess.DEVNULL, stderr=subprocess.DEVNULL)
+            self.addCleanup(server.wait)
+            self.addCleanup(server.kill)
+            until = time.monotonic() + SECONDS
+            while time.monotonic() < until and server.poll() is None:
+                try:
+                    socket.create_connection(("127.0.0.1", self.port)).close()
+                    return
+                except ConnectionRefusedError:
+                    time.sleep(0.05)
+        self.fail(f"{server.args[0]} doesn't listen")
 
 
 class Sizes(unittest.TestCase):
@@ -317,9 +323,8 @@ class Cache(ServerTest):
     def setUp(self):
         """Starts a server."""
         super().setUp()
-        self.port = free_port()
-        words = {"--port": str(self.port), "--bind": "127.0.0.1", "--save": "", "--appendonly": "no", "--dir": str(self.folder)}
-        self.serve(REDIS, *(word for option in words.items() for word in option))
+        words = {"--bind": "127.0.0.1", "--save": "", "--appendonly": "no", "--dir": str(self.folder)}
+        self.serve(lambda port: [REDIS, "--port", port, *(word for option in words.items() for word in option)])
 
     def asked(self, *words):
         """What the server answers to a command."""
@@ -389,8 +394,7 @@ class Broker(ServerTest):
     def setUp(self):
         """Starts a server."""
         super().setUp()
-        self.port = free_port()
-        self.serve(NATS, "-a", "127.0.0.1", "-p", str(self.port), "-js", "-sd", self.folder / "nats")
+        self.serve(lambda port: [NATS, "-a", "127.0.0.1", "-p", port, "-js", "-sd", self.folder / "nats"])
 
     def asked(self, *requests):
         """What the server answers to requests, each a subject and a text."""

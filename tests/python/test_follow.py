@@ -20,9 +20,11 @@ from binlogfeed import watch as watching
 from binlogfeed.follow import Follower, read_state, write_state
 from binlogfeed.logs import check_without_gap
 from built.growing import Server
-from support import BANK, PROGRAM, SECONDS, SHOP, TOP, FolderTest, running, told, without_beginning, without_hints
+from support import BANK, PATIENT_COMMAND, PROGRAM, SECONDS, SHOP, TOP, FolderTest, running, told, without_beginning, without_hints
 
 ENVIRONMENT = {**os.environ, "PYTHONPATH": str(TOP / "python")}
+# How long an index is waited for that is away. Most tests have none that comes back, and wait for less.
+PATIENCE = watching.PATIENCE
 
 
 def log(*numbers, following=None):
@@ -61,18 +63,18 @@ class ServerTest(FolderTest):
         watching.PATIENCE = 0.1
 
     def index(self, *names):
-        """Writes the index."""
-        (self.data / "binlog.index").write_text("".join(f"./{name}\n" for name in names))
+        """Puts the index in its place, as a server does."""
+        self.put("data/binlog.index", "".join(f"./{name}\n" for name in names).encode())
 
     def log(self, name, content):
-        """Writes a log."""
-        (self.data / name).write_bytes(content)
+        """Gives a log this content."""
+        self.write_on(f"data/{name}", content)
 
-    def follower(self, out=None, words=(), program=PROGRAM, place=None, state=None):
+    def follower(self, out=None, words=(), program=PROGRAM, place=None, state=None, seconds=SECONDS):
         """A follower. It ends with the test."""
         follower = Follower(str(place or self.data), state or self.state, words, program, out or io.BytesIO())
         self.addCleanup(follower.close)
-        self.in_time(follower.stop)
+        self.in_time(follower.stop, seconds)
         return follower
 
     def followed(self, out=None, place=None, words=()):
@@ -110,7 +112,8 @@ class Growing(ServerTest):
     def test_each_byte_by_one_follower(self):
         """Two logs grow by a byte, and rotate. One follower takes each line as soon as its transaction is whole."""
         whole, out = log(1, 2, following="binlog.000002"), io.BytesIO()
-        follower = self.follower(out)
+        # It looks about a thousand times.
+        follower = self.follower(out, seconds=10 * SECONDS)
         self.index("binlog.000001")
         ends, lines = {371: (1, 153), 589: (2, 371)}, b""
         for name, content in (("binlog.000001", whole), ("binlog.000002", log(1, 2))):
@@ -145,15 +148,17 @@ class Growing(ServerTest):
 
     def test_a_server_whose_index_is_away(self):
         """The server rotates and purges while the follower looks. Its index is away for 20 ms each time."""
-        watching.PATIENCE = 1.0
+        watching.PATIENCE = SECONDS
         out, ended = io.BytesIO(), threading.Event()
         server = Server(self.data, BANK[:6], random.Random(5), away=0.02)
 
         def serve():
-            while server.step():
-                if self.state.exists():
-                    server.purge(read_state(self.state).file)
-            ended.set()
+            try:
+                while server.step():
+                    if self.state.exists():
+                        server.purge(read_state(self.state).file)
+            finally:
+                ended.set()
 
         thread = threading.Thread(target=serve)
         follower = self.follower(out)
@@ -167,7 +172,8 @@ class Growing(ServerTest):
 
     def test_an_index_that_is_away(self):
         """Without an index, or with an empty one, nothing is said at once; and a log that isn't there is looked for again."""
-        watching.PATIENCE = 1.0
+        self.assertGreaterEqual(PATIENCE, 1.0)
+        watching.PATIENCE = SECONDS
         self.log("binlog.000001", log(1))
         self.index("binlog.000001")
         out = io.BytesIO()
@@ -330,11 +336,13 @@ class Growing(ServerTest):
         self.index("binlog.000001")
         self.log("binlog.000001", log(1, 2))
         lines = [line(1, 153, "binlog.000001").decode(), line(2, 371, "binlog.000001").decode()]
-        for seconds, kept in ((0.0, "153.1@binlog.000001"), (60.0, None)):
+        # A place that is to be kept may take its time to the disk.
+        waits = f"until [ -e {self.state} ]; do sleep 0.01; done"
+        for seconds, until, kept in ((0.0, waits, "153.1@binlog.000001"), (2.0 * SECONDS, "sleep 0.2", None)):
             following.KEEP_SECONDS = seconds
             self.state.unlink(missing_ok=True)
             said = f"cat {self.state} > {self.folder}/kept 2>/dev/null"
-            program = self.stub(f"read line\ncat <<'END'\n{lines[0]}END\nsleep 0.2\n{said}\ncat <<'END'\n{lines[1]}\nEND\nread line")
+            program = self.stub(f"read line\ncat <<'END'\n{lines[0]}END\n{until}\n{said}\ncat <<'END'\n{lines[1]}\nEND\nread line")
             follower = self.follower(program=program)
             follower.catch_up()
             follower.close()
@@ -557,9 +565,10 @@ class States(ServerTest):
 class CommandLine(ServerTest):
     """The command."""
 
-    def run_follow(self, *words, **options):
-        """Runs the command, and gives its process."""
-        command = [sys.executable, "-m", "binlogfeed", "follow", "--program", PROGRAM, "--state", str(self.state), *words]
+    def run_follow(self, *words, code=None, **options):
+        """Runs the command, or code that does, and gives its process."""
+        begins = ["-c", code] if code else ["-m", "binlogfeed"]
+        command = [sys.executable, *begins, "follow", "--program", PROGRAM, "--state", str(self.state), *words]
         return running(command, env=ENVIRONMENT, stderr=subprocess.PIPE, **options)
 
     def bank(self):
@@ -613,7 +622,9 @@ class CommandLine(ServerTest):
 
     def test_a_reader_that_goes_away(self):
         lines, place = self.bank()
-        with self.run_follow("--once", place, stdout=subprocess.PIPE) as process:
+        # What was written before a busy machine let it go on is to be kept no earlier.
+        code = f"from binlogfeed import follow; follow.KEEP_SECONDS = 2 * {SECONDS}; {PATIENT_COMMAND}"
+        with self.run_follow("--once", place, code=code, stdout=subprocess.PIPE) as process:
             first = process.stdout.readline()
             process.stdout.close()
             said = without_beginning(process.stderr.read())
@@ -703,9 +714,10 @@ class CommandLine(ServerTest):
         code = "import sys; from binlogfeed import __main__ as main; main.GRACE = 0.1; sys.exit(main.main())"
         command = [sys.executable, "-c", code, "follow", "--program", endless, "--state", str(self.state), str(self.data)]
         with running(command, env=ENVIRONMENT, stdout=subprocess.PIPE, stderr=subprocess.PIPE) as process:
-            process.stdout.readline()
+            out = process.stdout.readline()
             process.send_signal(signal.SIGTERM)
-            out, said = told(process, timeout=SECONDS)
+            out += process.stdout.read()
+            said = without_beginning(process.stderr.read())
         self.assertEqual((process.returncode, said, out[-1:]), (0, b"", b"\n"))
         self.assertEqual(read_state(self.state).token, "153.1@binlog.000001")
 
@@ -733,24 +745,32 @@ class CommandLine(ServerTest):
     def test_killed(self):
         """Kills it while a server writes, rotates and purges. Up to the kept place, what it wrote is what `read` writes."""
         taken, chance, ended = self.folder / "taken", random.Random(11), threading.Event()
-        server = Server(self.data, BANK, chance, away=0.01)
+        server, rounds = Server(self.data, BANK, chance, away=0.01), threading.Semaphore(0)
 
         def serve():
-            while server.step():
-                time.sleep(0.01)
-                if self.state.exists():
-                    server.purge(read_state(self.state).file)
-            ended.set()
+            try:
+                steps = 0
+                while server.step():
+                    steps += 1
+                    time.sleep(0.01)
+                    # So it isn't at its end before there were some kills, however long a busy machine takes for each.
+                    if steps % 30 == 0:
+                        rounds.acquire(timeout=SECONDS)
+                    if self.state.exists():
+                        server.purge(read_state(self.state).file)
+            finally:
+                ended.set()
 
-        thread, kills = threading.Thread(target=serve), 0
+        thread, kills = threading.Thread(target=serve, daemon=True), 0
         thread.start()
         while not ended.is_set():
-            with open(taken, "ab") as out, self.run_follow("--interval", "0.001", str(self.data), stdout=out) as process:
+            with open(taken, "ab") as out, self.run_follow("--interval", "0.001", str(self.data), code=PATIENT_COMMAND, stdout=out) as process:
                 time.sleep(0.1 + chance.random() * 0.3)
                 process.kill()
                 self.assertEqual(without_beginning(process.stderr.read()), b"")
             self.cut_back(taken)
             kills += 1
+            rounds.release()
         thread.join()
         with open(taken, "ab") as out, self.run_follow("--once", str(self.data), stdout=out) as process:
             self.assertEqual((process.wait(), without_beginning(process.stderr.read())), (0, b""))

@@ -4,9 +4,10 @@ import signal
 import subprocess
 import sys
 import time
+from unittest import mock
 
 import logs
-from binlogfeed import LogFault, Place
+from binlogfeed import LogFault, Place, metrics
 from binlogfeed.follow import Measure
 from binlogfeed.metrics import as_text, metrics_of, written
 from binlogfeed.version import VERSION
@@ -147,7 +148,9 @@ class Metrics(ServerTest):
         self.index("binlog.000001")
         self.log("binlog.000001", log(1))
         follower = self.follower()
-        with self.assertLogs("binlogfeed", "WARNING"), written(self.path, follower, self.state):
+        # It isn't written anew between the two calls that put a folder in its place.
+        seldom = mock.patch.object(metrics, "EVERY", 2 * SECONDS)
+        with seldom, self.assertLogs("binlogfeed", "WARNING"), written(self.path, follower, self.state):
             follower.catch_up()
             self.path.unlink()
             self.path.mkdir()

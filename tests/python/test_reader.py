@@ -9,6 +9,7 @@ import threading
 import time
 import tracemalloc
 from decimal import Decimal
+from unittest import mock
 
 import logs
 from binlogfeed import (
@@ -32,6 +33,7 @@ from binlogfeed import (
     XidEvent,
     floats,
 )
+from binlogfeed import watch as watching
 from binlogfeed.watch import Watch
 from built.growing import Server
 from support import BANK, PROGRAM, SECONDS, SHOP, TOP, FolderTest, bank_rows
@@ -414,7 +416,7 @@ class Blocking(FolderTest):
     def test_servers(self):
         """Servers write, rotate and purge. Each event comes once, and each transaction whole."""
         for seed, files in ((1, SHOP), (2, BANK)):
-            with self.subTest(seed=seed):
+            with self.subTest(seed=seed), mock.patch.object(watching, "PATIENCE", SECONDS):
                 folder = self.folder / str(seed)
                 folder.mkdir()
                 server, taken, wanted = Server(folder, files, random.Random(seed), 0.002), [], tokens(files)
@@ -542,9 +544,7 @@ class Blocking(FolderTest):
     def test_from_the_end_where_no_log_is_yet(self):
         """All that comes comes later."""
         events = self.reader(f"{self.folder}/binlog.0*", resume_stream=True)
-        late = threading.Timer(0.1, self.put, ("binlog.000001", logs.A))
-        late.start()
-        with self.assertWarns(UserWarning):
+        with self.once_it_waits(self.put, "binlog.000001", logs.A), self.assertWarns(UserWarning):
             self.assertEqual(next(events).token, "153.1@binlog.000001")
 
     def test_from_the_end_behind_a_fault(self):
@@ -614,9 +614,7 @@ class Blocking(FolderTest):
     def test_a_pattern_that_matches_nothing_yet(self):
         """It is warned of once."""
         events = self.reader(f"{self.folder}/binlog.0*")
-        late = threading.Timer(0.1, self.put, ("binlog.000001", logs.A))
-        late.start()
-        with self.assertWarns(UserWarning) as caught:
+        with self.once_it_waits(self.put, "binlog.000001", logs.A), self.assertWarns(UserWarning) as caught:
             self.assertEqual(next(events).token, "153.1@binlog.000001")
         self.assertEqual([str(one.message) for one in caught.warnings], [f"binlogfeed: no log matches {self.folder}/binlog.0* yet"])
 

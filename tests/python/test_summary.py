@@ -429,8 +429,7 @@ class Faults(FolderTest):
         heeded = {"preexec_fn": lambda: signal.signal(signal.SIGINT, signal.SIG_DFL)}
         with running(command(path, program=program), **options, **heeded) as process:
             started = self.folder / "started"
-            while not started.exists() or started.read_text().count("\n") < 2:
-                time.sleep(0.01)
+            self.soon(lambda: started.exists() and started.read_text().count("\n") >= 2)
             os.killpg(process.pid, signal.SIGINT)
             # Both end once no process has them any more.
             said = process.stdout.read(), process.stderr.read()
@@ -465,8 +464,7 @@ class Faults(FolderTest):
         program = self.stub(f"{begin}while printf '{unit}\\n'; do sleep 0.01; done")
         with running(command(path, program=program), stdout=subprocess.DEVNULL, stderr=subprocess.DEVNULL, env=ENVIRONMENT) as process:
             started = self.folder / "started"
-            while not started.exists() or started.read_text().count("\n") < 2:
-                time.sleep(0.01)
+            self.soon(lambda: started.exists() and started.read_text().count("\n") >= 2)
             others = {*children(process.pid), *started.read_text().split()}
             process.kill()
         late = time.monotonic() + SECONDS
