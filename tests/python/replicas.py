@@ -23,7 +23,7 @@ TABLES = {"shop": TOP / "examples/replica/shop.sql", "bank": TOP / "tests/python
 LOGS = {"shop": str(SHOP[0].parent / "binlog.0*"), "bank": str(BANK[0].parent / "binlog.0*")}
 HAS_POSTGRES = all(map(shutil.which, ("postgres", "initdb", "pg_ctl", "psql")))
 # How long a test of kills, or a replica that is waited for, may take at most.
-SECONDS = 120
+SECONDS = 300
 
 # The shop's tables at the end, by its statements.
 PAID = "2024-05-06 08:00:00+00:00"
