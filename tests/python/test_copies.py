@@ -174,7 +174,7 @@ class Lags(FolderTest):
 
     def test_what_was_there_waits_once(self):
         """All lines of a log that is there already wait for one lag, and not each block for its own."""
-        self.put(FIRST, logs.worked_log(10_000))
+        self.put(FIRST, logs.worked_log(4_000))
         waits, wait = [], threading.Event.wait
 
         def noted(event, seconds=None):
@@ -189,7 +189,7 @@ class Lags(FolderTest):
         self.assertGreaterEqual(time.monotonic() - started, 0.5)
         # What a busy machine takes for the lines is no wait.
         self.assertLess(sum(waits), 0.5 * len(blocks) / 2)
-        self.assertEqual(b"".join(blocks), logs.change_lines(10_000, FIRST))
+        self.assertEqual(b"".join(blocks), logs.change_lines(4_000, FIRST))
 
     def test_which_lines_were_seen(self):
         """Those before a transaction that begins within what was seen, in this log or in a later one."""
