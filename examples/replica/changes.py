@@ -1,6 +1,7 @@
 """The changes that a server's logs have behind a place, by the full lines of `read --follow`."""
 from __future__ import annotations
 
+import json
 import threading
 from collections.abc import Iterator
 from typing import NamedTuple
@@ -39,6 +40,25 @@ class Source(NamedTuple):
     # The names of the tables that are kept, with commas; all where there is none.
     only_tables: str = ""
 
+    @property
+    def wanted(self) -> list[str]:
+        """What changes are wanted of."""
+        return [self.schema, self.only_tables]
+
+    def waiting_behind(self, place: Place) -> str:
+        """A place as it is kept before the first change. It counts for who wants the same: another begins anew."""
+        return json.dumps({**json.loads(place.to_text()), "waits_for": self.wanted})
+
+
+def waits_for(text: str) -> list[str] | None:
+    """What a place that is kept waits for; None where it is none before the first change."""
+    try:
+        told = json.loads(text or "{}")
+    except ValueError:
+        return None
+    found: list[str] | None = told.get("waits_for") if isinstance(told, dict) else None
+    return found
+
 
 class Changes:
     """A schema's changes, look after look, each once.
@@ -47,8 +67,11 @@ class Changes:
     place, which also holds where the token's file is gone, and it knows where a look ends.
     """
 
-    def __init__(self, source: Source, place: Place, again: bool = False) -> None:
-        """The changes behind a place, or from where the source is to be begun. `again` says that they were begun before."""
+    def __init__(self, source: Source, place: Place, is_first: bool, again: bool = False) -> None:
+        """The changes behind a place, or from where the source is to be begun.
+
+        `is_first` says that none was taken before, and `again` that they were begun before.
+        """
         options = [f"--profile={source.profile}", f"--only-schemas={source.schema}"]
         options += [f"--only-tables={source.only_tables}"] if source.only_tables else []
         self._watch = Watch(source.logs, [source.program, "read", "--follow", "--full", *options], place, source.begin, "the target", source.lag)
@@ -59,7 +82,7 @@ class Changes:
         # Begun with the first look, once its place is known.
         self._statements: Statements | None = None
         # Whether changes were taken before, by this run or an earlier one, and the first one of this run.
-        self._is_kept, self._first = place.file is not None, ""
+        self._is_kept, self._first = not is_first, ""
 
     def look(self) -> Iterator[tuple[Change, int]]:
         """The changes that are new by now, each with the length of its line. What ended the reading early is raised."""

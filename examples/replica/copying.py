@@ -10,9 +10,10 @@ from binlogfeed import JSON_NULL
 from binlogfeed.access import of_url, settings_of
 from binlogfeed.lines import Change, reader_of_lines
 from binlogfeed.snapshot.rows import Lines, characters_of, lines_of
-from binlogfeed.snapshot.server import Connection, frozen
+from binlogfeed.snapshot.server import Connection, frozen, wait_for_others
 from binlogfeed.snapshot.tables import Table, check_are_there, tables_of
 from binlogfeed.values import Style
+from changes import waits_for
 from targets import MisfitError, Target, WrongWordsError
 
 
@@ -26,18 +27,20 @@ class Server(NamedTuple):
 
 
 def take_copy(target: Target, server: Server, schema: str, only_tables: Sequence[str]) -> None:
-    """Copies a schema's tables, where the target keeps no place yet."""
-    if target.place():
+    """Copies a schema's tables, where the target keeps no place yet, or one before the first change alone."""
+    kept = target.place()
+    if kept and waits_for(kept) is None:
         return
     connection = Connection(settings_of({**of_url(server.url), "defaults_file": server.defaults_file}))
     try:
         check_are_there(connection, [schema])
+        wait_for_others(connection, say)
         moment = frozen([connection])
         tables = tables_of(connection, [schema], only_tables)
         if not tables:
             raise WrongWordsError(f"the server shows no table of the schema {schema}")
         characters = characters_of(connection, tables)
-        target.begin("")
+        target.begin(kept)
         count = 0
         for table in tables:
             prepare(target, table)
@@ -46,7 +49,12 @@ def take_copy(target: Target, server: Server, schema: str, only_tables: Sequence
     finally:
         connection.close()
     told = f"copied {count:,} rows of {len(tables)} tables, as they were at {moment.token}"
-    print(f"replica: {told}; the lock on all tables was held for {moment.held:.3f} seconds", file=sys.stderr, flush=True)
+    say(f"{told}; the lock on all tables was held for {moment.held:.3f} seconds")
+
+
+def say(text: str) -> None:
+    """Says something on standard error."""
+    print(f"replica: {text}", file=sys.stderr, flush=True)
 
 
 def prepare(target: Target, table: Table) -> None:

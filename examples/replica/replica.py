@@ -34,7 +34,7 @@ from binlogfeed.hints import hints_of  # noqa: E402
 from binlogfeed.lines import Change  # noqa: E402
 from binlogfeed.options import LAG_HELP, lag_seconds, only_one, seconds  # noqa: E402
 from binlogfeed.tokens import beginning  # noqa: E402
-from changes import Changes, Source  # noqa: E402
+from changes import Changes, Source, waits_for  # noqa: E402
 from copying import Server, take_copy  # noqa: E402
 from postgres import Postgres  # noqa: E402
 from sqlite import Sqlite  # noqa: E402
@@ -68,8 +68,11 @@ class Replica:
         self._commit_every = commit_every
         self._batcher = Batcher(target)
         self._kept = target.place()
-        self._place = Place.from_text(self._kept) if self._kept else Place()
-        self._changes = Changes(source, self._place)
+        # Whether the place is more than one that a replica has waited behind, and whether this one is to wait behind that.
+        self._is_known = bool(self._kept) and waits_for(self._kept) is None
+        self._has_waited = source.begin == FIRST and waits_for(self._kept) == source.wanted
+        self._place = Place.from_text(self._kept) if self._is_known or self._has_waited else Place()
+        self._changes = Changes(source, self._place, is_first=not self._is_known)
         # The log's transaction that is being taken, the token of its last change, and how many are whole before it.
         self._transaction: str | None = None
         self._token = ""
@@ -122,8 +125,7 @@ class Replica:
             raise mismatch.hinted(NEW_COLUMNS)
         if self._transaction:
             self._commit()
-        if not self._is_unknown():
-            self._keep(self._changes.place)
+        self._keep(self._changes.place, self._is_unknown())
         self._say_statements()
         if self._changes.is_empty and not self._said_none:
             self._said_none = True
@@ -139,23 +141,24 @@ class Replica:
         sys.stderr.flush()
 
     def _is_unknown(self) -> bool:
-        """Whether the logs have changes of other schemas alone. The name may be wrong then, and the place isn't to move on.
+        """Whether the logs have changes of other schemas alone. The name may be wrong then, and the place isn't to count for another.
 
-        They are read for that once: what was found stays so until a change of this schema comes, with which a place is kept.
+        They are read for that once: what was found stays so until a change of this schema comes.
         """
         source = self._source
-        if self._kept or source.begin != FIRST or self._changes.is_empty:
+        if self._is_known or source.begin != FIRST or self._changes.is_empty:
             return False
-        others = [] if self._is_waiting else self._changes.other_schemas()
-        # One of this schema may have come meanwhile.
-        if others and (source.only_tables or source.schema not in others):
-            self._wait_for_one(others)
+        if not self._is_waiting:
+            others = [] if self._has_waited else self._changes.other_schemas()
+            # One of this schema may have come meanwhile.
+            if self._has_waited or (others and (source.only_tables or source.schema not in others)):
+                self._wait_for_one(others)
         return self._is_waiting
 
     def _wait_for_one(self, others: list[str]) -> None:
         """Says that only others have changes, and waits for one, if that is wanted. Else it is an error."""
-        wanted, but, name = f"the schema {self._source.schema}", f", but of {', '.join(others)}", "name"
-        if self._source.schema in others:
+        wanted, but, name = f"the schema {self._source.schema}", f", but of {', '.join(others)}" if others else "", "name"
+        if self._source.schema in others or (self._has_waited and self._source.only_tables):
             wanted, but, name = self._source.only_tables, "", "names"
         if not self._follows:
             raise WrongWordsError(f"no log has a change of {wanted}{but}: mend the {name}, or begin with --begin now")
@@ -185,19 +188,19 @@ class Replica:
             self._target.commit(text)
         except MisfitError as error:
             raise MisfitError(f"up to {self._token}: {error}") from error
-        self._place, self._kept = place, text
+        self._place, self._kept, self._is_known = place, text, True
         self._transaction, self._whole = None, 0
         if self._alone:
             self._alone -= 1
             self._batcher.alone = self._alone > 0
 
-    def _keep(self, place: Place) -> None:
+    def _keep(self, place: Place, is_unknown: bool = False) -> None:
         """Keeps the place at the end of a look, which may be in a later log than the last change."""
-        text = place.to_text()
+        text = self._source.waiting_behind(place) if is_unknown else place.to_text()
         if text != self._kept and place.file is not None:
             self._target.begin(self._kept)
             self._target.commit(text)
-            self._place, self._kept = place, text
+            self._place, self._kept, self._is_known = place, text, not is_unknown
 
     def _take_back(self) -> None:
         """Goes back to the kept place."""
@@ -207,7 +210,7 @@ class Replica:
         self._transaction, self._whole = None, 0
         if self._target.place() != self._kept:
             raise AwayError("another process has moved the target on: start again")
-        self._changes = Changes(self._source, self._place, again=True)
+        self._changes = Changes(self._source, self._place, is_first=not self._is_known, again=True)
 
 
 def opened(words: str, schema: str, unfit: str = "error") -> Target:

@@ -11,7 +11,7 @@ from binlogfeed import Place
 from logs import insert, log_of
 from replicas import SHOP_ROWS, Kills, LinesTest, SqliteFiles, ended, ended_with_hints, full_line, started
 from sqlite import Sqlite
-from support import PROGRAM, SECONDS, SHOP, without_beginning
+from support import PROGRAM, SHOP, without_beginning
 
 # How often the replica is killed while it works: over the shop's logs and over the bank's, with one transaction in a
 # commit and with several.
@@ -313,20 +313,13 @@ class Ends(Files):
 class Follows(Files):
     """A replica that goes on."""
 
-    def soon(self, wanted, message):
-        """Waits until something holds."""
-        until = time.monotonic() + SECONDS / 2
-        while not wanted():
-            self.assertLess(time.monotonic(), until, message)
-            time.sleep(0.02)
-
     def test_follow(self):
         """It takes what comes, also while the index is away, and SIGTERM ends it."""
         target = self.files.new_target("shop")
         index = self.put("binlog.index", b"./binlog.000001\n")
         self.put("binlog.000001", SHOP[0].read_bytes())
         options = ("--follow", "--interval", "0.02", "--commit-every", "100")
-        with started(target, "shop", *options, logs=str(self.folder)) as process:
+        with started(target, "shop", *options, logs=str(self.folder), patient=True) as process:
             self.in_time(process.kill)
             self.soon(lambda: len(self.files.rows_of(target).get("customer", [])) == 3, "the first log isn't taken")
             index.rename(self.folder / "away")
@@ -340,7 +333,7 @@ class Follows(Files):
         self.assertEqual(json.loads(self.place(target))["file"], "binlog.000002")
 
     def waits(self, schema, wanted, contents, *options):
-        """A replica that waits for the first change: it says so once, and reads the logs once for that. No place is kept before."""
+        """A replica that waits for the first change: it says so once, and reads the logs once for that. The place says that it waits."""
         calls, target = self.folder / f"{schema}.calls", self.files.made("")
         program = self.stub(f'echo "$*" >> {calls}\nexec {PROGRAM} "$@"')
         first, quiet, more = contents
@@ -352,9 +345,11 @@ class Follows(Files):
             self.assertEqual(process.stderr.readline(), f"replica: no log has a change of {wanted}: waiting for one\n")
             quiet()
             time.sleep(0.5)
-            self.assertEqual((process.poll(), self.place(target)), (None, ""))
+            self.assertIsNone(process.poll())
+            place = json.loads(self.place(target))
+            self.assertEqual((place["token"], place["waits_for"][0]), (None, schema))
             more()
-            self.soon(lambda: self.place(target), "the first change isn't taken")
+            self.soon(lambda: "waits_for" not in self.place(target), "the first change isn't taken")
             process.send_signal(signal.SIGTERM)
             self.assertEqual((process.wait(), process.stderr.read()), (0, ""))
         self.assertEqual([line.split()[0] for line in calls.read_text().splitlines() if "--follow" not in line], ["read"])
@@ -372,9 +367,39 @@ class Follows(Files):
 
     def test_a_table_without_a_change_yet(self):
         ends = 2149, 2149 + 1, SHOP[0].stat().st_size
-        contents = [lambda end=end: self.put("binlog.000001", SHOP[0].read_bytes()[:end]) for end in ends]
+        contents = [lambda end=end: self.write_on("binlog.000001", SHOP[0].read_bytes()[:end]) for end in ends]
         target = self.waits("shop", "line yet", contents, "--only-tables=line")
         self.assertEqual(len(self.files.rows_of(target)["line"]), 2)
+
+    def test_begun_again_before_the_first_change(self):
+        """It goes on in the log that it had come to, where it waits for the same. Another, or one with --begin, begins anew."""
+        logs, target = f"{self.folder}/binlog.0*", self.files.made("")
+        waits = "replica: no log has a change of the schema s yet{}: waiting for one\n"
+        options = ("--create", "--follow", "--interval", "0.02")
+        self.put("binlog.000001", SHOP[0].read_bytes())
+        for begins, but in (("begins with binlog.000001, the first log", ", but of shop"), ("goes on in binlog.000002, as the target has it", "")):
+            with started(target, "s", *options, logs=logs) as process:
+                self.in_time(process.kill)
+                self.assertEqual(process.stderr.readline(), f"replica: {begins}\n")
+                self.assertEqual(process.stderr.readline(), waits.format(but))
+                self.put("binlog.000002", SHOP[1].read_bytes())
+                self.soon(lambda: '"binlog.000002"' in self.place(target))
+                process.send_signal(signal.SIGTERM)
+                self.assertEqual((process.wait(), process.stderr.read()), (0, ""))
+        kept = self.place(target)
+        self.assertEqual(json.loads(kept)["waits_for"], ["s", ""])
+        for schema, but in (("s", ""), ("other", ", but of shop")):
+            said = f"replica: no log has a change of the schema {schema}{but}: mend the name, or begin with --begin now\n"
+            self.assertEqual(ended(target, schema, "--create", logs=logs), (2, said))
+            self.assertEqual(self.place(target), kept)
+        self.put("binlog.000003", log_of([insert(1)]))
+        for _ in range(2):
+            self.assertEqual(ended(target, "s", "--create", logs=logs), (0, ""))
+            self.assertEqual(len(self.files.asked(target, "SELECT * FROM t")), 1)
+        self.assertNotIn("waits_for", self.place(target))
+        self.files.asked(target, "UPDATE binlogfeed_place SET place = ?", [kept])
+        self.assertEqual(ended(target, "other", "--begin", "now", logs=logs), (0, ""))
+        self.assertEqual(json.loads(self.place(target))["token"], f"{len(log_of([insert(1)]))}.0@binlog.000003")
 
     def test_a_second_one(self):
         """It is refused when it starts, by any name of the file. The lock ends with the first one's process, however that ends."""
@@ -400,7 +425,7 @@ class Follows(Files):
             self.put(path.name, path.read_bytes())
         index = self.put("late", b"./binlog.000001\n./binlog.000002\n")
         threading.Timer(0.4, lambda: index.rename(self.folder / "binlog.index")).start()
-        self.assertEqual(ended(target, "shop", logs=str(self.folder)), (0, ""))
+        self.assertEqual(ended(target, "shop", logs=str(self.folder), patient=True), (0, ""))
         self.assertEqual(self.files.rows_of(target), SHOP_ROWS)
 
     def test_a_log_without_changes(self):

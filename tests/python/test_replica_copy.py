@@ -77,6 +77,15 @@ class Sqlite(CopyTest):
         self.assertEqual(self.ran(target, "--create", "--from", URL)[0], 0)
         self.assertEqual(self.ran(target, "--create", "--from", URL), (0, ""))
 
+    def test_a_place_before_the_first_change(self):
+        """A replica that waited has nothing that a copy would come behind."""
+        target = self.sqlite("waited")
+        self.assertEqual(self.ran(target, schema="none")[0], 2)
+        place = '{"file": "binlog.000005", "begins": null, "token": null, "waits_for": ["made", ""]}'
+        self.sqlite("waited", f"UPDATE binlogfeed_place SET place = '{place}'")
+        self.assertEqual(self.ran(target, "--create", "--from", URL)[0], 0)
+        self.assertEqual(self.in_sqlite("waited")[0].keys(), set(TABLES))
+
     def test_some_tables(self):
         for options in ((), ("--from", URL)):
             name = f"some{len(options)}"
@@ -103,6 +112,20 @@ class Sqlite(CopyTest):
         self.assertEqual((status, said.count("the target has no table nokey")), (7, 1))
         status, said = self.ran(self.sqlite("bare"), "--only-tables=nokey")
         self.assertEqual((status, said.count("the target has no table nokey")), (7, 1))
+
+    def test_another_snapshot_is_waited_for(self):
+        class Second(Recorded):
+            """A server that another one reads from until the second time that it is asked."""
+
+            def ask(self, statement):
+                """Says so."""
+                found = super().ask(statement)
+                return [(b"0",)] if statement.endswith(", 0)") else found
+
+        with mock.patch("test_replica_copy.Recorded", Second):
+            status, said = self.ran(self.sqlite("copy"), "--create", "--only-tables=nokey", "--from", URL)
+        self.assertEqual((status, said.count("\n")), (0, 2), said)
+        self.assertTrue(said.startswith("replica: another snapshot reads its rows: waiting for its end, for 86400 seconds at most\n"))
 
     def test_an_error_leaves_nothing(self):
         class Failing(Recorded):
