@@ -45,9 +45,9 @@ class Recorded:
                 self.answers[told["statement"]] = rows
 
     def ask(self, statement):
-        """The answer to a statement. That to GET_LOCK wasn't recorded: by MySQL's manual it is 1 where the lock was free."""
+        """The answer to a statement. Of those to the same one it is the last: the lock was free then."""
         self.asked.append(statement)
-        return [(b"1",)] if statement.startswith("SELECT GET_LOCK(") else self.answers[statement]
+        return self.answers[statement]
 
     def stream(self, statement):
         """The same, some rows at a time."""
@@ -191,17 +191,28 @@ class Another(CommandTest):
                 made.append(self)
 
             def ask(self, statement):
-                """Answers in turn who asks for the lock."""
-                found = super().ask(statement)
-                return [(answers.pop(0),)] if "GET_LOCK" in statement else found
+                """Answers in turn who asks for the lock, or refuses."""
+                if "GET_LOCK" not in statement:
+                    return super().ask(statement)
+                self.asked.append(statement)
+                answer = answers.pop(0)
+                if isinstance(answer, Exception):
+                    raise answer
+                return [(answer,)]
 
         status, lines, said = self.ran("made", "--only-tables=nokey", *words, connection=Second)
         asked = made[0].asked[1:]
         begin = "FLUSH TABLES WITH READ LOCK"
         return status, len(lines), said, [it for it in asked[: asked.index(begin) if begin in asked else None] if "LOCK" in it]
 
+    def test_what_a_server_answers(self):
+        """The same as the answers here: while another snapshot read, for a second, and behind it."""
+        self.ran("made", "--only-tables=nokey")
+        answers = [Recorded.answers[f"SELECT GET_LOCK('binlogfeed.snapshot', {seconds})"] for seconds in (1, 0)]
+        self.assertEqual(answers, [[(b"0",)], [(b"1",)]])
+
     def test_it_is_waited_for(self):
-        """That is said once, and nobody else has to wait meanwhile."""
+        """That is said once, and nobody else has to wait meanwhile. NULL is an error, by MySQL's manual."""
         waits = "binlogfeed: another snapshot reads its rows: waiting for its end, for {} seconds at most\n"
         asks = [f"SELECT GET_LOCK('binlogfeed.snapshot', {seconds})" for seconds in (0, 10, 10, 5)]
         for answers, words, told, count in (
@@ -223,6 +234,36 @@ class Another(CommandTest):
         for word in ("-1", "long", "nan"):
             with self.assertRaises(SystemExit), contextlib.redirect_stderr(io.StringIO()):
                 self.ran("made", "--wait", word)
+
+    def test_a_connection_that_ends_meanwhile(self):
+        """As a MySQL 9.7.4 says it where it is killed, where its statement is, and where the server is shut down."""
+        for said_of_it, number in (("Lost connection to MySQL server during query", 2013), ("Query execution was interrupted", 1317)):
+            line = f"binlogfeed: the server: {said_of_it} ({number})"
+            status, lines, said, asked = self.behind([b"0", b"0", ServerFault(line, number)])
+            self.assertEqual((status, lines, len(asked), said.splitlines()[1:]), (4, 0, 3, [line]))
+
+    def test_no_connection_stands_idle_meanwhile(self):
+        """Those of other processes are made behind it: a server or a network ends one that stands idle."""
+        made = []
+
+        class Counted(Recorded):
+            """A connection that is counted. The second answer has the lock."""
+
+            def __init__(self, address):
+                """Counts it."""
+                super().__init__(address)
+                made.append(self)
+
+            def ask(self, statement):
+                """Says how many there were when the lock was asked for."""
+                if "GET_LOCK" not in statement:
+                    return super().ask(statement)
+                counts.append(len(made))
+                return [(b"%d" % (len(counts) - 1),)]
+
+        counts = []
+        status, lines, said = self.ran("--jobs=3", "made", "--only-tables=nokey", connection=Counted)
+        self.assertEqual((status, len(lines), counts, len(made)), (0, 2, [1, 1], 3), said)
 
 
 class Refused(CommandTest):

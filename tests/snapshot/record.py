@@ -5,6 +5,7 @@ usage: tests/snapshot/record.py SOCKET SCHEMA.. > answers.jsonl
 
 A line has a statement, and the rows that the server answered. Each byte of a value is a character of the text that stands for it.
 """
+import contextlib
 import json
 import sys
 from pathlib import Path
@@ -14,7 +15,7 @@ sys.path.insert(0, str(TOP / "python"))
 
 from binlogfeed.access import Settings  # noqa: E402
 from binlogfeed.snapshot.rows import Lines, characters_of, lines_of  # noqa: E402
-from binlogfeed.snapshot.server import Connection, frozen  # noqa: E402
+from binlogfeed.snapshot.server import Connection, ServerFault, frozen, wait_for_others  # noqa: E402
 from binlogfeed.snapshot.tables import tables_of  # noqa: E402
 
 
@@ -40,10 +41,23 @@ def write(statement, rows):
     print(json.dumps({"statement": statement, "rows": told}, ensure_ascii=False))
 
 
+def say(text):
+    """Says something on standard error."""
+    print(text, file=sys.stderr, flush=True)
+
+
 def main():
     """Asks for all that a snapshot asks for."""
     socket, *schemas = sys.argv[1:]
-    connection = Recorder(Settings("localhost", 3306, "root", "", socket=socket))
+    settings = Settings("localhost", 3306, "root", "", socket=socket)
+    other = Connection(settings)
+    wait_for_others(other, say)
+    connection = Recorder(settings)
+    # What the server says while another one reads, and then that it may read itself.
+    with contextlib.suppress(ServerFault):
+        wait_for_others(connection, say, 1)
+    other.close()
+    wait_for_others(connection, say)
     moment = frozen([connection])
     tables = tables_of(connection, schemas)
     characters = characters_of(connection, tables)

@@ -71,10 +71,11 @@ def snapshot(given: argparse.Namespace) -> None:
 
 def write(given: argparse.Namespace, settings: Settings, schemas: Sequence[str]) -> Moment:
     """Writes the rows, and answers when they were so."""
-    connections = [Connection(settings) for _ in range(given.jobs)]
-    first = connections[0]
+    first = Connection(settings)
     check_are_there(first, schemas)
     wait_for_others(first, say, given.wait)
+    # They are made now, since a server or a network ends those that stand idle while the first one waits.
+    connections = [first, *(Connection(settings) for _ in range(given.jobs - 1))]
     moment = frozen(connections)
     say(f"the tables as they are at {moment.token}; the lock on all tables was held for {moment.held:.3f} seconds")
     tables = tables_of(first, schemas, names(given.only_tables), names(given.ignored_tables))
