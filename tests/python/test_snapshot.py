@@ -3,7 +3,9 @@ import contextlib
 import importlib.util
 import io
 import json
+import os
 import re
+import select
 import subprocess
 import sys
 from unittest import TestCase, mock, skipIf
@@ -18,7 +20,7 @@ from binlogfeed.snapshot.documents import document
 from binlogfeed.snapshot.rows import WHOLE, Lines, Range, parts_of
 from binlogfeed.snapshot.server import Moment, ServerFault, row_of
 from binlogfeed.snapshot.tables import Table, Told, tables_of
-from support import PROGRAM, TOP, FolderTest
+from support import PROGRAM, SECONDS, TOP, FolderTest
 
 RECORDED = TOP / "tests/snapshot/answers.jsonl"
 # Two schemas, and where the log has the inserts of each.
@@ -173,6 +175,22 @@ class Whole(CommandTest):
 
         status, _, said = self.ran("--jobs=2", "made", connection=Failing)
         self.assertEqual((status, said.count("altered (1412)")), (4, 1))
+
+    def test_no_process_outlives_the_first(self):
+        """Not even where nobody takes their lines. Standard error ends once none of them runs."""
+        makes = "import sys, test_snapshot as it; it.mock.patch('binlogfeed.snapshot.command.Connection', it.Recorded).start()"
+        command = [sys.executable, "-c", f"{makes}; sys.exit(it.main())", "snapshot", "--jobs=3", "truth", "made"]
+        paths = os.pathsep.join(map(str, (TOP / "tests/python", TOP / "python")))
+        taken, given = os.pipe()
+        self.addCleanup(os.close, taken)
+        self.addCleanup(os.close, given)
+        pipes = {"stdout": given, "stderr": subprocess.PIPE, "env": {**os.environ, "PYTHONPATH": paths}}
+        with subprocess.Popen(command, **pipes) as process:
+            process.stderr.readline()
+            self.soon(lambda: not select.select([], [given], [], 0)[1], "the pipe isn't full")
+            process.kill()
+            self.assertTrue(select.select([process.stderr], [], [], SECONDS)[0])
+            self.assertEqual(process.stderr.read(), b"")
 
 
 class Another(CommandTest):

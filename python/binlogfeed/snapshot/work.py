@@ -5,6 +5,7 @@ import multiprocessing
 import os
 import shutil
 import sys
+import threading
 import time
 from collections.abc import Sequence
 from contextlib import nullcontext
@@ -118,6 +119,7 @@ def write_some(connection: Connection, parts: Sequence[Part], next_part: Any, ou
 
 def work(connection: Connection, parts: Sequence[Part], next_part: Any, output: Output, said: Any) -> None:
     """What a process does. It says what ended it early."""
+    threading.Thread(target=end_with_the_first, daemon=True).start()
     try:
         write_some(connection, parts, next_part, output, None)
     except BinlogfeedError as error:
@@ -126,6 +128,14 @@ def work(connection: Connection, parts: Sequence[Part], next_part: Any, output: 
         said.put(("", 0))
     except KeyboardInterrupt:
         pass
+    os._exit(0)
+
+
+def end_with_the_first() -> None:
+    """Ends this process once the first one has ended, whoever takes the lines: until then the server would have another snapshot wait."""
+    first = multiprocessing.parent_process()
+    if first:
+        first.join()
     os._exit(0)
 
 
