@@ -9,7 +9,7 @@ from built.check import Check, Outcome, Wanted, differs, run
 STATUSES = {
     0: "the files were read to their end; a last transaction that is cut short is left out",
     1: "something in a file can't be taken in: the line on standard error says where and what",
-    2: "the command line, a value of an option, or two files with one name",
+    2: "the command line or a value in it, two files with one name; with --follow one out of order",
     3: "a token that is none, or fits no place; with --follow a file that is gone or shorter",
     4: "a file can't be opened or read, or the output can't be written",
     5: "out of memory",

@@ -135,6 +135,15 @@ def judge_help(program: Path, folder: Path) -> list[str]:
     return differs(run_at_terminal(program, command(["read", "--help"]), folder), Wanted(0, elsewhere.stdout))
 
 
+def judge_no_line(program: Path, folder: Path) -> list[str]:
+    """A history that has found no line ends well, and its hint says what it has looked for."""
+    lay_out(folder)
+    words = command(["history", "--schema=s", "--table=none", "--key=[1]", "log"])
+    reasons = differs(run_asking(None, program, words, folder), Wanted(0, b"", b""))
+    reasons += differs(run_at_terminal(program, words, folder), Wanted(0, b"", NO_LINE))
+    return reasons + differs(run_asking("1", program, words, folder), Wanted(0, b"", NO_LINE))
+
+
 def judge_output_alone(program: Path, folder: Path) -> list[str]:
     """Where standard output is a terminal and standard error is none, there is no hint."""
     terminal, its_side = pty.openpty()
@@ -304,6 +313,11 @@ OTHER_LOG = "hint: the token is of another log with that name"
 GONE = "hint: the token's file isn't among the files: give it, or where it was purged take a new copy of the tables\n"
 ONE_NAME = "hint: a token names its file without the folder, so no two files of a list may have one name\nhint: the file is logs/log\n"
 
+NO_LINE = (
+    b"hint: no change in the files has this schema, table and key: a key has the value of each key column, of its type and in the key's order, "
+    b"as lines have them\n"
+)
+
 # Other runs that end early.
 RUNS = (
     Case(["read", "--from", "153.1@gone", "log"], 3, "token refused: TokenNoFile", GONE),
@@ -344,6 +358,14 @@ RUNS = (
         "hint: the server lost the file's end when its machine lost power or crashed (with sync_binlog=1, too): "
         "lines were written of what it lost\n",
         b"less/log\n\n",
+    ),
+    Case(
+        ["read", "--follow", "log", "logs/next"],
+        2,
+        "file out of order: log",
+        "hint: a file that the list before had, too, stands behind that list's last one: "
+        "give the files in the order in which the server wrote them\n",
+        b"logs/next\nlog\n\n",
     ),
     Case(["read", "--follow", "log", "logs/log"], 2, "duplicate file log", ONE_NAME),
     Case(["read", "--follow", "log"], 2, "duplicate file log", ONE_NAME, b"log\nlogs/log\n\n"),
@@ -402,6 +424,7 @@ def checks() -> list[Check]:
         *[Check(f"hints of an output: {script}", partial(judge_output, script)) for script in OUTPUTS],
         *[Check(f"no hints for {value!r}", partial(judge_asked, value)) for value in ("", "0", "11", "yes")],
         Check("at a terminal: a run that ends well", judge_success),
+        Check("hints: a history without a line", judge_no_line),
         Check("at a terminal: help", judge_help),
         Check("an output at a terminal, and standard error elsewhere", judge_output_alone),
     ]

@@ -35,7 +35,7 @@ const STATUSES: &str = "\
 Exit status:
   0  the files were read to their end; a last transaction that is cut short is left out
   1  something in a file can't be taken in: the line on standard error says where and what
-  2  the command line, a value of an option, or two files with one name
+  2  the command line or a value in it, two files with one name; with --follow one out of order
   3  a token that is none, or fits no place; with --follow a file that is gone or shorter
   4  a file can't be opened or read, or the output can't be written
   5  out of memory";
@@ -122,9 +122,9 @@ With --follow the program doesn't end with the files. FILE.., where given, is th
 of files. Each further list stands on standard input: a path a line, and then an empty line;
 an empty line alone means the same files again. For each list the lines of the changes that
 are new are written, and an empty line behind them. The last file of the list before must be
-in it; first files may be gone, and further ones may have come. The end of the input ends the
-program. Here --from also takes POSITION.0@FILE where the last transaction of FILE ends at
-POSITION, as MySQL tells its own position.
+in it; first files may be gone, and new ones may have come behind it. The end of the input
+ends the program. Here --from also takes POSITION.0@FILE where the last transaction of FILE
+ends at POSITION, as MySQL tells its own position.
 
 Examples:
   binlogfeed read --only-schemas shop --ignored-tables cart,visit binlog.000001 binlog.000002

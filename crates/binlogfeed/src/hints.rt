@@ -1,7 +1,7 @@
 //! Hints: what stands below the line on standard error where that is a terminal, or where BINLOGFEED_HINTS=1 asks for them.
 //!
 //! Programs read the line alone, so a hint says nothing that they need. No clause speaks of it. None of this is called where a run goes
-//! well: the loops of a run are compiled as if there were no hints.
+//! well, but for a history without a line: the loops of a run are compiled as if there were no hints.
 
 mod follow;
 mod kinds;
@@ -11,7 +11,7 @@ mod words;
 
 pub(crate) use follow::{hint_input, hint_look, hint_refusal};
 pub(crate) use opening::hint_unopened;
-pub(crate) use run::hint_run;
+pub(crate) use run::{hint_no_line, hint_run};
 use std::io::Eprint;
 pub(crate) use words::hint_words;
 

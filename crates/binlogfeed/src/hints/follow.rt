@@ -49,6 +49,10 @@ pub(crate) fn hint_refusal<R: Eprint + Files>(
     match fault {
         GoOnFault::NotAtEnd => {}
         GoOnFault::DuplicateFile(file) => tell_look(rt, &RunFault::DuplicateFile(*file), paths),
+        GoOnFault::OutOfOrder(_) => give(
+            rt,
+            "a file that the list before had, too, stands behind that list's last one: give the files in the order in which the server wrote them",
+        ),
         GoOnFault::FileGone => give(
             rt,
             "the last file of the list before must be in the next list, too: where it was purged before, changes are missing",

@@ -30,6 +30,18 @@ pub(crate) fn hint_run<R: Eprint + Files>(
     }
 }
 
+/// Says what a history looks for, where it has found no line.
+#[cold]
+#[inline(never)]
+pub(crate) fn hint_no_line<R: Eprint>(rt: &R, audience: Audience) {
+    if audience.is_person() {
+        give(
+            rt,
+            "no change in the files has this schema, table and key: a key has the value of each key column, of its type and in the key's order, as lines have them",
+        );
+    }
+}
+
 /// Says what a fault means, and the path of its file.
 pub(super) fn tell<R: Eprint + Files>(rt: &R, fault: &RunFault, path: Option<&str>) {
     give(rt, cause(rt, fault, path));
