@@ -136,10 +136,11 @@ LooksAreWritten =
 
 -- ---- the last file of a look
 
--- it may be any file of the next list, and has to be one
+-- it may be any file of the next list, and has to be one; none of the look's files stands behind it
 abbrev pub LastFilesStay : Type 0
 LastFilesStay =
     HasLast two_names (third_name ∷ second_name ∷ []) × (HasLast two_names (first_name ∷ []) → ⊥)
+    × (HasLast two_names (second_name ∷ first_name ∷ []) → ⊥)
     × ((style : Style) (chosen : Filter) → EachKeepsLast style chosen Beginning 0 (Some []) (Some []) (Some (Ok tt)) (look_at (third_file ∷ []) ∷ look_at one_file ∷ []) → ⊥)
 
 -- Looks at files that are honest, and a start behind which their faults stand: so the promises of looks aren't empty.
@@ -161,6 +162,7 @@ TextsOfRefusals =
     (list_refusal_text two_names (first_name ∷ []) going.FileGone ≡ codes "binlogfeed: file gone: binlog.000002")
     × (list_refusal_text two_names two_names going.FileShorter ≡ codes "binlogfeed: file shorter: binlog.000002")
     × (list_refusal_text (first_name ∷ []) two_names (going.DuplicateFile 1) ≡ codes "binlogfeed: duplicate file binlog.000002")
+    × (list_refusal_text two_names (second_name ∷ first_name ∷ []) (going.OutOfOrder 1) ≡ codes "binlogfeed: file out of order: binlog.000001")
     × (list_refusal_text two_names (third_name ∷ []) (going.Earlier (reading.Read 0)) ≡ codes "binlogfeed: read fault: binlog.000001")
     × (list_refusal_text two_names (third_name ∷ []) (going.Later (reading.Read 0)) ≡ codes "binlogfeed: read fault: binlog.000003")
     × (list_refusal_text two_names two_names (going.Later (reading.WindowTooSmall 99)) ≡ codes "binlogfeed: out of memory")
@@ -168,7 +170,7 @@ TextsOfRefusals =
 
 abbrev pub StatusesOfRefusals : Type 0
 StatusesOfRefusals =
-    (refusal_status_of (going.DuplicateFile 1) ≡ 2) × (refusal_status_of going.FileGone ≡ 3) × (refusal_status_of going.FileShorter ≡ 3)
+    (refusal_status_of (going.DuplicateFile 1) ≡ 2) × (refusal_status_of (going.OutOfOrder 1) ≡ 2) × (refusal_status_of going.FileGone ≡ 3) × (refusal_status_of going.FileShorter ≡ 3)
     × (refusal_status_of (going.Earlier (reading.Read 0)) ≡ 4) × (refusal_status_of (going.Later (reading.Read 0)) ≡ 4)
     × (refusal_status_of (going.Later reading.OutOfMemory) ≡ 5) × (refusal_status_of (going.Earlier (reading.WindowTooSmall 99)) ≡ 5)
     × (list_status_of lists.Unreadable ≡ 4) × (list_status_of lists.OutOfMemory ≡ 5)

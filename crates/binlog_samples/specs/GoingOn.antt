@@ -142,7 +142,7 @@ RefusalsOfReading =
 
 abbrev pub RefusalsOfFiles : Type 0
 RefusalsOfFiles =
-    (IsOfReading going.NotAtEnd → ⊥) × (IsOfReading (going.DuplicateFile 1) → ⊥) × (IsOfReading going.FileGone → ⊥) × (IsOfReading going.FileShorter → ⊥)
+    (IsOfReading going.NotAtEnd → ⊥) × (IsOfReading (going.DuplicateFile 1) → ⊥) × (IsOfReading (going.OutOfOrder 1) → ⊥) × (IsOfReading going.FileGone → ⊥) × (IsOfReading going.FileShorter → ⊥)
     × (IsOfReading (going.Earlier (reading.Log second_end)) → ⊥) × (IsOfReading (going.Later (reading.Log (magic_of 0))) → ⊥)
 
 -- Only a feed to which a change may be still to come, or one that met a fault, refuses by that.
@@ -154,7 +154,8 @@ NotAtEnd = (feed : FeedView)
 abbrev pub followed_names : List (List ℕ)
 followed_names = first_name ∷ second_name ∷ []
 
--- a file is gone where none has the name of the feed's last one, and of two files with one name the second is told
+-- A file is gone where none has the name of the feed's last one, and of two files with one name the second is told. One of the feed's files
+-- is out of order where it stands behind its last one.
 abbrev pub GoOnRefused : Type 0
 GoOnRefused = (feed : FeedView)
     → RefusesGoOn (record feed { names = followed_names }) (first_name ∷ third_name ∷ []) going.FileGone
@@ -162,3 +163,6 @@ GoOnRefused = (feed : FeedView)
     × RefusesGoOn (record feed { names = followed_names }) (third_name ∷ third_name ∷ []) (going.DuplicateFile 1)
     × (RefusesGoOn (record feed { names = followed_names }) (third_name ∷ third_name ∷ []) (going.DuplicateFile 0) → ⊥)
     × (RefusesGoOn (record feed { names = third_name ∷ third_name ∷ [] }) followed_names (going.DuplicateFile 1) → ⊥)
+    × RefusesGoOn (record feed { names = followed_names }) (second_name ∷ third_name ∷ first_name ∷ []) (going.OutOfOrder 2)
+    × (RefusesGoOn (record feed { names = followed_names }) (second_name ∷ third_name ∷ first_name ∷ []) (going.OutOfOrder 1) → ⊥)
+    × (RefusesGoOn (record feed { names = followed_names }) (first_name ∷ second_name ∷ []) (going.OutOfOrder 0) → ⊥)

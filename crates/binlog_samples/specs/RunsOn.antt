@@ -88,10 +88,12 @@ ChangesUpTo = (change : RowChange)
     → StandsUpTo two_names 0 (record change { file = first_name }) × StandsUpTo two_names 1 (record change { file = first_name }) × StandsUpTo two_names 1 (record change { file = second_name })
     × (StandsUpTo two_names 0 (record change { file = second_name }) → ⊥)
 
--- a failed read and a log fault of a later list name the file that has the name of the last one before
+-- a failed read and a log fault of a later list name the file that has the name of the last one before, and those before name that one
 abbrev pub LastNamed : Type 0
 LastNamed =
     NamesLast (first_name ∷ []) two_names (going.Later (reading.Read 0)) × (NamesLast (first_name ∷ []) two_names (going.Later (reading.Read 1)) → ⊥)
     × NamesLast two_names (third_name ∷ second_name ∷ []) (going.Later (reading.Read 1)) × (NamesLast two_names (third_name ∷ second_name ∷ []) (going.Later (reading.Read 0)) → ⊥)
     × NamesLast (first_name ∷ []) two_names (going.Later (reading.Log second_end)) × (NamesLast (second_name ∷ []) two_names (going.Later (reading.Log second_end)) → ⊥)
     × NamesLast (first_name ∷ []) [] (going.Later reading.OutOfMemory) × NamesLast (first_name ∷ []) [] (going.Earlier (reading.Read 0))
+    × (NamesLast two_names [] (going.Earlier (reading.Read 0)) → ⊥) × NamesLast (first_name ∷ []) two_names (going.Earlier (reading.Log second_end))
+    × (NamesLast two_names [] (going.Earlier (reading.Log second_end)) → ⊥)

@@ -148,7 +148,7 @@ ghost use Rattle.binlogfeed.specs.Faults.{name_of};
 ghost use Rattle.binlogfeed.specs.LineSteps.{Gains};
 
 /// The name of a file of the list.
-fn file_name<L: Logs>(logs: &L, file: usize) -> &str
+pub(crate) fn file_name<L: Logs>(logs: &L, file: usize) -> &str
     requires { file < length (L.names logs.now) }
     ensures { result.now ≡ name_of (L.names logs.now) file }
 {

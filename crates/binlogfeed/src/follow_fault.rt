@@ -7,7 +7,7 @@ ghost use Rattle.binlog_feed.specs.Growing.{last_file};
 ghost use Rattle.binlogfeed.specs.LineSteps.{Gains};
 ghost use Rattle.binlogfeed.specs.LookSteps.{refusal_in};
 
-use crate::fault::{RunFault, fault_line, status};
+use crate::fault::{RunFault, fault_line, file_name, status};
 use crate::lists::ListFault;
 use binlog_feed::{FeedFault, GoOnFault};
 use binlog_frame::{Logs, OpenFault};
@@ -72,6 +72,10 @@ pub(crate) fn refusal_line<L: Logs>(
     match fault {
         GoOnFault::NotAtEnd => Ok(()),
         GoOnFault::DuplicateFile(file) => fault_line(&RunFault::DuplicateFile(*file), logs, line),
+        GoOnFault::OutOfOrder(file) => {
+            let name = file_name(logs, *file);
+            write!(line, "binlogfeed: file out of order: {name}")
+        }
         GoOnFault::FileGone => {
             let name = last_name(earlier);
             write!(line, "binlogfeed: file gone: {name}")
@@ -91,7 +95,7 @@ fn refusal_status(fault: GoOnFault) -> u8
 {
     match fault {
         GoOnFault::NotAtEnd => 1,
-        GoOnFault::DuplicateFile(_) => 2,
+        GoOnFault::DuplicateFile(_) | GoOnFault::OutOfOrder(_) => 2,
         GoOnFault::FileGone | GoOnFault::FileShorter => 3,
         GoOnFault::Earlier(fault) | GoOnFault::Later(fault) => status(&fault_of_reading(fault)),
     }

@@ -55,7 +55,7 @@ returns-clause-failures_of_refusals c = (
   (omega arith, inl (omega arith), record { name = first_name; named = refl; found = first_named first_name (second_name ∷ []) }),
   (λ fails. first_is_not_second (sym (same_Some second_name first_name (fails.2.found.1 ∙ sym fails.2.named)))),
   (λ fails. still_none fails.1),
-  (omega arith, inl (omega arith), tt),
+  (omega arith, inl (omega arith), refl),
   (λ fails. still_none fails.1),
   (λ fails. let below = fails.0 in omega (arith, below)),
 )

@@ -1,4 +1,5 @@
 use Rattle.std.proofs.Common.{rules, Bool, ◌≡◌, ◌<◌, ℕ, zero, suc, List, [], ◌∷◌, ◌++◌, length, length-append, map, take, None, Some, refl, sym, ap, ◌∙◌, subst, inl, inr, arith}
+use Rattle.std.proofs.lemmas.Option.{slice_get_within}
 use Rattle.std.specs.Prelude.{drop, slice_get, unwrap_or}
 use Rattle.binlog_frame.specs.Cutting.{Event, Reading}
 use Rattle.binlog_frame.specs.Frames.{place_of, to_come}
@@ -8,7 +9,7 @@ use Rattle.binlog_frame.specs.Splitting.{SplitsFile, then_all}
 use Rattle.binlog_feed.specs.ChangeMachine.{RemainingChanges, feed_files, nothing_so_far, remaining_changes_at, remaining_changes_in_file}
 use Rattle.binlog_feed.specs.Contents.{content_fault}
 use Rattle.binlog_feed.specs.FeedView.{filtered, passes_by}
-use Rattle.binlog_feed.specs.Growing.{IsBehindAt, last_file}
+use Rattle.binlog_feed.specs.Growing.{AreNewBehind, IsBehindAt, IsLastByName, last_file}
 use Rattle.binlog_units.specs.Parsing.{terms_of}
 use Rattle.binlog_units.specs.Places.{begin_file}
 use Rattle.binlog_units.specs.declared.place.Place.{Place}
@@ -65,10 +66,19 @@ none_has names later first last named is differ h =
     let equal : first ≡ last = cc in
     differ equal
 
+-- the first file stands behind the last one again
+out_of_order : (file : ℕ) → IsLastByName two_names (second_name ∷ first_name ∷ []) file → AreNewBehind two_names (second_name ∷ first_name ∷ []) file → ⊥
+out_of_order zero last new = new 1 first_name (omega arith) refl 0 (omega arith) refl
+out_of_order (suc zero) last new =
+    let same : Some first_name ≡ Some second_name = last.found.1 ∙ sym last.named in
+    search rules
+out_of_order (suc (suc n)) last new = absurd (omega (arith, last.found.0))
+
 pub returns-clause-last_files_stay : goal.returns-clause-last_files_stay
 returns-clause-last_files_stay c = (
-  (1, record { name = second_name; named = refl; found = search rules }),
+  (1, record { name = second_name; named = refl; found = search rules }, λ number name below e i within. absurd (omega (arith, below, slice_get_within (third_name ∷ second_name ∷ []) number name e))),
   none_has two_names (first_name ∷ []) first_name second_name refl refl (λ e. search rules),
+  (λ h. out_of_order h.0 h.1 h.2),
   λ style chosen kept. none_has (first_name ∷ []) (third_name ∷ []) third_name first_name refl refl (λ e. search rules) (kept.0.there (search rules)),
 )
 

@@ -1,6 +1,7 @@
-use Rattle.std.proofs.Common.{◌≡◌, ◌∙◌, ◌<◌, ℕ, zero, suc, [], ◌∷◌, Some, refl, sym, ap, arith}
+use Rattle.std.proofs.Common.{◌≡◌, ◌∙◌, ◌<◌, ℕ, zero, suc, List, [], ◌∷◌, Some, refl, sym, ap, arith}
 use Rattle.std.specs.Prelude.{◌≢◌, slice_get}
 use Rattle.std.proofs.lemmas.Option.{same_Some}
+use Rattle.binlog_samples.specs.GoingOn.{followed_names}
 use Rattle.binlog_samples.specs.Tokens.{first_name, second_name, third_name}
 use Rattle.binlog_samples.proofs.GrownFiles.{numbers_differ}
 use Rattle.binlog_samples.proofs.going_on.sample_refused_feeds.Goals as goal
@@ -14,10 +15,18 @@ first_is_not_second = numbers_differ first_name second_name (λ e. omega (arith,
 third_is_not_second : third_name ≢ second_name
 third_is_not_second = numbers_differ third_name second_name (λ e. omega (arith, e))
 
+third_is_not_first : third_name ≡ first_name → ⊥
+third_is_not_first = numbers_differ third_name first_name (λ e. omega (arith, e))
+
 neither : (i : ℕ) → i < 2 → slice_get (first_name ∷ third_name ∷ []) i ≢ Some second_name
 neither zero lt e = first_is_not_second (same_Some first_name second_name e)
 neither (suc zero) lt e = third_is_not_second (same_Some third_name second_name e)
 neither (suc (suc i)) lt e = omega (arith, lt)
+
+third_is_new : (earlier : ℕ) (name : List ℕ) → Some third_name ≡ Some name → slice_get followed_names earlier ≡ Some name → ⊥
+third_is_new zero name here there = third_is_not_first (same_Some third_name first_name (here ∙ sym there))
+third_is_new (suc zero) name here there = third_is_not_second (same_Some third_name second_name (here ∙ sym there))
+third_is_new (suc (suc earlier)) name here there = cc
 
 pub returns-clause-go_on_refused : goal.returns-clause-go_on_refused
 returns-clause-go_on_refused c feed = (
@@ -29,4 +38,11 @@ returns-clause-go_on_refused c feed = (
       let below = duplicate.1.1 in
       let zero_is : duplicate.1.0 ≡ 0 = omega (arith, below) in
       first_is_not_second (same_Some first_name second_name (ap (slice_get (first_name ∷ second_name ∷ [])) (sym zero_is) ∙ duplicate.1.2))),
+  (
+    0,
+    record { name = second_name; named = refl; found = (omega arith, refl, λ i below e. omega (arith, below)) },
+    record { behind = omega arith; name = first_name; here = refl; earlier = 0; there = refl },
+  ),
+  (λ again. third_is_new again.2.earlier again.2.name again.2.here again.2.there),
+  (λ again. let below = again.2.behind in omega (arith, below)),
 )

@@ -80,5 +80,8 @@ returns-clause-last_named c = (
   record { name = first_name; named = refl; found = first_named first_name (second_name ∷ []) },
   (λ last. first_is_not_second (same_Some first_name second_name (last.found.1 ∙ sym last.named))),
   tt,
-  tt,
+  refl,
+  (λ e. omega (arith, e)),
+  refl,
+  (λ e. omega (arith, e)),
 )
