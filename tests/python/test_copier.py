@@ -567,6 +567,23 @@ class Disturbed(CopyTest):
             self.copy()
         self.assert_copied()
 
+    def test_a_disk_that_does_not_take_a_file(self):
+        """The file is named."""
+        self.server.logs = {SECOND: LOGS[SECOND]}
+        for takes, name in ((0, "binlog.index"), (2, "copy.server"), (4, SECOND), (6, "binlog.index"), (8, SECOND)):
+            taken = []
+
+            def sync(file, takes=takes, taken=taken):
+                """Takes all but one."""
+                taken.append(file)
+                if len(taken) == takes + 1:
+                    raise OSError(28, "No space left on device")
+
+            with mock.patch("os.fsync", sync), self.assertRaises(FileFault) as caught:
+                self.copy()
+            self.assertEqual(caught.exception.line, f"binlogfeed: can't write {self.copies / name}: No space left on device")
+            shutil.rmtree(self.copies)
+
 
 class Bytes(FolderTest):
     """Packets, and who logs in."""

@@ -15,6 +15,7 @@ from binlogfeed import BinLogStreamReader, LogFault, LogLost, LogsGone, Place, T
 from binlogfeed import lag as lagging
 from binlogfeed.begin import LOG
 from binlogfeed.follow import read_state, write_state
+from binlogfeed.lines import last_members
 from binlogfeed.logs import beginning
 from binlogfeed.watch import Watch
 from support import PROGRAM, SECONDS, SHOP, TOP, FolderTest, running
@@ -166,7 +167,7 @@ class Lags(FolderTest):
             for block in watch.look():
                 came = time.monotonic()
                 for one in block.splitlines():
-                    self.assertGreaterEqual(came - written[lagging.last_members(one + b"\n")["token"]], lag)
+                    self.assertGreaterEqual(came - written[last_members(one + b"\n")["token"]], lag)
                 found += block
             time.sleep(0.005)
         thread.join()

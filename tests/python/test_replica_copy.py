@@ -14,7 +14,7 @@ import creating
 import replica
 from replicas import PostgresServer
 from support import PROGRAM, FolderTest, without_beginning, without_hints
-from test_snapshot import LOGS, TOKEN, Recorded
+from test_snapshot import LOGS, TOKEN, Recorded, listed, locks
 
 URL = "mysql://root@localhost/"
 TABLES = ["beginnings", "bytes", "document", "invisible", "moments", 'na%me`"x', "names", "nokey", "numbers", "opaque"]
@@ -114,19 +114,11 @@ class Sqlite(CopyTest):
         self.assertEqual((status, said.count("the target has no table nokey")), (7, 1))
 
     def test_another_snapshot_is_waited_for(self):
-        class Second(Recorded):
-            """A server that another one reads from until the second time that it is asked."""
-
-            def ask(self, statement):
-                """Says so."""
-                if "GET_LOCK" not in statement:
-                    return super().ask(statement)
-                return [(b"0" if statement.endswith(", 0)") else b"1",)]
-
-        with mock.patch("test_replica_copy.Recorded", Second):
+        kind, _ = listed({"GET_LOCK": locks([b"0", b"1"])})
+        with mock.patch("test_replica_copy.Recorded", kind):
             status, said = self.ran(self.sqlite("copy"), "--create", "--only-tables=nokey", "--from", URL)
         self.assertEqual((status, said.count("\n")), (0, 2), said)
-        self.assertTrue(said.startswith("replica: another snapshot reads its rows: waiting for its end, for 86400 seconds at most\n"))
+        self.assertTrue(said.startswith("replica: another snapshot reads its rows: waiting for its end, for 86,400 seconds at most\n"))
 
     def test_an_error_leaves_nothing(self):
         class Failing(Recorded):

@@ -15,7 +15,7 @@ from binlogfeed.copy.copier import Copier
 from binlogfeed.copy.folder import Folder
 from binlogfeed.copy.server import Server
 from binlogfeed.copy.stopping import Stopped, Stopping
-from binlogfeed.options import add_command
+from binlogfeed.options import add_command, whole_number
 
 HELP = """The copies have the names and the bytes of the server's logs. `follow FOLDER` reads them beside it. The password is that of the
 option file, or MYSQL_PWD in the environment. USER needs the rights REPLICATION SLAVE and REPLICATION CLIENT. A lost connection is
@@ -33,17 +33,11 @@ def add_copy(commands: Any) -> None:
     parser = add_command(commands, "copy", "copy a server's logs from another machine, while it writes them", HELP)
     parser.add_argument("folder", metavar="FOLDER", type=Path, help="where the copies are, which is made where it isn't there")
     add_access(parser)
-    parser.add_argument("--server-id", metavar="NUMBER", type=server_id, help="an id that no server, replica or copier has (made of FOLDER)")
+    chosen = "an id that no server, replica or copier has (made of FOLDER)"
+    parser.add_argument("--server-id", metavar="NUMBER", type=whole_number(MOST_ID), help=chosen)
     parser.add_argument("--begin", metavar="LOG", help="the log to begin with where FOLDER has none (the server's first)")
     parser.add_argument("--once", action="store_true", help="end where the logs end by now")
     parser.set_defaults(run=copy)
-
-
-def server_id(word: str) -> int:
-    """A server id, as argparse takes it."""
-    if not word.isdecimal() or not 0 < int(word) <= MOST_ID:
-        raise argparse.ArgumentTypeError(f"a number from 1 to {MOST_ID} is wanted, not {word!r}")
-    return int(word)
 
 
 def made_id(folder: Path) -> int:

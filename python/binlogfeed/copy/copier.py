@@ -16,7 +16,6 @@ from binlogfeed.copy.events import (
     header_of,
     is_sound,
     rotation,
-    successor,
     without_flags,
 )
 from binlogfeed.copy.folder import Folder
@@ -24,7 +23,7 @@ from binlogfeed.copy.packets import Lost
 from binlogfeed.copy.server import Connection, Server, Unsent
 from binlogfeed.copy.stopping import Stopping
 from binlogfeed.faults import FileFault, LogFault, LogLost, LogsGone, WordsRefused
-from binlogfeed.logs import HEADER_LENGTH, MAGIC, NAME
+from binlogfeed.logs import HEADER_LENGTH, MAGIC, NAME, successor
 
 # A connection that is lost is tried again after so many seconds, then after twice as many, up to the most.
 FIRST_WAIT, MOST_WAIT = 1.0, 30.0

@@ -4,14 +4,15 @@ from __future__ import annotations
 import mmap
 import os
 from collections.abc import Sequence
+from functools import partial
 from pathlib import Path
 from typing import NamedTuple, Optional
 
 from binlogfeed.begin import LOG
 from binlogfeed.copy.events import Whole, whole_part
 from binlogfeed.faults import FileFault, LogsGone
-from binlogfeed.files import locked, replace, sync_folder
-from binlogfeed.logs import MAGIC, NAME
+from binlogfeed.files import locked, replace, sync_folder, write_all, writing
+from binlogfeed.logs import MAGIC, NAME, base_and_number
 
 INDEX, SERVER, LOCK, NEW = "binlog.index", "copy.server", "copy.lock", "copy.new"
 MODE = 0o640
@@ -67,7 +68,8 @@ class Folder:
         try:
             kept = path.read_text(encoding="utf-8").strip()
         except FileNotFoundError:
-            replace(path, f"{server}\n".encode())
+            with writing(str(path)):
+                replace(path, f"{server}\n".encode())
             return
         if kept != server:
             raise LogsGone(f"binlogfeed: {self._path} has copies of another server: its UUID is {kept}, and {server} answers now")
@@ -90,19 +92,21 @@ class Folder:
             os.close(self._last.file)
             self._last = None
         path, new, head = self._path / name, self._path / NEW, MAGIC + format_event
-        file = os.open(new, os.O_RDWR | os.O_CREAT | os.O_TRUNC | os.O_APPEND, MODE)
-        self._last = Copy(path, file, Whole(len(head), len(MAGIC), format_event, None))
-        self.end = len(head)
-        _write(self._last, head)
-        os.fsync(file)
-        os.replace(new, path)
-        sync_folder(self._path)
+        with writing(str(path)):
+            file = os.open(new, os.O_RDWR | os.O_CREAT | os.O_TRUNC | os.O_APPEND, MODE)
+            self._last = Copy(path, file, Whole(len(head), len(MAGIC), format_event, None))
+            self.end = len(head)
+            _write(self._last, head)
+            os.fsync(file)
+            os.replace(new, path)
+            sync_folder(self._path)
         self._put_index()
 
     def sync(self) -> None:
         """Has the disk take the last copy."""
         if self._last is not None:
-            os.fsync(self._last.file)
+            with writing(str(self._last.path)):
+                os.fsync(self._last.file)
 
     def reopen(self) -> None:
         """Looks at the last copy anew, where something was written."""
@@ -122,7 +126,7 @@ class Folder:
     def names(self) -> list[str]:
         """The names of the copies, in their order."""
         found = [name for name in os.listdir(self._path) if NAME.fullmatch(name)]
-        return sorted(found, key=_number)
+        return sorted(found, key=base_and_number)
 
     def _opened(self) -> Optional[Copy]:
         """Opens the last copy that has a whole event."""
@@ -147,13 +151,8 @@ class Folder:
         text = "".join(f"./{name}\n" for name in names).encode()
         path = self._path / INDEX
         if not path.exists() or path.read_bytes() != text:
-            replace(path, text)
-
-
-def _number(name: str) -> tuple[str, int]:
-    """What logs are sorted by."""
-    base, _, number = name.rpartition(".")
-    return base, int(number)
+            with writing(str(path)):
+                replace(path, text)
 
 
 def _whole_part(file: int, size: int, path: Path) -> Whole:
@@ -165,10 +164,5 @@ def _whole_part(file: int, size: int, path: Path) -> Whole:
 
 
 def _write(copy: Copy, content: bytes) -> None:
-    """Writes behind a copy's end. A full disk may take a part: the rest may fit soon, or never."""
-    left = memoryview(content)
-    try:
-        while left:
-            left = left[os.write(copy.file, left) :]
-    except OSError as error:
-        raise FileFault(f"binlogfeed: can't write {copy.path}: {error.strerror}") from error
+    """Writes behind a copy's end."""
+    write_all(partial(os.write, copy.file), content, str(copy.path))

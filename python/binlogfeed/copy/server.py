@@ -17,7 +17,7 @@ HEARTBEAT, SILENCE, CONNECTING = 10, 30, 10
 REGISTER, DUMP = 0x15, 0x12
 # With this flag a dump ends where the logs end by now.
 ENDS = 1
-OK, END, ERROR = 0x00, 0xFE, 0xFF
+END, ERROR = 0xFE, 0xFF
 LONGEST_END = 9
 ERROR_HEAD = struct.Struct("<xH")
 # Too many connections, a shutdown, a network's fault, a killed connection, idle for too long: all these go by.
