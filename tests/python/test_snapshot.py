@@ -30,6 +30,8 @@ OF_LOG = re.compile(r'"committed":\d+,|,"timestamp":\d+,"token":"[^"]*"|(?<="gti
 OF_SNAPSHOT = re.compile(r'"snapshot":true,|,"timestamp":\d+,"token":"[^"]*"|(?<="gtid":)null')
 # What the server said of its log when the answers were recorded.
 TOKEN = "25899.0@binlog.000005"
+# What has who writes wait.
+FREEZE = "FLUSH TABLES WITH READ LOCK"
 
 
 class Recorded:
@@ -60,6 +62,37 @@ class Recorded:
     def close(self):
         """Ends it."""
         self.asked.append("close")
+
+
+def listed(others=None):
+    """A kind of connections with recorded answers, and the list of those that are made.
+
+    `others` answer statements that have these words, in place of what is recorded.
+    """
+    made = []
+
+    class Listed(Recorded):
+        """A connection that is looked at afterwards."""
+
+        def __init__(self, address):
+            """Keeps it."""
+            super().__init__(address)
+            made.append(self)
+
+        def ask(self, statement):
+            """Answers a statement."""
+            for words, answer in (others or {}).items():
+                if words in statement:
+                    self.asked.append(statement)
+                    return answer()
+            return super().ask(statement)
+
+    return Listed, made
+
+
+def locks(answers):
+    """What answers who asks for the lock: each time by the next of these, and where that is an exception, it is raised."""
+    return mock.Mock(side_effect=[it if isinstance(it, Exception) else [(it,)] for it in answers])
 
 
 def inserts(schema):
@@ -109,7 +142,7 @@ class Whole(CommandTest):
             self.assertEqual(list(members)[-4:], ["snapshot", "table", "timestamp", "token"])
         first = rf"\Abinlogfeed: the tables as they are at {TOKEN}; the lock on all tables was held for \d\.\d{{3}} seconds\n"
         self.assertRegex(said, first)
-        self.assertTrue(said.endswith("binlogfeed: 2 rows of 1 tables\n"))
+        self.assertTrue(said.endswith("binlogfeed: 2 rows of 1 table\n"))
 
     def test_the_state_goes_on_behind_it(self):
         state = self.folder / "state"
@@ -140,17 +173,8 @@ class Whole(CommandTest):
         self.assertFalse(state.exists())
 
     def test_the_statements_of_the_moment_stand_within_the_lock(self):
-        made = []
-
-        class Listed(Recorded):
-            """A connection that is looked at afterwards."""
-
-            def __init__(self, address):
-                """Keeps it."""
-                super().__init__(address)
-                made.append(self)
-
-        self.ran("made", "--only-tables=nokey", connection=Listed)
+        kind, made = listed()
+        self.ran("made", "--only-tables=nokey", connection=kind)
         (connection,) = made
         begin = connection.asked.index("FLUSH TABLES WITH READ LOCK")
         transaction = "START TRANSACTION WITH CONSISTENT SNAPSHOT, READ ONLY"
@@ -197,31 +221,17 @@ class Another(CommandTest):
     """Another snapshot that reads its rows."""
 
     def behind(self, answers, *words):
-        """A snapshot where the server gives these answers to who asks for the lock; and its statements up to that which has all wait."""
-        made = []
+        """A snapshot where the server gives these answers to who asks for the lock; and its locks up to that which has all wait, with it.
 
-        class Second(Recorded):
-            """A connection that is looked at afterwards."""
-
-            def __init__(self, address):
-                """Keeps it."""
-                super().__init__(address)
-                made.append(self)
-
-            def ask(self, statement):
-                """Answers in turn who asks for the lock, or refuses."""
-                if "GET_LOCK" not in statement:
-                    return super().ask(statement)
-                self.asked.append(statement)
-                answer = answers.pop(0)
-                if isinstance(answer, Exception):
-                    raise answer
-                return [(answer,)]
-
-        status, lines, said = self.ran("made", "--only-tables=nokey", *words, connection=Second)
+        It has to ask for all of the answers.
+        """
+        lock = locks(answers)
+        kind, made = listed({"GET_LOCK": lock})
+        status, lines, said = self.ran("made", "--only-tables=nokey", *words, connection=kind)
+        self.assertEqual(lock.call_count, len(answers))
         asked = made[0].asked[1:]
-        begin = "FLUSH TABLES WITH READ LOCK"
-        return status, len(lines), said, [it for it in asked[: asked.index(begin) if begin in asked else None] if "LOCK" in it]
+        end = asked.index(FREEZE) + 1 if FREEZE in asked else None
+        return status, len(lines), said, [it for it in asked[:end] if "LOCK" in it]
 
     def test_what_a_server_answers(self):
         """The same as the answers here: while another snapshot read, for a second, and behind it."""
@@ -231,14 +241,16 @@ class Another(CommandTest):
 
     def test_it_is_waited_for(self):
         """That is said once, and nobody else has to wait meanwhile. NULL is an error, by MySQL's manual."""
-        waits = "binlogfeed: another snapshot reads its rows: waiting for its end, for {} seconds at most\n"
-        asks = [f"SELECT GET_LOCK('binlogfeed.snapshot', {seconds})" for seconds in (0, 10, 10, 5)]
-        for answers, words, told, count in (
-            ([b"1"], (), "", 1), ([b"0", b"1"], (), waits.format(86400), 2), ([b"0", b"0", b"1"], ("--wait=25",), waits.format(25), 3),
-            ([b"0", None, b"0", b"1"], ("--wait=24.5",), waits.format(25), 4),
+        waits = "binlogfeed: another snapshot reads its rows: waiting for its end, for {} at most\n"
+        for answers, words, told, asks in (
+            ([b"1"], (), "", (0,)), ([b"0", b"1"], (), waits.format("86,400 seconds"), (0, 10)),
+            ([b"0", b"1"], ("--wait=1",), waits.format("1 second"), (0, 1)),
+            ([b"0", b"0", b"1"], ("--wait=25",), waits.format("25 seconds"), (0, 10, 10)),
+            ([b"0", None, b"0", b"1"], ("--wait=24.5",), waits.format("25 seconds"), (0, 10, 10, 5)),
         ):  # fmt: skip
             status, lines, said, asked = self.behind(answers, *words)
-            self.assertEqual((status, lines, asked, answers), (0, 2, asks[:count], []))
+            self.assertEqual((status, lines), (0, 2))
+            self.assertEqual(asked, [*(f"SELECT GET_LOCK('binlogfeed.snapshot', {seconds})" for seconds in asks), FREEZE])
             self.assertTrue(said.startswith(f"{told}binlogfeed: the tables as they are at "), said)
 
     def test_for_so_long(self):
@@ -246,12 +258,25 @@ class Another(CommandTest):
         last = "binlogfeed: another snapshot reads its rows\nhint: begin this one behind it, or take all schemas by one\n"
         for answers, wait in (([b"0"], "0"), ([b"0", b"0"], "0.5"), ([b"0"] * 4, "30")):
             status, lines, said, asked = self.behind(answers, f"--wait={wait}")
-            self.assertEqual((status, lines, answers), (4, 0, []))
+            self.assertEqual((status, lines), (4, 0))
             self.assertTrue(said.endswith(last), said)
-            self.assertEqual((said.count("waiting for its end"), "FLUSH" in "".join(asked)), (int(wait != "0"), False))
+            self.assertEqual((said.count("waiting for its end"), FREEZE in asked), (int(wait != "0"), False))
         for word in ("-1", "long", "nan"):
             with self.assertRaises(SystemExit), contextlib.redirect_stderr(io.StringIO()):
                 self.ran("made", "--wait", word)
+
+    def test_what_it_lacks_is_told_before(self):
+        """Rights, as a MySQL 9.7.4 says it of a user without them, and a log that the server writes. Nobody waits, or has to wait."""
+        denied = "binlogfeed: the server: Access denied; you need (at least one of) the {} privilege(s) for this operation (1227)"
+        flush, reload = "FLUSH LOCAL TABLES `binlogfeed`.`snapshot`", denied.format("RELOAD or FLUSH_TABLES")
+        status, client = "SHOW BINARY LOG STATUS", denied.format("SUPER, REPLICATION CLIENT")
+        for statement, answer, line in (
+            (flush, ServerFault(reload, 1227), reload), (status, ServerFault(client, 1227), client),
+            (status, [], "binlogfeed: the server writes no binary log (log_bin is OFF)"),
+        ):  # fmt: skip
+            kind, made = listed({statement: mock.Mock(side_effect=[answer])})
+            self.assertEqual(self.ran("made", connection=kind), (4, [], f"{line}\n"))
+            self.assertNotIn("LOCK", "".join(made[0].asked))
 
     def test_a_connection_that_ends_meanwhile(self):
         """As a MySQL 9.7.4 says it where it is killed, where its statement is, and where the server is shut down."""
@@ -262,25 +287,15 @@ class Another(CommandTest):
 
     def test_no_connection_stands_idle_meanwhile(self):
         """Those of other processes are made behind it: a server or a network ends one that stands idle."""
-        made = []
-
-        class Counted(Recorded):
-            """A connection that is counted. The second answer has the lock."""
-
-            def __init__(self, address):
-                """Counts it."""
-                super().__init__(address)
-                made.append(self)
-
-            def ask(self, statement):
-                """Says how many there were when the lock was asked for."""
-                if "GET_LOCK" not in statement:
-                    return super().ask(statement)
-                counts.append(len(made))
-                return [(b"%d" % (len(counts) - 1),)]
-
         counts = []
-        status, lines, said = self.ran("--jobs=3", "made", "--only-tables=nokey", connection=Counted)
+
+        def lock():
+            """Notes how many connections there are. The second answer has the lock."""
+            counts.append(len(made))
+            return [(b"%d" % (len(counts) - 1),)]
+
+        kind, made = listed({"GET_LOCK": lock})
+        status, lines, said = self.ran("--jobs=3", "made", "--only-tables=nokey", connection=kind)
         self.assertEqual((status, len(lines), counts, len(made)), (0, 2, [1, 1], 3), said)
 
 
@@ -315,6 +330,13 @@ class Refused(CommandTest):
             found = settings_of({"defaults_file": str(path), "user": "given"})
             self.assertEqual((found.user, found.password, found.place), ("given", "kept", "/run/s"))
             self.assertEqual(settings_of({"user": "given"}).password, "the environment's")
+        path = self.put("my.cnf", b"[client]\nport=0\n")
+        self.assertEqual(settings_of({"defaults_file": str(path)}).port, 3306)
+        for port in ("65536", "-1", "x"):
+            path = self.put("my.cnf", f"[client]\nport={port}\n".encode())
+            with self.assertRaises(WordsRefused) as refused:
+                settings_of({"defaults_file": str(path)})
+            self.assertEqual(refused.exception.line, f"binlogfeed: {path}: {port!r} is no port")
 
     def test_encryption(self):
         """By an authority a connection that isn't encrypted is refused. A socket needs none."""
@@ -362,6 +384,8 @@ class FakeClient:
         """These packets answer each statement, but for those that are refused: a part of each, with its number and text."""
         self.cursors = mock.Mock(SSCursor="SSCursor")
         self.packets, self.refused = packets, dict(refused)
+        # The server's log and how long it is, or None where it writes none.
+        self.log = (b"binlog.000001", b"157")
         self.did = []
 
     def connect(self, **words):
@@ -390,8 +414,10 @@ class FakeClient:
                 raise self.Error(*error)
 
     def fetchall(self):
-        """A time, where one is asked for, and else no rows."""
-        return [(b"1",)] if "UNIX_TIMESTAMP" in self.did[-1] else []
+        """A time or the log, where one is asked for, and else no rows."""
+        if "UNIX_TIMESTAMP" in self.did[-1]:
+            return [(b"1",)]
+        return [self.log] if self.log and "STATUS" in self.did[-1] else []
 
     def fetchmany(self, count):
         """The next row."""
@@ -433,18 +459,23 @@ class Connections(TestCase):
     def test_what_the_server_refuses(self):
         for number, hint in ((1045, "MYSQL_PWD"), (1227, "RELOAD and REPLICATION CLIENT"), (1205, "try again"), (9, "")):
             connection = self.connected(FakeClient(refused={"FLUSH": (number, "no")}))
-            with self.assertRaises(ServerFault) as refused:
-                server.frozen([connection])
-            self.assertEqual((refused.exception.status, refused.exception.number), (4, number))
-            found = refused.exception
-            self.assertEqual((found.line, hint in "".join(found.hints)), (f"binlogfeed: the server: no ({number})", True))
+            for asks in (server.check_can_freeze, lambda it: server.frozen([it])):
+                with self.assertRaises(ServerFault) as refused:
+                    asks(connection)
+                found = refused.exception
+                self.assertEqual((found.status, found.number), (4, number))
+                self.assertEqual((found.line, hint in "".join(found.hints)), (f"binlogfeed: the server: no ({number})", True))
 
     def test_older_servers(self):
-        """They know another statement alone. This one says nothing of a log, since it writes none."""
+        """They know another statement alone. Without an answer it says that a server writes no log, which needs no lock to be seen."""
         client = FakeClient(refused={"BINARY LOG STATUS": (1064, "syntax")})
+        moment = server.frozen([self.connected(client)])
+        self.assertEqual(client.did[-3:], ["SHOW MASTER STATUS", "SELECT UNIX_TIMESTAMP()", "UNLOCK TABLES"])
+        self.assertEqual((moment.token, moment.timestamp), ("157.0@binlog.000001", 1))
+        client.log = None
         with self.assertRaisesRegex(ServerFault, "log_bin is OFF"):
             server.frozen([self.connected(client)])
-        self.assertEqual(client.did[-3:], ["SHOW MASTER STATUS", "SELECT UNIX_TIMESTAMP()", "UNLOCK TABLES"])
+        self.assertEqual(client.did[-2:], ["SHOW BINARY LOG STATUS", "SHOW MASTER STATUS"])
 
 
 class Parts(TestCase):

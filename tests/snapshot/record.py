@@ -15,7 +15,7 @@ sys.path.insert(0, str(TOP / "python"))
 
 from binlogfeed.access import Settings  # noqa: E402
 from binlogfeed.snapshot.rows import Lines, characters_of, lines_of  # noqa: E402
-from binlogfeed.snapshot.server import Connection, ServerFault, frozen, wait_for_others  # noqa: E402
+from binlogfeed.snapshot.server import Connection, ServerFault, check_can_freeze, frozen, wait_for_others  # noqa: E402
 from binlogfeed.snapshot.tables import tables_of  # noqa: E402
 
 
@@ -57,6 +57,7 @@ def main():
     with contextlib.suppress(ServerFault):
         wait_for_others(connection, say, 1)
     other.close()
+    check_can_freeze(connection)
     wait_for_others(connection, say)
     moment = frozen([connection])
     tables = tables_of(connection, schemas)

@@ -8,11 +8,12 @@ from pathlib import Path
 from typing import Any
 
 from binlogfeed.access import Settings, add_access, of_url, settings_of
+from binlogfeed.counts import counted
 from binlogfeed.faults import WordsRefused
 from binlogfeed.follow import locked, read_state, write_state
-from binlogfeed.options import add_command, lag_seconds
+from binlogfeed.options import add_command, lag_seconds, whole_number
 from binlogfeed.snapshot.rows import Lines, characters_of, parts_of
-from binlogfeed.snapshot.server import READING_WAIT, Connection, Moment, frozen, wait_for_others
+from binlogfeed.snapshot.server import READING_WAIT, Connection, Moment, check_can_freeze, frozen, wait_for_others
 from binlogfeed.snapshot.tables import Table, check_are_there, tables_of
 from binlogfeed.snapshot.work import Part, write_all
 
@@ -26,6 +27,7 @@ Exit status: 0 where all rows are written; 2 where the words are wrong, PyMySQL 
 written."""
 # A table of more rows is read by several processes, where there are several, in so many parts for each of them.
 MANY_ROWS, PARTS = 50_000, 4
+MOST_PROCESSES = 64
 
 
 def add_snapshot(commands: Any) -> None:
@@ -37,18 +39,11 @@ def add_snapshot(commands: Any) -> None:
     parser.add_argument("--only-tables", metavar="LIST", default="", help="only tables with these names, in any of the schemas")
     parser.add_argument("--ignored-tables", metavar="LIST", default="", help="no tables with these names")
     parser.add_argument("--state", metavar="FILE", type=Path, help="keep the place as that of `follow --state FILE`, once all is written")
-    parser.add_argument("--jobs", metavar="N", type=jobs, default=1, help="read by so many processes; large tables come in parts then (1)")
+    processes = "read by so many processes; large tables come in parts then (1)"
+    parser.add_argument("--jobs", metavar="N", type=whole_number(MOST_PROCESSES), default=1, help=processes)
     waits = f"wait for so long at most while another snapshot reads this server's rows ({READING_WAIT})"
     parser.add_argument("--wait", metavar="SECONDS", type=lag_seconds, default=READING_WAIT, help=waits)
     parser.set_defaults(run=snapshot)
-
-
-def jobs(word: str) -> int:
-    """A number of processes."""
-    number = int(word) if word.isdecimal() else 0
-    if not 0 < number <= 64:
-        raise argparse.ArgumentTypeError(f"a number from 1 to 64 is wanted, not {word!r}")
-    return number
 
 
 def snapshot(given: argparse.Namespace) -> None:
@@ -73,6 +68,7 @@ def write(given: argparse.Namespace, settings: Settings, schemas: Sequence[str])
     """Writes the rows, and answers when they were so."""
     first = Connection(settings)
     check_are_there(first, schemas)
+    check_can_freeze(first)
     wait_for_others(first, say, given.wait)
     # They are made now, since a server or a network ends those that stand idle while the first one waits.
     connections = [first, *(Connection(settings) for _ in range(given.jobs - 1))]
@@ -80,7 +76,7 @@ def write(given: argparse.Namespace, settings: Settings, schemas: Sequence[str])
     say(f"the tables as they are at {moment.token}; the lock on all tables was held for {moment.held:.3f} seconds")
     tables = tables_of(first, schemas, names(given.only_tables), names(given.ignored_tables))
     count = write_all(connections, parts_for(first, tables, moment, given.jobs))
-    say(f"{count:,} rows of {len(tables)} tables")
+    say(f"{counted(count, 'row')} of {counted(len(tables), 'table')}")
     for connection in connections:
         connection.close()
     return moment

@@ -8,6 +8,7 @@ from collections.abc import Callable, Iterator, Sequence
 from typing import Any, NamedTuple
 
 from binlogfeed.access import Settings, connected, driver
+from binlogfeed.counts import counted
 from binlogfeed.faults import BinlogfeedError
 from binlogfeed.place import Place
 
@@ -28,6 +29,8 @@ sql_select_limit = 18446744073709551615 /*!80030 , show_gipk_in_create_table_and
 # MySQL's error for a statement that it doesn't know, as servers before 8.2 don't know the first of these.
 NO_STATEMENT = 1064
 STATUS, OLD_STATUS = "SHOW BINARY LOG STATUS", "SHOW MASTER STATUS"
+# Needs the same right as the lock on all tables, and does nothing else: there is no such table, and the log doesn't get it.
+FLUSH = "FLUSH LOCAL TABLES `binlogfeed`.`snapshot`"
 # Why a statement is refused, by MySQL's number, and what to do.
 HINTS = {
     1044: "the user needs the right SELECT",
@@ -150,6 +153,12 @@ def row_of(packet: Any) -> Row:
     return tuple(row)
 
 
+def check_can_freeze(connection: Connection) -> None:
+    """Raises an error where `frozen` would end with one: the user lacks a right, or the server writes no log. It keeps nobody waiting."""
+    connection.ask(FLUSH)
+    status_of(connection)
+
+
 def wait_for_others(connection: Connection, say: Callable[[str], None], wait: float = READING_WAIT) -> None:
     """Waits while another snapshot reads its rows, for so many seconds at most, and then has the next one wait for this connection.
 
@@ -165,7 +174,7 @@ def wait_for_others(connection: Connection, say: Callable[[str], None], wait: fl
     if is_free(0):
         return
     if left:
-        say(f"another snapshot reads its rows: waiting for its end, for {left} seconds at most")
+        say(f"another snapshot reads its rows: waiting for its end, for {counted(left, 'second')} at most")
     while left:
         step = min(left, READING_STEP)
         if is_free(step):
@@ -186,22 +195,29 @@ def frozen(connections: Sequence[Connection]) -> Moment:
     try:
         for connection in connections:
             connection.ask("START TRANSACTION WITH CONSISTENT SNAPSHOT, READ ONLY")
-        answer = first.ask(status)
+        file, position = place_by(first, status)
         ((now,),) = first.ask("SELECT UNIX_TIMESTAMP()")
     finally:
         first.ask("UNLOCK TABLES")
     held = time.monotonic() - locked
-    if not answer:
-        raise ServerFault("binlogfeed: the server writes no binary log (log_bin is OFF)", 0)
-    return Moment(answer[0][0].decode(), int(answer[0][1]), int(now), held)
+    return Moment(file, position, int(now), held)
 
 
 def status_of(connection: Connection) -> str:
     """The statement by which this server says where its log is."""
     try:
-        connection.ask(STATUS)
+        place_by(connection, STATUS)
     except ServerFault as fault:
         if fault.number != NO_STATEMENT:
             raise
+        place_by(connection, OLD_STATUS)
         return OLD_STATUS
     return STATUS
+
+
+def place_by(connection: Connection, statement: str) -> tuple[str, int]:
+    """Where the server's log is, by this statement: its file, and the position in it. A server that writes no log is an error."""
+    answer = connection.ask(statement)
+    if not answer:
+        raise ServerFault("binlogfeed: the server writes no binary log (log_bin is OFF)", 0)
+    return answer[0][0].decode(), int(answer[0][1])

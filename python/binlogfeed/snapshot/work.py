@@ -3,17 +3,20 @@ from __future__ import annotations
 
 import multiprocessing
 import os
-import shutil
 import sys
 import threading
 import time
 from collections.abc import Sequence
 from contextlib import nullcontext
+from functools import partial
 from typing import Any, NamedTuple
 
-from binlogfeed.faults import BinlogfeedError, FileFault
+from binlogfeed import files
+from binlogfeed.counts import counted
+from binlogfeed.faults import BinlogfeedError
 from binlogfeed.snapshot.rows import WHOLE, Lines, Range, lines_of
 from binlogfeed.snapshot.server import Connection
+from binlogfeed.terminal import Line
 
 # Lines are written in blocks of so many bytes or more.
 BLOCK = 1 << 18
@@ -41,15 +44,8 @@ class Output:
         if self._first not in (os.getpid(), os.getppid()):
             # The first process was killed, and nobody would know whether all is written.
             os._exit(0)
-        left = memoryview(block)
         with self._lock:
-            try:
-                while left:
-                    left = left[os.write(sys.stdout.fileno(), left) :]
-            except BrokenPipeError:
-                raise
-            except OSError as error:
-                raise FileFault(f"binlogfeed: can't write the output: {error.strerror}") from error
+            files.write_all(partial(os.write, sys.stdout.fileno()), block, "the output")
             self._count.value += count
 
 
@@ -58,21 +54,18 @@ class Progress:
 
     def __init__(self, count: Any) -> None:
         """The progress by a count."""
-        self._count, self._said, self._next = count, 0, time.monotonic() + SECONDS
-        self._is_seen = sys.stderr.isatty()
+        self._count, self._next = count, time.monotonic() + SECONDS
+        self._line = Line()
 
     def say(self) -> None:
         """Says it, if it is time to."""
-        if self._is_seen and time.monotonic() >= self._next:
+        if self._line.is_seen and time.monotonic() >= self._next:
             self._next = time.monotonic() + SECONDS
-            text = f"binlogfeed: {self._count.value:,} rows"[: shutil.get_terminal_size().columns - 1]
-            print(f"\r{text.ljust(self._said)}", end="", file=sys.stderr, flush=True)
-            self._said = len(text)
+            self._line.say(f"binlogfeed: {counted(self._count.value, 'row')}")
 
     def end(self) -> None:
         """Takes the line away."""
-        if self._said:
-            print(f"\r{' ' * self._said}\r", end="", file=sys.stderr, flush=True)
+        self._line.end()
 
 
 def write_all(connections: Sequence[Connection], parts: Sequence[Part]) -> int:
