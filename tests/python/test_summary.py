@@ -411,7 +411,9 @@ class Faults(FolderTest):
         ended = ran(*SHOP, program=self.folder / "none")
         self.assertEqual((ended.returncode, ended.stdout), (70, ""))
         self.assertIn("binlogfeed: the program can't be started", ended.stderr)
-        self.assertEqual(ran("--html", self.folder / "no/page", *SHOP).returncode, 4)
+        page = self.folder / "no/page"
+        ended = ran("--html", page, *SHOP)
+        self.assertEqual((ended.returncode, ended.stderr), (4, f"binlogfeed: can't write {page}: No such file or directory\n"))
 
     def test_nobody_takes_the_text(self):
         with running(command(*SHOP), stdout=subprocess.PIPE, stderr=subprocess.PIPE, env=ENVIRONMENT) as process:

@@ -7,6 +7,7 @@ import sys
 from pathlib import Path
 from typing import Any
 
+from binlogfeed.files import writing
 from binlogfeed.filters import add_filters, add_profile, filter_words
 from binlogfeed.options import add_command
 from binlogfeed.summary.reading import logs_of, summed_up
@@ -41,7 +42,8 @@ def summary(given: argparse.Namespace) -> None:
     if given.html is not None:
         from binlogfeed.summary.page import as_page
 
-        given.html.write_text(as_page(found), encoding="utf-8")
+        with writing(str(given.html)):
+            given.html.write_text(as_page(found), encoding="utf-8")
     if found.fault is not None:
         raise found.fault
 

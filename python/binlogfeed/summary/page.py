@@ -3,6 +3,7 @@ from __future__ import annotations
 
 from collections.abc import Iterable, Sequence
 
+from binlogfeed.counts import counted, named
 from binlogfeed.summary.changes import Change
 from binlogfeed.summary.gtids import interval_text
 from binlogfeed.summary.pictures import Bar, Part, bars, columns, safe, sign, strip
@@ -19,11 +20,9 @@ from binlogfeed.summary.told import (
     Large,
     byte_sizes,
     change_sizes,
-    counted,
     largest_by_bytes,
     largest_by_changes,
     logs_text,
-    named,
     numbers_text,
     size_text,
 )
@@ -144,14 +143,14 @@ def _tables(summary: Summary) -> str:
     drawn = [_kinds_bar(name, counts) for name, counts in rows[:MOST_BARS]]
     if len(rows) > MOST_BARS:
         others = [sum(column) for column in zip(*(counts for _, counts in rows[MOST_BARS:]))]
-        drawn.append(_kinds_bar(f"{len(rows) - MOST_BARS:,} others", others))
+        drawn.append(_kinds_bar(counted(len(rows) - MOST_BARS, "other"), others))
     legend = "".join(f"<li>{sign(kind)} {kind}s</li>" for kind in KINDS)
     cells = [(safe(name), *(f"{count:,}" for count in (*counts, sum(counts)))) for name, counts in rows]
     heads = ("Table", "Inserts", "Updates", "Deletes", "All")
     table = _table(heads, cells[:MOST_BARS], (1, 2, 3, 4), "tables")
     if len(cells) > MOST_BARS:
         rest = _table(heads, cells[MOST_BARS:], (1, 2, 3, 4), "tables")
-        table += f"<details><summary>{len(cells) - MOST_BARS:,} others</summary>{rest}</details>"
+        table += f"<details><summary>{counted(len(cells) - MOST_BARS, 'other')}</summary>{rest}</details>"
     figure = _figure(bars("Changes by table and kind", drawn))
     return _section("Changes by table", f'<ul class="legend">{legend}</ul>{figure}{table}')
 

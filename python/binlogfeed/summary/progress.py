@@ -2,12 +2,13 @@
 from __future__ import annotations
 
 import os
-import shutil
-import sys
 import threading
 from collections.abc import Sequence
 from pathlib import Path
 from types import TracebackType
+
+from binlogfeed.counts import counted
+from binlogfeed.terminal import Line
 
 # How often it is written anew.
 SECONDS = 0.2
@@ -30,7 +31,8 @@ class Progress:
             self._total += about.st_size
         self._read = 0
         self._stopped = threading.Event()
-        self._thread = threading.Thread(target=self._say_often, daemon=True) if sys.stderr.isatty() else None
+        self._line = Line()
+        self._thread = threading.Thread(target=self._say_often, daemon=True) if self._line.is_seen else None
 
     def __enter__(self) -> Progress:
         """Begins to say it."""
@@ -47,16 +49,11 @@ class Progress:
             self._thread.join()
 
     def _say_often(self) -> None:
-        """Writes the line over the one before, and blanks over the last."""
-        length = 0
+        """Writes the line over the one before, and takes the last away."""
         while not self._stopped.wait(SECONDS):
             self._read = max(self._read, self._read_so_far())
-            text = f"binlogfeed: {self._read:,} of {self._total:,} bytes"
-            text = text[: shutil.get_terminal_size().columns - 1]
-            print(f"\r{text}{' ' * (length - len(text))}", end="", file=sys.stderr, flush=True)
-            length = len(text)
-        if length:
-            print(f"\r{' ' * length}\r", end="", file=sys.stderr, flush=True)
+            self._line.say(f"binlogfeed: {self._read:,} of {counted(self._total, 'byte')}")
+        self._line.end()
 
     def _read_so_far(self) -> int:
         """How many bytes the process has read: the place in its last open log, and the logs before that."""

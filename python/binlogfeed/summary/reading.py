@@ -11,7 +11,7 @@ from pathlib import Path
 from typing import Optional
 
 from binlogfeed.faults import BinlogfeedError, FileFault, LogFault, ProgramMissing, WordsRefused, told
-from binlogfeed.logs import check_without_gap, is_log, is_pattern, listed
+from binlogfeed.logs import check_without_gap, is_log, listed, none_of
 from binlogfeed.program import Run
 from binlogfeed.summary.beside import Beside, Worker
 from binlogfeed.summary.changes import Block, Change, Changes, counted_block
@@ -80,7 +80,7 @@ def logs_of(words: Sequence[str]) -> list[Path]:
             continue
         found = listed(word)
         if not found:
-            raise FileFault(f"binlogfeed: {'no log matches' if is_pattern(word) else 'there is no log in'} {word}")
+            raise FileFault(f"binlogfeed: {none_of(word)}")
         check_without_gap(found)
         # A shell's pattern has the logs themselves, and their index.
         logs += [log for log in found if log not in logs]

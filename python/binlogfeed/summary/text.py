@@ -5,6 +5,7 @@ import textwrap
 import unicodedata
 from collections.abc import Sequence
 
+from binlogfeed.counts import counted
 from binlogfeed.summary.changes import Change
 from binlogfeed.summary.gtids import interval_text
 from binlogfeed.summary.reading import Summary
@@ -19,7 +20,6 @@ from binlogfeed.summary.told import (
     Large,
     byte_sizes,
     change_sizes,
-    counted,
     largest_by_bytes,
     largest_by_changes,
     logs_text,

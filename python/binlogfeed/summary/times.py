@@ -6,6 +6,8 @@ from collections.abc import Mapping, Sequence
 from datetime import datetime, timezone
 from typing import NamedTuple, Optional
 
+from binlogfeed.counts import counted
+
 MINUTE, HOUR, DAY, WEEK = 60, 3_600, 86_400, 604_800
 # Steps by which times are counted where there are many of them. Each is a multiple of the one before.
 STEPS = (1, 10, MINUTE, 10 * MINUTE, HOUR, 6 * HOUR, DAY, WEEK, 4 * WEEK)
@@ -96,8 +98,7 @@ def round_marks(periods: Sequence[Period], most: int) -> list[int]:
 def spoken(width: int) -> str:
     """A width in words, such as `10 minutes`."""
     unit, name = next((unit, name) for unit, name in UNITS if width % unit == 0)
-    count = width // unit
-    return f"{count} {name}{'s' if count > 1 else ''}"
+    return counted(width // unit, name)
 
 
 def utc(second: int) -> str:

@@ -4,6 +4,7 @@ from __future__ import annotations
 from collections import Counter
 from typing import NamedTuple, Optional
 
+from binlogfeed.counts import counted
 from binlogfeed.summary.changes import Change
 from binlogfeed.summary.gtids import Numbers
 from binlogfeed.summary.reading import Summary
@@ -56,16 +57,6 @@ def logs_text(summary: Summary) -> str:
 def size_text(summary: Summary) -> str:
     """How much that is."""
     return f"{counted(len(summary.logs), 'log')}, {counted(summary.size, 'byte')}"
-
-
-def named(count: int, noun: str) -> str:
-    """What such a number counts."""
-    return f"{noun}{'' if count == 1 else 's'}"
-
-
-def counted(count: int, noun: str) -> str:
-    """A number of things."""
-    return f"{count:,} {named(count, noun)}"
 
 
 def change_sizes(summary: Summary) -> list[tuple[str, int]]:
