@@ -8,9 +8,10 @@ from typing import NamedTuple, Optional
 from batches import Batcher
 from binlogfeed import JSON_NULL
 from binlogfeed.access import of_url, settings_of
+from binlogfeed.counts import counted
 from binlogfeed.lines import Change, reader_of_lines
 from binlogfeed.snapshot.rows import Lines, characters_of, lines_of
-from binlogfeed.snapshot.server import Connection, frozen, wait_for_others
+from binlogfeed.snapshot.server import Connection, check_can_freeze, frozen, wait_for_others
 from binlogfeed.snapshot.tables import Table, check_are_there, tables_of
 from binlogfeed.values import Style
 from changes import waits_for
@@ -34,6 +35,7 @@ def take_copy(target: Target, server: Server, schema: str, only_tables: Sequence
     connection = Connection(settings_of({**of_url(server.url), "defaults_file": server.defaults_file}))
     try:
         check_are_there(connection, [schema])
+        check_can_freeze(connection)
         wait_for_others(connection, say)
         moment = frozen([connection])
         tables = tables_of(connection, [schema], only_tables)
@@ -48,7 +50,7 @@ def take_copy(target: Target, server: Server, schema: str, only_tables: Sequence
         target.commit(moment.place.to_text())
     finally:
         connection.close()
-    told = f"copied {count:,} rows of {len(tables)} tables, as they were at {moment.token}"
+    told = f"copied {counted(count, 'row')} of {counted(len(tables), 'table')}, as they were at {moment.token}"
     say(f"{told}; the lock on all tables was held for {moment.held:.3f} seconds")
 
 

@@ -13,8 +13,9 @@ from typing import Any, NamedTuple, Optional
 from urllib.parse import parse_qsl, unquote, urlsplit
 
 from binlogfeed.faults import FileFault, WordsRefused
+from binlogfeed.options import whole_number
 
-GROUP, PORT = "client", 3306
+GROUP, PORT, MOST_PORT = "client", 3306, (1 << 16) - 1
 MISSING = "binlogfeed: this needs PyMySQL: apt-get install python3-pymysql, or pip install PyMySQL"
 WANTED = "mysql://USER@HOST:PORT/ is wanted, or mysql://USER@localhost/?socket=PATH"
 # A password that goes over a network in the clear has to be encrypted by another package.
@@ -42,7 +43,7 @@ class Settings(NamedTuple):
 def add_access(parser: argparse.ArgumentParser) -> None:
     """Gives a command the options."""
     parser.add_argument("--host", metavar="NAME", help="the server's machine (localhost)")
-    parser.add_argument("--port", metavar="NUMBER", type=int, help=f"its port ({PORT})")
+    parser.add_argument("--port", metavar="NUMBER", type=whole_number(MOST_PORT), help=f"its port ({PORT})")
     parser.add_argument("--socket", metavar="PATH", help="its socket, in place of host and port")
     parser.add_argument("--user", metavar="NAME", help="who logs in (the name of who runs this)")
     parser.add_argument("--defaults-file", metavar="FILE", type=Path, help="an option file, whose group [client] has what isn't given here")
@@ -54,16 +55,18 @@ def settings_of(told: Mapping[str, Any]) -> Settings:
     file = told.get("defaults_file")
     kept = options_of(Path(file)) if file else {}
     port = told.get("port") or kept.get("port") or PORT
+    if port == "0":  # what an option file says for the usual one
+        port = PORT
     try:
         return Settings(
             host=told.get("host") or kept.get("host") or "localhost",
-            port=int(port),
+            port=whole_number(MOST_PORT)(str(port)),
             user=told.get("user") or kept.get("user") or getpass.getuser(),
             password=kept.get("password") or os.environ.get("MYSQL_PWD") or "",
             authority=told.get("ssl_ca") or kept.get("ssl-ca"),
             socket=told.get("socket") or kept.get("socket"),
         )
-    except ValueError as error:
+    except argparse.ArgumentTypeError as error:
         raise WordsRefused(f"binlogfeed: {file}: {port!r} is no port") from error
 
 

@@ -8,8 +8,9 @@ import os
 import re
 from collections.abc import Mapping, Sequence
 from pathlib import Path
-from typing import Any, NamedTuple, Optional, Union
+from typing import Any, NamedTuple, Union
 
+from binlogfeed.counts import counted
 from binlogfeed.faults import ColumnsMismatch, FileFault, WordsRefused
 from binlogfeed.values import Column, Convert
 
@@ -83,7 +84,7 @@ def of_file(path: Path) -> dict[str, Table]:
     try:
         head, *lines = path.read_text(encoding="utf-8-sig").split("\n")
     except OSError as error:
-        raise FileFault(f"binlogfeed: cannot open {path}") from error
+        raise FileFault(f"binlogfeed: cannot open {path}: {error.strerror}") from error
     except UnicodeDecodeError as error:
         raise WordsRefused(f"binlogfeed: {path} isn't UTF-8") from error
     heads = head.upper().split("\t")
@@ -152,7 +153,7 @@ def are_numbered(columns: Sequence[Column]) -> bool:
 
 def _counted(columns: Sequence[str]) -> str:
     """How many columns these are, with what is said of each."""
-    return f"{len(columns)} column{'' if len(columns) == 1 else 's'} ({', '.join(columns)})"
+    return f"{counted(len(columns), 'column')} ({', '.join(columns)})"
 
 
 def is_type(log: str, given: str) -> bool:

@@ -16,6 +16,7 @@ from typing import Any, NamedTuple, Optional
 
 from binlogfeed.charsets import CODECS, to_text
 from binlogfeed.lines import TO_AFTER, TO_BEFORE, not_full, value_at
+from binlogfeed.times import to_time
 from binlogfeed.tokens import token_parts
 from binlogfeed.values import BINARY, TEXTS, TYPE, Convert, plain
 from binlogfeed.version import VERSION
@@ -218,10 +219,7 @@ def _zoned(text: str) -> str:
 
 def _microseconds_of_time(text: str) -> int:
     """The microseconds of a TIME, which may be below 0 or beyond a day."""
-    hours, minutes, rest = text.lstrip("-").split(":")
-    seconds, _, fraction = rest.partition(".")
-    size = ((int(hours) * 60 + int(minutes)) * 60 + int(seconds)) * MICROSECONDS + int(fraction.ljust(6, "0"))
-    return -size if text.startswith("-") else size
+    return to_time(text) // MICROSECOND
 
 
 def _geometry(value: Any) -> Record:

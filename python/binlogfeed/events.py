@@ -8,7 +8,7 @@ from typing import Any, NamedTuple, Optional, TextIO, Union
 
 from binlogfeed.as_json import json_of
 from binlogfeed.debezium import NAME, Names, Record, records_of
-from binlogfeed.lines import Form, Image, Parts
+from binlogfeed.lines import Image, Parts
 from binlogfeed.tokens import are_of_one_transaction, token_parts
 from binlogfeed.values import Column
 

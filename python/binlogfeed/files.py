@@ -1,9 +1,11 @@
-"""Files that stay whole: one is put in another's place by a rename, and a lock says who uses them."""
+"""Files that stay whole: one is put in another's place by a rename, a lock says who uses them, and what is written is all written."""
 from __future__ import annotations
 
 import fcntl
 import os
 import time
+from collections.abc import Callable, Iterator
+from contextlib import contextmanager
 from pathlib import Path
 from typing import TextIO
 
@@ -24,6 +26,25 @@ def replace(path: Path, content: bytes) -> None:
         os.fsync(file.fileno())
     os.replace(new, path)
     sync_folder(path.parent)
+
+
+def write_all(write: Callable[[memoryview], int], content: bytes, where: str) -> None:
+    """Writes bytes, of which a call may take a part. A full disk may have room for the rest soon, or never: `where` has none then."""
+    left = memoryview(content)
+    with writing(where):
+        while left:
+            left = left[write(left) :]
+
+
+@contextmanager
+def writing(where: str) -> Iterator[None]:
+    """Says what can't be written, and why. A pipe that nobody reads any more is left to the caller."""
+    try:
+        yield
+    except BrokenPipeError:
+        raise
+    except OSError as error:
+        raise FileFault(f"binlogfeed: can't write {where}: {error.strerror}") from error
 
 
 def sync_folder(path: Path) -> None:

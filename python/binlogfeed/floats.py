@@ -1,6 +1,7 @@
 """Converters for FLOAT and DOUBLE. Full lines have the shortest number that reads back, or bytes where it is none."""
 from __future__ import annotations
 
+import math
 import struct
 from decimal import ROUND_DOWN, ROUND_HALF_EVEN, ROUND_UP, Context, Decimal
 
@@ -19,20 +20,8 @@ def from_raw(raw: bytes | float) -> float:
 def shortest(raw: bytes | float) -> float:
     """The value with the fewest digits that the column holds so: 0.1 where a FLOAT was given 0.1. A full line has that number."""
     value = from_raw(raw)
-    if isinstance(raw, bytes) and len(raw) == 4:
-        for digits in range(1, 10):
-            short = float(f"{value:.{digits}g}")
-            if _as_float(short) == raw:
-                return short
-    return value
-
-
-def _as_float(value: float) -> bytes | None:
-    """The bytes of a FLOAT, or None where no FLOAT is as great."""
-    try:
-        return struct.pack("<f", value)
-    except OverflowError:
-        return None
+    is_float = isinstance(raw, bytes) and len(raw) == 4
+    return float(text_of_float(value)) if is_float and math.isfinite(value) else value
 
 
 # The least FLOAT that has all bits of its fraction.
@@ -58,6 +47,14 @@ def text_of_float(value: float) -> str:
             if packed(short) == raw:
                 return repr(short)
     return repr(_closest(value, raw))
+
+
+def _as_float(value: float) -> bytes | None:
+    """The bytes of a FLOAT, or None where no FLOAT is as great."""
+    try:
+        return packed(value)
+    except OverflowError:
+        return None
 
 
 def _closest(value: float, raw: bytes) -> float:

@@ -157,16 +157,10 @@ class Follower:
                 written, due = 0, time.monotonic() + KEEP_SECONDS
 
     def _write(self, lines: bytes) -> None:
-        """Writes lines, of which the output may take a part at a time."""
-        left = memoryview(lines)
+        """Writes lines."""
         self._writing = True
         try:
-            while left:
-                left = left[self._out.write(left) :]
-        except BrokenPipeError:
-            raise
-        except OSError as error:
-            raise FileFault(f"binlogfeed: can't write the output: {error.strerror}") from error
+            files.write_all(self._out.write, lines, "the output")
         finally:
             self._writing = False
 
@@ -181,23 +175,23 @@ class Follower:
 
 def locked(state: Path) -> TextIO:
     """The lock of a state's file. Two that go on from one place would each miss what the other took."""
-    try:
+    with files.writing(f"{state}.lock, beside what keeps the place"):
         return files.locked(state.with_name(f"{state.name}.lock"), f"binlogfeed: another process uses {state}")
-    except OSError as error:
-        raise FileFault(f"binlogfeed: can't write {state}.lock, beside what keeps the place: {error.strerror}") from error
 
 
 def read_state(state: Path) -> Place:
     """The place that a file keeps, or that before all changes where there is no such file."""
     try:
-        return Place.from_text(state.read_text(encoding="utf-8"))
+        return Place.from_text(state.read_text(encoding="utf-8", errors="surrogateescape"))
     except FileNotFoundError:
         return Place()
+    except OSError as error:
+        raise FileFault(f"binlogfeed: cannot open {state}: {error.strerror}") from error
+    except BinlogfeedError as error:
+        raise error.hinted(f"the file is {state}")
 
 
 def write_state(state: Path, place: Place) -> None:
     """Keeps a place in a file. After a crash of the machine, too, the file has this place or the one before it."""
-    try:
+    with files.writing(f"{state}, which keeps the place"):
         files.replace(state, f"{place.to_text()}\n".encode())
-    except OSError as error:
-        raise FileFault(f"binlogfeed: can't write {state}, which keeps the place: {error.strerror}") from error

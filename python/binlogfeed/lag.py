@@ -1,19 +1,17 @@
 """Lines that are held back: a server writes its log before a commit is to be seen in its tables."""
 from __future__ import annotations
 
-import json
 import threading
 import time
 from collections.abc import Generator, Mapping
-from typing import Any, Optional
+from typing import Optional
 
 from binlogfeed.faults import BinlogfeedError
+from binlogfeed.lines import last_members
 from binlogfeed.tokens import TokenParts, token_parts
 
 # So many bytes of lines are held at most.
 MOST_HELD = 16 << 20
-# A line's last two members begin here. A text in JSON has no bare quotes, and no other member has that name behind it.
-LAST_MEMBERS = b',"timestamp":'
 
 
 class Lag:
@@ -74,9 +72,3 @@ def is_behind(block: bytes, before: bytes, sizes: Mapping[str, int]) -> bool:
 def last_place(lines: bytes) -> TokenParts:
     """The place of the last of these lines."""
     return token_parts(last_members(lines)["token"])
-
-
-def last_members(lines: bytes) -> dict[str, Any]:
-    """The last two members of the last of these lines: `timestamp` and `token`."""
-    members: dict[str, Any] = json.loads(b"{" + lines[lines.rindex(LAST_MEMBERS) + 1 :])
-    return members

@@ -225,7 +225,7 @@ def with_names(taken_apart: Callable[[bytes], Parts]) -> Callable[[bytes], Parts
         try:
             form, before, after, timestamp, gtid, token, committed, kept = taken_apart(line)
         except ColumnsMismatch as mismatch:
-            raise mismatch.at(json.loads(b"{" + line[line.rindex(TIMESTAMP_BYTES) + 1 :])["token"]) from None
+            raise mismatch.at(last_members(line)["token"]) from None
         names = form.names
         if names:
             before = before and {name: before[own] for own, name in names if own in before}
@@ -233,6 +233,12 @@ def with_names(taken_apart: Callable[[bytes], Parts]) -> Callable[[bytes], Parts
         return form, before, after, timestamp, gtid, token, committed, kept
 
     return named
+
+
+def last_members(lines: bytes) -> dict[str, Any]:
+    """The last two members of the last of these lines, be they full or plain: `timestamp` and `token`."""
+    members: dict[str, Any] = json.loads(b"{" + lines[lines.rindex(TIMESTAMP_BYTES) + 1 :])
+    return members
 
 
 def not_full() -> ProgramFailed:

@@ -44,6 +44,11 @@ def is_pattern(place: str | os.PathLike[str]) -> bool:
     return glob.has_magic(str(place)) and not os.path.exists(place)
 
 
+def none_of(place: str | os.PathLike[str]) -> str:
+    """What is said of a place of logs that has none."""
+    return f"no log matches {place}" if is_pattern(place) else f"there is no log in {place}"
+
+
 def is_folder(place: str | os.PathLike[str]) -> bool:
     """Whether a path is a folder. One that can't be looked at is none here: listing it says why."""
     return os.path.isdir(place)
@@ -107,25 +112,29 @@ def _of_pattern(pattern: str) -> list[Path]:
         # Else a folder that isn't there, or may not be read, would pass for one without logs.
         _names_in(folder or os.curdir)
     found = [path for path in map(Path, glob.glob(pattern)) if NAME.fullmatch(path.name)]
-    return sorted(found, key=_base_and_number)
+    return sorted(found, key=lambda path: base_and_number(path.name))
 
 
-def _base_and_number(path: Path) -> tuple[str, int]:
-    """The two parts of a log's name."""
-    parts = NAME.fullmatch(path.name)
+def base_and_number(name: str) -> tuple[str, int]:
+    """The two parts of a log's name, by which logs are in their order."""
+    parts = NAME.fullmatch(name)
     if not parts:
-        raise FileFault(f"binlogfeed: {path.name} isn't a log's name: a number of six digits or more has to end it")
+        raise FileFault(f"binlogfeed: {name} isn't a log's name: a number of six digits or more has to end it")
     return parts[1], int(parts[2])
+
+
+def successor(name: str) -> str:
+    """The name of the log behind one."""
+    base, number = base_and_number(name)
+    return f"{base}.{number + 1:06}"
 
 
 def check_without_gap(logs: Sequence[Path]) -> None:
     """Raises `LogsGone` where a log is missing between two. The program sees that only where a ROTATE names the missing one."""
     for path, following in zip(logs, logs[1:]):
-        base, number = _base_and_number(path)
-        if _base_and_number(following) != (base, number + 1):
-            raise LogsGone(
-                f"binlogfeed: {base}.{number + 1:06} is gone: it should stand between {path.name} and {following.name}"
-            )
+        wanted = successor(path.name)
+        if base_and_number(following.name) != base_and_number(wanted):
+            raise LogsGone(f"binlogfeed: {wanted} is gone: it should stand between {path.name} and {following.name}")
 
 
 def beginning(path: Path) -> str | None:

@@ -10,6 +10,7 @@ from typing import NamedTuple, Optional
 
 from binlogfeed.begin import LOG
 from binlogfeed.faults import FileFault
+from binlogfeed.files import writing
 from binlogfeed.follow import Follower, Measure
 from binlogfeed.tokens import token_parts
 from binlogfeed.version import VERSION
@@ -100,8 +101,6 @@ def _write(path: Path, follower: Follower, state: Path, faults: int) -> None:
     """Puts a new file in the old one's place, so that no reader sees a part."""
     text = as_text(metrics_of(follower.measure(), faults), str(state))
     new = path.with_name(f"{path.name}.new")
-    try:
+    with writing(str(path)):
         new.write_text(text, encoding="utf-8", errors="surrogateescape")
         os.replace(new, path)
-    except OSError as error:
-        raise FileFault(f"binlogfeed: can't write {path}: {error.strerror}") from error

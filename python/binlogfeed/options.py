@@ -2,7 +2,9 @@
 from __future__ import annotations
 
 import argparse
+import math
 import threading
+from collections.abc import Callable
 from typing import Any
 
 LAG_HELP = "give no line earlier than so long after its transaction was seen whole in the log (0)"
@@ -35,17 +37,41 @@ def is_a_wait(seconds: float) -> bool:
     return 0 < seconds <= threading.TIMEOUT_MAX
 
 
-def lag_seconds(word: str) -> float:
-    """A number of seconds, of which 0 is one, as argparse takes it."""
-    return 0.0 if word == "0" else seconds(word)
-
-
 def seconds(word: str) -> float:
     """A number of seconds above 0, as argparse takes it."""
-    try:
-        number = float(word)
-    except ValueError:
-        number = 0.0
+    number = _number(word)
     if not is_a_wait(number):
         raise argparse.ArgumentTypeError(f"a number of seconds above 0 is wanted, not {word!r}")
     return number
+
+
+def lag_seconds(word: str) -> float:
+    """A number of seconds, of which 0 is one, as argparse takes it."""
+    number = _number(word)
+    if number and not is_a_wait(number):
+        raise argparse.ArgumentTypeError(f"a number of seconds is wanted, not {word!r}")
+    return number
+
+
+def _number(word: str) -> float:
+    """The number that a word is; nan where it is none."""
+    try:
+        return float(word)
+    except ValueError:
+        return math.nan
+
+
+def whole_number(most: int) -> Callable[[str], int]:
+    """What takes a whole number from 1 to the most, as argparse takes it."""
+
+    def taken(word: str) -> int:
+        """The number."""
+        try:
+            number = int(word) if word.isdecimal() else 0
+        except ValueError:  # Python reads some thousand digits at most
+            number = 0
+        if not 0 < number <= most:
+            raise argparse.ArgumentTypeError(f"a number from 1 to {most} is wanted, not {word!r}")
+        return number
+
+    return taken

@@ -3,7 +3,7 @@ from __future__ import annotations
 
 import json
 from collections.abc import Callable, Sequence
-from dataclasses import asdict, dataclass, replace
+from dataclasses import asdict, astuple, dataclass, replace
 from pathlib import Path
 from typing import Optional
 
@@ -82,10 +82,11 @@ class Place:
             parts = json.loads(text)
             if parts == asdict(cls()):
                 return cls()
-            token, file = parts.get("token"), parts.get("file")
-            place = cls(file or (token and token_parts(token).file), parts.get("begins"), token)
+            token = parts.get("token")
+            file_of_token = token_parts(token).file if token else None
+            place = cls(parts.get("file") or file_of_token, parts.get("begins"), token)
+            if not place.file or not all(it is None or isinstance(it, str) for it in astuple(place)):
+                raise ValueError("no file, or something else than a text")
         except (ValueError, AttributeError, TypeError) as error:
             raise BinlogfeedError(f"binlogfeed: this is no kept place: {text[:200]!r}", 3) from error
-        if place.file is None:
-            raise BinlogfeedError(f"binlogfeed: this is no kept place: {text[:200]!r}", 3)
         return place

@@ -54,7 +54,10 @@ class Program:
             )
         except OSError as error:
             self._said.close()
-            raise ProgramMissing(f"binlogfeed: the program can't be started: {error}") from error
+            # One that is there may be barred, or its words too many.
+            is_missing = isinstance(error, FileNotFoundError) and not os.path.dirname(command[0])
+            missing = "it isn't on PATH: name it by --program, or in Python by `program`" if is_missing else None
+            raise ProgramMissing(f"binlogfeed: the program can't be started: {command[0]}: {error.strerror}").hinted(missing) from error
         assert self._process.stdout is not None
         self._output = self._process.stdout
         # Where the system doesn't know it, or refuses it, the pipe is as it was.

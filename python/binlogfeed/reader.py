@@ -17,7 +17,7 @@ from binlogfeed.columns import GivenColumns, tables_of
 from binlogfeed.events import ROWS_EVENTS, Event, GtidEvent, RotateEvent, RowsEvent, Transaction, XidEvent
 from binlogfeed.faults import BinlogfeedError, ColumnsMismatch, FileFault, LogFault, TokenRefused, WordsRefused
 from binlogfeed.lines import Parts, reader_of_lines
-from binlogfeed.logs import Log, is_pattern, is_place_of_logs
+from binlogfeed.logs import Log, is_place_of_logs, none_of
 from binlogfeed.logs import beginning as beginning_of
 from binlogfeed.options import is_a_wait
 from binlogfeed.place import Place
@@ -401,7 +401,8 @@ class BinLogStreamReader(Generic[Given]):
             yield None
             if not self._blocking:
                 if watch.is_empty:
-                    raise FileFault(f"binlogfeed: {no_log_of(self._files)}")
+                    # Files that are named are never none.
+                    raise FileFault(f"binlogfeed: {none_of(cast(Path, self._files))}")
                 return
             if watch.is_empty and not is_empty:
                 is_empty = True
@@ -482,12 +483,6 @@ class BinLogStreamReader(Generic[Given]):
         """The event, where its class is asked for."""
         if type(event) in self._asked:
             yield event
-
-
-def no_log_of(files: Path | list[Path]) -> str:
-    """What is said where there is no log."""
-    place = files[0] if isinstance(files, list) else files
-    return f"no log matches {place}" if is_pattern(place) else f"there is no log in {place}"
 
 
 def _checked_files(files: Path | Iterable[Path] | None) -> Union[Path, list[Path]]:

@@ -10,7 +10,8 @@ from typing import NamedTuple, Optional, Union
 
 from binlogfeed.begin import FIRST, LOG, NOW, check_is_there, place_of, told_beginning
 from binlogfeed.faults import BinlogfeedError, FileFault, LogFault, LogLost, TokenRefused
-from binlogfeed.lag import Lag, last_members
+from binlogfeed.lag import Lag
+from binlogfeed.lines import last_members
 from binlogfeed.logs import Log, beginning, is_pattern, listed
 from binlogfeed.place import Place
 from binlogfeed.program import LookingRun, Run

@@ -97,7 +97,7 @@ class Files(FolderTest):
             self.assertEqual((caught.exception.line, caught.exception.status), (f"binlogfeed: {path} {said}", 2))
         with self.assertRaisesRegex(WordsRefused, "isn't UTF-8"):
             tables_of(self.put("columns.tsv", "TABLE_SCHEMA".encode("utf-16")))
-        with self.assertRaisesRegex(FileFault, "cannot open none"):
+        with self.assertRaisesRegex(FileFault, "cannot open none: No such file or directory"):
             tables_of("none")
 
     def test_mappings(self):

@@ -27,6 +27,10 @@ README_SHOWS = f"""\
 2592.1@binlog.000001 WriteRowsEvent [{{'values': {NEW}}}]
 3114.1@binlog.000001 UpdateRowsEvent [{{'before_values': {NEW}, 'after_values': {PAID}}}]
 """
+NO_CHANGE = (
+    "hint: no change in the files has this schema, table and key: a key has the value of each key column, of its type and in the key's order, "
+    "as lines have them\n"
+)
 
 
 def blocks(document, heading):
@@ -55,12 +59,12 @@ class Documents(FolderTest):
         (self.folder / "program/binlogfeed").symlink_to(Path(PROGRAM).absolute())
         self.put("binlogfeed", command.encode()).chmod(0o700)
 
-    def shown(self, command):
-        """What a command prints."""
+    def shown(self, command, hint=""):
+        """What a command prints that ends well, and says this hint alone."""
         path = f"{Path(sys.executable).parent}:{os.environ['PATH']}"
         environment = {**os.environ, "PATH": path, "PYTHONDONTWRITEBYTECODE": "1"}
         ended = subprocess.run(["bash", "-euc", command], cwd=self.folder, env=environment, capture_output=True, text=True, check=False)
-        self.assertEqual((ended.returncode, without_beginning(ended.stderr)), (0, ""))
+        self.assertEqual((ended.returncode, without_beginning(ended.stderr)), (0, hint))
         return ended.stdout
 
     def test_first_result(self):
@@ -101,12 +105,12 @@ class Documents(FolderTest):
         self.assertEqual((len(left), left[-1]), (9, LAST_ROW))
 
     def test_the_story_of_a_row(self):
-        """Where it is empty, nothing says so, and the page says how to see what the key has to be."""
+        """Where it is empty, a hint says so, and the page says how to see what the key has to be."""
         shows, look = blocks("docs/USAGE.md", "The story of a row")
         story, lines = shows.split("\n\n")
         self.assertEqual(self.shown(story), lines)
         for wrong in (story.replace("[2]", '["2"]'), story.replace("[2]", "[2,1]"), story.replace("customer", "costumer")):
-            self.assertEqual(self.shown(wrong), "")
+            self.assertEqual(self.shown(wrong, hint=NO_CHANGE), "")
         shown = json.loads(self.shown(look))
         key = json.dumps([shown["after"][name] for name in shown["key"]])
         self.assertIn(f'"name":"{shown["after"]["name"]}"', self.shown(story.replace("[2]", key)))

@@ -1,4 +1,5 @@
 """What ends `follow`, readers and the replica: a program that was killed, SIGTERM, and options that are none."""
+import argparse
 import contextlib
 import json
 import math
@@ -15,6 +16,7 @@ import logs
 from binlogfeed import BinLogStreamReader, FileFault, Place, ProgramFailed, files
 from binlogfeed import watch as watching
 from binlogfeed.follow import read_state
+from binlogfeed.options import lag_seconds, whole_number
 from binlogfeed.watch import Watch
 from support import PROGRAM, SECONDS, SHOP, TOP, FolderTest, running
 from test_follow import ENVIRONMENT, ServerTest, line, log
@@ -207,6 +209,20 @@ class Options(CommandTest):
                 wanted = f"error: argument {option}: a number of seconds above 0 is wanted, not {word!r}\n"
                 self.assertEqual((process.returncode, out), (2, b""))
                 self.assertTrue(said.decode().endswith(wanted), said)
+
+    def test_words(self):
+        """What the functions take that read an option's word."""
+        seconds, whole = "a number of seconds is wanted, not {!r}", "a number from 1 to 64 is wanted, not {!r}"
+        for takes, line, words in (
+            (lag_seconds, seconds, ("-1", "nan", "inf", "1e300", "x", "")),
+            (whole_number(64), whole, ("0", "-1", "65", "9" * 5000, "1.0", "x", "")),
+        ):  # fmt: skip
+            for word in words:
+                with self.assertRaises(argparse.ArgumentTypeError) as caught:
+                    takes(word)
+                self.assertEqual(str(caught.exception), line.format(word))
+        self.assertEqual([lag_seconds(word) for word in ("0", "0.0", "1e-3", "2")], [0.0, 0.0, 0.001, 2.0])
+        self.assertEqual([whole_number(64)(word) for word in ("1", "7", "64")], [1, 7, 64])
 
     def test_replica(self):
         words = ["sqlite:x", "shop", "binlog.*", "--interval"]

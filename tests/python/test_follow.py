@@ -50,6 +50,20 @@ class Refusing(io.BytesIO):
         raise BrokenPipeError
 
 
+class Watched(io.BytesIO):
+    """An output that notes something as each block comes."""
+
+    def __init__(self, note):
+        """Calls this before it takes a block."""
+        super().__init__()
+        self.note = note
+
+    def write(self, block):
+        """Notes it, and takes the block."""
+        self.note()
+        return super().write(block)
+
+
 class ServerTest(FolderTest):
     """A test with a server's folder, whose index it writes."""
 
@@ -205,17 +219,8 @@ class Growing(ServerTest):
         following.KEEP_BYTES = 1
         self.index("binlog.000001")
         self.log("binlog.000001", logs.worked_log(3_000))
-        kept, state = [], self.state
-
-        class Watched(io.BytesIO):
-            """An output that notes which place is kept as the next block comes."""
-
-            def write(self, block):
-                """Notes the place."""
-                kept.append((read_state(state).token, self.getvalue()))
-                return super().write(block)
-
-        out = Watched()
+        kept = []
+        out = Watched(lambda: kept.append((read_state(self.state).token, out.getvalue())))
         follower = self.follower(out)
         follower.catch_up()
         self.assertEqual(out.getvalue(), logs.change_lines(3_000, "binlog.000001"))
@@ -228,17 +233,7 @@ class Growing(ServerTest):
         self.addCleanup(setattr, following, "KEEP_BYTES", following.KEEP_BYTES)
         following.KEEP_BYTES = 1
         said = []
-
-        class Watched(io.BytesIO):
-            """An output that notes what is said as the next block comes."""
-
-            def write(self, block):
-                """Notes what is said."""
-                said.append((read_state(state).token, follower.status()))
-                return super().write(block)
-
-        state = self.state
-        follower = self.follower(Watched())
+        follower = self.follower(Watched(lambda: said.append((read_state(self.state).token, follower.status()))))
         self.index("binlog.000001")
         for count, done in ((1_500, 0), (3_000, len(logs.worked_log(1_500)))):
             self.log("binlog.000001", logs.worked_log(count))
@@ -258,22 +253,6 @@ class Growing(ServerTest):
         self.assertGreater(len(within), 3)
         for token, status in within:
             self.assertIn(f" {len(logs.worked_log(1_400)) - int(token.partition('.')[0])} bytes behind,", status)
-
-    def test_an_output_that_takes_a_part(self):
-        """What is left of a block is written, too."""
-
-        class Narrow(io.BytesIO):
-            """An output that takes ten bytes at a time."""
-
-            def write(self, block):
-                """Takes ten bytes."""
-                return super().write(block[:10])
-
-        out = Narrow()
-        self.index("binlog.000001")
-        self.log("binlog.000001", log(1, 2))
-        self.follower(out).catch_up()
-        self.assertEqual(out.getvalue(), read([self.data / "binlog.000001"]))
 
     def test_nothing_new(self):
         self.index("binlog.000001")
@@ -509,13 +488,15 @@ class States(ServerTest):
         """Of what is written, a pipe or a full disk may take some bytes alone. The rest is written then."""
 
         class Taking(io.BytesIO):
-            """An output that takes seven bytes at most."""
+            """An output that takes so many bytes at most."""
 
             def write(self, block):
                 """Takes some."""
-                return super().write(bytes(block[:7]))
+                return super().write(bytes(block[:most]))
 
-        self.assertEqual(self.followed(Taking()), line(1, 153, "binlog.000001") + line(2, 371, "binlog.000001"))
+        for most in (7, 10):
+            self.assertEqual(self.followed(Taking()), line(1, 153, "binlog.000001") + line(2, 371, "binlog.000001"))
+            self.state.unlink()
 
     def test_by_hand(self):
         self.state.write_text('{"token": "153.1@binlog.000001"}')

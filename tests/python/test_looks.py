@@ -9,13 +9,9 @@ from binlogfeed.program import LookingRun
 from binlogfeed.watch import Watch
 from built.growing import Driver, Server
 from support import BANK, PROGRAM, SHOP, FolderTest
+from test_follow import read
 
 FOLLOW = [PROGRAM, "read", "--follow"]
-
-
-def read(files, *words):
-    """The lines of one `read`."""
-    return subprocess.run([PROGRAM, "read", *words, *map(str, files)], capture_output=True, check=True).stdout
 
 
 class Protocol(FolderTest):

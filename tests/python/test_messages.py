@@ -16,7 +16,7 @@ from binlogfeed.hints import hints_of
 from binlogfeed.watch import Watch
 from built.check import command
 from built.terminal import LOGS, lay_out, run_at_terminal
-from support import PROGRAM, SHOP, TOP, FolderTest, without_beginning
+from support import PROGRAM, SHOP, TOP, without_beginning
 from test_follow import ENVIRONMENT, ServerTest, line, log
 
 REPLICA = TOP / "examples/replica/replica.py"
@@ -38,14 +38,18 @@ class CommandTest(ServerTest):
         return self.run_command("-m", "binlogfeed", "follow", "--once", "--state", self.state, "--program", PROGRAM, *words, **options)
 
 
-class Folders(CommandTest):
-    """Folders that aren't there, or may not be listed."""
+class OneTransaction(CommandTest):
+    """A server's folder with a log of one transaction."""
 
     def setUp(self):
-        """A server's folder that lets nobody list it."""
+        """Makes it."""
         super().setUp()
         self.log("binlog.000001", log(1))
         self.index("binlog.000001")
+
+
+class Folders(OneTransaction):
+    """Folders that aren't there, or may not be listed."""
 
     def closed(self, mode):
         """The folder with this mode, until the test ends."""
@@ -102,14 +106,8 @@ class Folders(CommandTest):
             self.assertEqual([path.name for path in listed(self.data)], ["binlog.000001", "binlog.000002"][:wanted])
 
 
-class Outputs(CommandTest):
+class Outputs(OneTransaction):
     """Outputs and states that can't be written."""
-
-    def setUp(self):
-        """A log of one transaction."""
-        super().setUp()
-        self.log("binlog.000001", log(1))
-        self.index("binlog.000001")
 
     def test_a_full_output(self):
         words = [sys.executable, "-m", "binlogfeed", "follow", "--once", "--state", self.state, "--program", PROGRAM, self.data]

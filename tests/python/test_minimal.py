@@ -249,4 +249,4 @@ class Replica(FolderTest):
         other = self.put("columns.tsv", "".join("\t".join([*row[:3], row[4]]) + "\n" for row in rows).encode())
         said = self.kept(self.files.made(TABLES), "--columns", str(other))
         self.assertEqual(said, (2, f"replica: {other} has no COLUMN_TYPE, which the replica needs\n"))
-        self.assertEqual(self.kept(self.files.made(TABLES), "--columns", "none"), (4, "binlogfeed: cannot open none\n"))
+        self.assertEqual(self.kept(self.files.made(TABLES), "--columns", "none"), (4, "binlogfeed: cannot open none: No such file or directory\n"))

@@ -9,7 +9,18 @@ from unittest import mock
 
 import fitting
 import logs
-from binlogfeed import BinLogStreamReader, ConversionFailed, LogFault, LogLost, LogsGone, OutOfMemory, Place, XidEvent
+from binlogfeed import (
+    BinlogfeedError,
+    BinLogStreamReader,
+    ConversionFailed,
+    FileFault,
+    LogFault,
+    LogLost,
+    LogsGone,
+    OutOfMemory,
+    Place,
+    XidEvent,
+)
 from binlogfeed import watch as watching
 from binlogfeed.follow import read_state
 from binlogfeed.logs import beginning, listed
@@ -180,9 +191,19 @@ class Looks(ReaderTest):
 
     def test_a_kept_place_that_cannot_be_read(self):
         """It is none at the beginning of all logs."""
-        with self.assertRaises(IsADirectoryError):
+        with self.assertRaisesRegex(FileFault, f"cannot open {self.folder}: Is a directory"):
             read_state(self.folder)
         self.assertEqual(read_state(self.folder / "missing"), Place())
+
+    def test_a_kept_place_that_is_damaged(self):
+        """The file is named below the line."""
+        for content, told in ((b"", ""), (b"[7]", "[7]"), (b"\xff\0", r"\udcff\x00")):
+            path = self.put("state", content)
+            with self.assertRaises(BinlogfeedError) as caught:
+                read_state(path)
+            found = caught.exception
+            line = f"binlogfeed: this is no kept place: '{told}'"
+            self.assertEqual((found.line, found.hints, found.status), (line, (f"the file is {path}",), 3))
 
     def test_an_index_whose_names_are_not_utf_8(self):
         """They are told as Python tells such names."""

@@ -102,7 +102,10 @@ class Resumes(FolderTest):
     def test_refused(self):
         with self.assertRaises(TokenRefused):
             tokens([SHOP[0]], resume=Place("binlog.000002"))
-        for text in ("{}", '{"token": 7}', '{"file"'):
+        for text in (
+            *("{}", '{"token": 7}', '{"file"', '{"token": "4@f"}', '{"token": "4.1"}', '{"file": "f", "token": "4.x@f"}', '{"file": 7}'),
+            '{"file": "f", "begins": 7, "token": null}',
+        ):
             with self.assertRaises(BinlogfeedError) as caught:
                 tokens(SHOP, resume=text)
             self.assertEqual(caught.exception.status, 3)

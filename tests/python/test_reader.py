@@ -2,7 +2,6 @@
 import json
 import os
 import random
-import struct
 import subprocess
 import sys
 import threading
@@ -738,8 +737,18 @@ class Errors(FolderTest):
             self.assertEqual(found, ["4.1@f"])
 
     def test_missing_program(self):
-        with self.assertRaises(ProgramMissing):
-            list(BinLogStreamReader(SHOP, program=self.folder / "none"))
+        """Of one that is named without a folder the hint says where it was looked for."""
+        hint = "it isn't on PATH: name it by --program, or in Python by `program`"
+        for program, hints in ((str(self.folder / "none"), ()), ("binlogfeed-of-nowhere", (hint,))):
+            with self.assertRaises(ProgramMissing) as caught:
+                list(BinLogStreamReader(SHOP, program=program))
+            line = f"binlogfeed: the program can't be started: {program}: No such file or directory"
+            self.assertEqual((caught.exception.line, caught.exception.hints), (line, hints))
+        self.put("barred", b"")
+        with mock.patch.dict("os.environ", {"PATH": str(self.folder)}), self.assertRaises(ProgramMissing) as caught:
+            list(BinLogStreamReader(SHOP, program="barred"))
+        line = "binlogfeed: the program can't be started: barred: Permission denied"
+        self.assertEqual((caught.exception.line, caught.exception.hints), (line, ()))
 
     def test_the_input_is_not_taken(self):
         """What stands at this process's standard input is left to it."""
