@@ -28,12 +28,21 @@ def replace(path: Path, content: bytes) -> None:
     sync_folder(path.parent)
 
 
-def write_all(write: Callable[[memoryview], int], content: bytes, where: str) -> None:
-    """Writes bytes, of which a call may take a part. A full disk may have room for the rest soon, or never: `where` has none then."""
+def write_all(write: Callable[[memoryview], int | None], content: bytes, where: str) -> None:
+    """Writes bytes, of which a call may take a part. A full disk may have room for the rest soon, or never: `where` has none then.
+
+    A pipe that doesn't block, since another process shares it, takes none while it is full. Then there is a pause.
+    """
     left = memoryview(content)
     with writing(where):
         while left:
-            left = left[write(left) :]
+            try:
+                count = write(left) or 0
+            except BlockingIOError:
+                count = 0
+            if count == 0:
+                time.sleep(PAUSE)
+            left = left[count:]
 
 
 @contextmanager

@@ -10,6 +10,7 @@ import subprocess
 import sys
 import threading
 import time
+from functools import partial
 from unittest import mock
 
 import logs
@@ -153,6 +154,25 @@ class Locks(FolderTest):
             files.locked(path, "it is in use")
         self.assertEqual(caught.exception.line, "it is in use")
         files.locked(path, "it is in use").close()
+
+
+class SharedPipe(FolderTest):
+    """A pipe that another process has made one that doesn't block."""
+
+    def test_it_is_full_for_a_while(self):
+        """All is written, whether a full pipe is told by a fault, as `os.write` does, or by none, as a raw file does."""
+        content = os.urandom(300_000)
+        for is_raw in (False, True):
+            with self.subTest(is_raw=is_raw):
+                read, write = os.pipe()
+                os.set_blocking(write, False)
+                taken = []
+                with open(read, "rb") as reader, open(write, "wb", buffering=0) as writer:
+                    late = threading.Timer(0.1, lambda file=reader: taken.append(file.read(len(content))))
+                    late.start()
+                    files.write_all(writer.write if is_raw else partial(os.write, write), content, "the output")
+                    late.join()
+                self.assertEqual(taken, [content])
 
 
 class FullPipe(CommandTest):
