@@ -64,14 +64,15 @@ GoesOnOverNone = (style : Style) (chosen : Filter) (feed later : FeedView) (earl
     → Went style chosen (before_any feed) no_files (behind_none later) earlier [] (Ok 0)
     × (Went style chosen (before_any feed) no_files (behind_none later) earlier [] (Err (run.Token NoFile)) → ⊥)
 
--- Only a feed that has told its end goes on, and its window is never taken away. A file has the name of its last one, and no read begins before
--- that file.
+-- Only a feed that has told its end goes on, and its window is never taken away. A file has the name of its last one, none behind that the name
+-- of another one, and no read begins before that file.
 abbrev pub DoesNotGoOn : Type 0
 DoesNotGoOn = (style : Style) (chosen : Filter) (feed later : FeedView) (logs earlier : SourceState) (text : List ℕ) (result : Result ℕ RunFault)
     → (Went style chosen (record feed { settled = None }) logs later earlier text result → ⊥)
     × (Went style chosen (record feed { settled = Some (Some second_end) }) logs later earlier text result → ⊥)
     × (Went style chosen (before_any feed) logs (record later { window_length = 8 }) earlier text result → ⊥)
     × (Went style chosen (record feed { names = two_names }) (record logs { names = first_name ∷ [] }) later earlier text result → ⊥)
+    × (Went style chosen (record feed { names = two_names }) (record logs { names = second_name ∷ first_name ∷ [] }) later earlier text result → ⊥)
     × (Went style chosen (record feed { names = second_name ∷ [] }) (record logs { names = two_names; asked = [] }) (record later { asked = (0, 4) ∷ [] }) earlier text result → ⊥)
 
 -- ---- where a read failed

@@ -1,9 +1,11 @@
-use Rattle.std.proofs.Common.{◌≡◌, ◌≤◌, ◌∙◌, ℕ, List, [], ◌∷◌, ◌++◌, append-nil, Some, None, refl, sym, subst, inl, inr, arith}
+use Rattle.std.proofs.Common.{◌≡◌, ◌≤◌, ◌∙◌, ℕ, zero, suc, List, [], ◌∷◌, ◌++◌, append-nil, Some, None, refl, sym, subst, inl, inr, arith}
 use Rattle.std.specs.List.{All}
 use Rattle.std.specs.Prelude.{get_or, slice_get}
 use Rattle.std.proofs.lemmas.List.Elements.{All-nil}
 use Rattle.std.proofs.lemmas.Option.{same_Some}
 use Rattle.binlog_frame.specs.Logs.{NotPast}
+use Rattle.binlog_feed.specs.Growing.{AreNewBehind}
+use Rattle.binlog_feed.specs.Searching.{IsFirstNamed}
 use Rattle.binlog_units.specs.Places.{begin_file}
 use Rattle.binlog_samples.specs.GoingOn.{second_end}
 use Rattle.binlog_samples.specs.Statuses.{two_names}
@@ -20,6 +22,7 @@ returns-clause-goes_on_over_none c style chosen feed later earlier = (
     place = begin_file 0;
     inside = omega arith;
     there = λ some. absurd (omega (arith, some));
+    new_names = λ number name below here i within. absurd (omega (arith, within));
     asks = record { more = []; noted = refl; behind = All-nil (NotPast (0, 0)) };
     marks = inl refl;
     text = λ honest. (refl, refl, refl);
@@ -31,6 +34,12 @@ returns-clause-goes_on_over_none c style chosen feed later earlier = (
   },
   (λ went. went.text refl),
 )
+
+-- the first file stands behind the last one again
+out_of_order : (file : ℕ) (name : List ℕ) → slice_get two_names 1 ≡ Some name → IsFirstNamed (second_name ∷ first_name ∷ []) name file → AreNewBehind two_names (second_name ∷ first_name ∷ []) file → ⊥
+out_of_order zero name named found new = new 1 first_name (omega arith) refl 0 (omega arith) refl
+out_of_order (suc zero) name named found new = first_is_not_second (same_Some first_name second_name (found.1 ∙ sym named))
+out_of_order (suc (suc n)) name named found new = let lt = found.0 in omega (arith, lt)
 
 -- a read at another place is none from there on
 read_before : (file : ℕ) (more : List (ℕ × ℕ)) → (0, 4) ∷ [] ≡ more ++ [] → All (NotPast (file, 0)) more → file ≡ 0
@@ -50,6 +59,7 @@ returns-clause-does_not_go_on c style chosen feed later logs earlier text result
   (λ went.
       let there = went.there (omega arith) in
       not_alone first_name there.name went.place.file (λ e. first_is_not_second (e ∙ sym (same_Some second_name there.name there.named))) there.found),
+  (λ went. let there = went.there (omega arith) in out_of_order went.place.file there.name there.named there.found went.new_names),
   (λ went.
       let there = went.there (omega arith) in
       let file = read_before went.place.file went.asks.more went.asks.noted went.asks.behind in
