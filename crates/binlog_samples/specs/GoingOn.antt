@@ -155,7 +155,7 @@ abbrev pub followed_names : List (List ℕ)
 followed_names = first_name ∷ second_name ∷ []
 
 -- A file is gone where none has the name of the feed's last one, and of two files with one name the second is told. One of the feed's files
--- is out of order where it stands behind its last one.
+-- is out of order where it is the first that stands behind its last one.
 abbrev pub GoOnRefused : Type 0
 GoOnRefused = (feed : FeedView)
     → RefusesGoOn (record feed { names = followed_names }) (first_name ∷ third_name ∷ []) going.FileGone
@@ -165,4 +165,5 @@ GoOnRefused = (feed : FeedView)
     × (RefusesGoOn (record feed { names = third_name ∷ third_name ∷ [] }) followed_names (going.DuplicateFile 1) → ⊥)
     × RefusesGoOn (record feed { names = followed_names }) (second_name ∷ third_name ∷ first_name ∷ []) (going.OutOfOrder 2)
     × (RefusesGoOn (record feed { names = followed_names }) (second_name ∷ third_name ∷ first_name ∷ []) (going.OutOfOrder 1) → ⊥)
+    × (RefusesGoOn (record feed { names = followed_names }) (second_name ∷ first_name ∷ first_name ∷ []) (going.OutOfOrder 2) → ⊥)
     × (RefusesGoOn (record feed { names = followed_names }) (first_name ∷ second_name ∷ []) (going.OutOfOrder 0) → ⊥)

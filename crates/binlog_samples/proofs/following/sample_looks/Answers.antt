@@ -87,7 +87,7 @@ unfolding on_bytes content_fault
 returns-clause-last_files_reach c = (
   record {
     place = begin_file 0;
-    behind = record { name = first_name; some = search rules; named = refl; found = search rules; behind = inl (refl, refl); reaches = search rules; has_event = λ some none. omega (arith, some) };
+    behind = record { name = first_name; some = search rules; named = refl; found = search rules; whole = refl; behind = inl (refl, refl); reaches = search rules; has_event = λ some none. omega (arith, some) };
     comes = refl;
   },
   cut_short all,

@@ -40,7 +40,7 @@ returns-clause-both_are_written c style chosen = record {
   coming = record { changes = feed one_file (passes_by chosen); end = None };
   behind = record {
     place = begin_file 0;
-    behind = record { name = first_name; some = search rules; named = refl; found = search rules; behind = inl (refl, refl); reaches = search rules; has_event = λ some none. omega (arith, some) };
+    behind = record { name = first_name; some = search rules; named = refl; found = search rules; whole = refl; behind = inl (refl, refl); reaches = search rules; has_event = λ some none. omega (arith, some) };
     comes = refl;
   };
   writes = (refl, refl);

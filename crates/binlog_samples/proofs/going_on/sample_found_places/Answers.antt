@@ -58,12 +58,13 @@ returns-clause-place_found c = (
     some = omega arith;
     named = refl;
     found = first_named first_name (second_name ∷ []);
+    whole = refl;
     behind = inr (omega arith, refl, refl, splits_first);
     reaches = omega arith;
     has_event = λ some none. cc;
   },
-  record { name = first_name; some = omega arith; named = refl; found = first_named first_name (second_name ∷ []); behind = inl (refl, refl); reaches = omega arith; has_event = never_before first_file.bytes },
-  record { name = first_name; some = omega arith; named = refl; found = second_named third_name first_name [] third_is_not_first; behind = inl (refl, refl); reaches = omega arith; has_event = never_before first_file.bytes },
+  record { name = first_name; some = omega arith; named = refl; found = first_named first_name (second_name ∷ []); whole = refl; behind = inl (refl, refl); reaches = omega arith; has_event = never_before first_file.bytes },
+  record { name = first_name; some = omega arith; named = refl; found = second_named third_name first_name [] third_is_not_first; whole = refl; behind = inl (refl, refl); reaches = omega arith; has_event = never_before first_file.bytes },
 )
 
 stands_at : (bytes : List ℕ) (file at : ℕ) (place : Place) → IsBehindAt bytes file at place → place_of place.frames ≡ at

@@ -1,6 +1,7 @@
 use Rattle.std.proofs.Common.{◌≡◌, ◌∙◌, ◌<◌, ℕ, zero, suc, List, [], ◌∷◌, Some, refl, sym, ap, arith}
 use Rattle.std.specs.Prelude.{◌≢◌, slice_get}
 use Rattle.std.proofs.lemmas.Option.{same_Some}
+use Rattle.binlog_feed.specs.Searching.{IsFirstNamed, IsNoneNamed}
 use Rattle.binlog_samples.specs.GoingOn.{followed_names}
 use Rattle.binlog_samples.specs.Tokens.{first_name, second_name, third_name}
 use Rattle.binlog_samples.proofs.GrownFiles.{numbers_differ}
@@ -28,6 +29,18 @@ third_is_new zero name here there = third_is_not_first (same_Some third_name fir
 third_is_new (suc zero) name here there = third_is_not_second (same_Some third_name second_name (here ∙ sym there))
 third_is_new (suc (suc earlier)) name here there = cc
 
+-- the third file stands between
+between : (number : ℕ) (name : List ℕ) → 0 < number → number < 2 → slice_get (second_name ∷ third_name ∷ first_name ∷ []) number ≡ Some name → IsNoneNamed followed_names name 2
+between zero name behind before here = absurd (omega (arith, behind))
+between (suc zero) name behind before here = λ i within there. third_is_new i name here there
+between (suc (suc number)) name behind before here = absurd (omega (arith, before))
+
+-- the first file stands there twice
+not_first : (file : ℕ) (name : List ℕ) → slice_get followed_names 1 ≡ Some name → IsFirstNamed (second_name ∷ first_name ∷ first_name ∷ []) name file
+    → ((number : ℕ) (other : List ℕ) → file < number → number < 2 → slice_get (second_name ∷ first_name ∷ first_name ∷ []) number ≡ Some other → IsNoneNamed followed_names other 2) → ⊥
+not_first zero name named found first = first 1 first_name (omega arith) (omega arith) refl 0 (omega arith) refl
+not_first (suc file) name named found first = found.2 0 (omega arith) named
+
 pub returns-clause-go_on_refused : goal.returns-clause-go_on_refused
 returns-clause-go_on_refused c feed = (
   record { name = second_name; named = refl; absent = neither },
@@ -41,8 +54,9 @@ returns-clause-go_on_refused c feed = (
   (
     0,
     record { name = second_name; named = refl; found = (omega arith, refl, λ i below e. omega (arith, below)) },
-    record { behind = omega arith; name = first_name; here = refl; earlier = 0; there = refl },
+    record { behind = omega arith; name = first_name; here = refl; earlier = 0; there = refl; first = between },
   ),
   (λ again. third_is_new again.2.earlier again.2.name again.2.here again.2.there),
+  (λ again. not_first again.0 again.1.name again.1.named again.1.found again.2.first),
   (λ again. let below = again.2.behind in omega (arith, below)),
 )
