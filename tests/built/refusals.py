@@ -23,7 +23,7 @@ def judge_words(words: list[str], goes_on: bool, log: bytes, text: bytes, progra
 
     A growth that is refused is asked for once more, so a few refusals leave the run as it is.
     """
-    put(folder, ["log"], log)
+    put(folder, ["log", "next"], log)
     whole, (requests, *_) = run_preloaded(program, words, folder, text=text)
     if whole.status != 0:
         return [f"status {whole.status}, where none of {requests} is refused"]
@@ -76,10 +76,11 @@ RUNS = (
     (["read", "--full", "--profile", "server", "log"], True, NUMBERED),
     (["history", "--full", "--profile", "server", "--schema", "s", "--table", "t", "--key", "[1]", "log"], False, NUMBERED_KEY),
 )
-# Runs that follow the log, with their inputs: the path of one takes 4 KB.
+# Runs that follow the log, with their inputs: the path of one takes 4 KB, and one keeps the name of a log that is gone.
 FOLLOWED = (
     (["read", "--follow"], b"\nlog\n\n\n"),
     (["read", "--follow", "log"], b"\n" + b"./" * 2_000 + b"log\n\n\n"),
+    (["read", "--follow", "log", "next"], b"next\n\n\n"),
 )
 
 

@@ -363,7 +363,7 @@ RUNS = (
         ["read", "--follow", "log", "logs/next"],
         2,
         "file out of order: log",
-        "hint: a file that the list before had, too, stands behind that list's last one: "
+        "hint: a file that an earlier list had, too, stands behind the last one of the list before: "
         "give the files in the order in which the server wrote them\n",
         b"logs/next\nlog\n\n",
     ),

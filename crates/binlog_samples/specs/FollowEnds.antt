@@ -17,8 +17,8 @@ use Rattle.binlogfeed.specs.declared.fault.TokenRefusal.TheVariants.{NoTransacti
 use Rattle.binlogfeed.specs.declared.follow_fault.FollowFault.TheVariants.{Input, Unopened, NotBegun, Refused, Ended}
 use Rattle.binlogfeed.specs.declared.lists.ListFault.TheVariants as lists
 use Rattle.binlog_samples.specs.Statuses.{two_names}
-use Rattle.binlog_samples.specs.Tokens.{first_name, second_name, token, first_file, bad_in_second, bad_behind_second, bad_before}
-use Rattle.binlog_samples.specs.Following.{a_path, a_names, all, look_at, cut_look, one_file, both_files, last_files, earlier_looks}
+use Rattle.binlog_samples.specs.Tokens.{first_name, second_name, token, first_file, second_file, bad_in_second, bad_behind_second, bad_before}
+use Rattle.binlog_samples.specs.Following.{a_path, a_names, all, look_at, cut_look, one_file, both_files, last_files, earlier_looks, back_files}
 use Rattle.binlog_feed.specs.declared.fault.GoOnFault.TheVariants as going
 
 -- ---- the newest look
@@ -130,21 +130,25 @@ abbrev pub look_by : List (List ℕ) → Look
 look_by names = record { names = names; contents = record { profile = Strict; files = [] }; honest = true; failures = 0 }
 
 -- A file is gone where none of the list has the name of the newest look's last one. Of two files of the list with one name the second is
--- told. That a change is still to come is never told.
+-- told. A file is out of order where it stands behind that last one, and an earlier look had it. That a change is still to come is never told.
 abbrev pub ListsRefused : Type 0
 ListsRefused =
-    RefusesList (look_by two_names) (look_by (first_name ∷ [])) going.FileGone × (RefusesList (look_by two_names) (look_by (second_name ∷ [])) going.FileGone → ⊥)
-    × (RefusesList (look_by two_names) (look_by two_names) going.FileGone → ⊥)
-    × RefusesList (look_by two_names) (look_by (first_name ∷ first_name ∷ [])) (going.DuplicateFile 1)
-    × (RefusesList (look_by two_names) (look_by (first_name ∷ first_name ∷ [])) (going.DuplicateFile 0) → ⊥)
-    × (RefusesList (look_by (first_name ∷ first_name ∷ [])) (look_by two_names) (going.DuplicateFile 1) → ⊥)
-    × (RefusesList (look_by two_names) (look_by two_names) going.NotAtEnd → ⊥)
+    RefusesList (look_by two_names) [] (look_by (first_name ∷ [])) going.FileGone × (RefusesList (look_by two_names) [] (look_by (second_name ∷ [])) going.FileGone → ⊥)
+    × (RefusesList (look_by two_names) [] (look_by two_names) going.FileGone → ⊥)
+    × RefusesList (look_by two_names) [] (look_by (first_name ∷ first_name ∷ [])) (going.DuplicateFile 1)
+    × (RefusesList (look_by two_names) [] (look_by (first_name ∷ first_name ∷ [])) (going.DuplicateFile 0) → ⊥)
+    × (RefusesList (look_by (first_name ∷ first_name ∷ [])) [] (look_by two_names) (going.DuplicateFile 1) → ⊥)
+    × RefusesList (look_by (second_name ∷ [])) (look_by two_names ∷ []) (look_by (second_name ∷ first_name ∷ [])) (going.OutOfOrder 1)
+    × (RefusesList (look_by (second_name ∷ [])) [] (look_by (second_name ∷ first_name ∷ [])) (going.OutOfOrder 1) → ⊥)
+    × (RefusesList (look_by (second_name ∷ [])) (look_by two_names ∷ []) (look_by (first_name ∷ second_name ∷ [])) (going.OutOfOrder 0) → ⊥)
+    × (RefusesList (look_by two_names) [] (look_by two_names) going.NotAtEnd → ⊥)
 
--- Each look continues the one before it, also where newer ones stand in front of the two.
+-- Each look continues the one before it, also where newer ones stand in front of the two. None does in which a file comes back.
 abbrev pub LooksContinue : Type 0
 LooksContinue =
     EachContinues (look_at last_files) earlier_looks × (EachContinues (cut_look 370) (look_at one_file ∷ []) → ⊥)
     × (EachContinues (cut_look 370) (cut_look 370 ∷ look_at one_file ∷ []) → ⊥)
+    × (EachContinues (look_at back_files) (look_at (second_file [] ∷ []) ∷ look_at both_files ∷ []) → ⊥)
 
 -- a look at the first file with another first byte, and its fault
 abbrev pub changed_look : Look

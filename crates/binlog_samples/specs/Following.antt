@@ -12,7 +12,7 @@ use Rattle.binlog_units.specs.declared.fault.FeedFault.TheVariants as reading
 use Rattle.binlog_feed.specs.declared.start.Start.TheVariants.{Beginning, After}
 use Rattle.binlogfeed.specs.Follow.{EachKeepsLast, FailsAs, ReadsLists, WroteEach, WritesText, looks_made, blank_text, follow_status_of, input_text, list_status_of, refusal_status_of, list_refusal_text}
 use Rattle.binlogfeed.specs.Lists.{BeginsWithList, HasNoList, list_text}
-use Rattle.binlogfeed.specs.Looks.{AllHonest, AreParts, BeginsFollowing, EndsBehindStart, HasLast, Look, first_look, gone_by, joined_parts, looks_text}
+use Rattle.binlogfeed.specs.Looks.{AllHonest, AreParts, BeginsFollowing, EndsBehindStart, HasLast, HasLastSince, Look, first_look, gone_by, joined_parts, looks_text}
 use Rattle.binlogfeed.specs.Turns.{Turns, lists_text}
 use Rattle.binlogfeed.specs.declared.fault.RunFault.TheVariants as run
 use Rattle.binlogfeed.specs.declared.follow_fault.FollowFault.TheVariants.{Input, Unopened, NotBegun, Refused, Ended}
@@ -95,6 +95,9 @@ both_files = first_file ∷ second_file [] ∷ []
 abbrev pub last_files : List LogFile
 last_files = second_file [] ∷ third_file ∷ []
 
+abbrev pub back_files : List LogFile
+back_files = second_file [] ∷ first_file ∷ []
+
 abbrev pub earlier_looks : List Look
 earlier_looks = look_at both_files ∷ look_at one_file ∷ []
 
@@ -142,6 +145,13 @@ LastFilesStay =
     HasLast two_names (third_name ∷ second_name ∷ []) × (HasLast two_names (first_name ∷ []) → ⊥)
     × (HasLast two_names (second_name ∷ first_name ∷ []) → ⊥)
     × ((style : Style) (chosen : Filter) → EachKeepsLast style chosen Beginning 0 (Some []) (Some []) (Some (Ok tt)) (look_at (third_file ∷ []) ∷ look_at one_file ∷ []) → ⊥)
+
+-- A file that is gone may come back in front of that one, and not behind it.
+abbrev pub FilesComeBack : Type 0
+FilesComeBack =
+    HasLastSince (second_name ∷ []) (look_at both_files ∷ []) (first_name ∷ second_name ∷ [])
+    × (HasLastSince (second_name ∷ []) (look_at both_files ∷ []) (second_name ∷ first_name ∷ []) → ⊥)
+    × ((style : Style) (chosen : Filter) → EachKeepsLast style chosen Beginning 0 (Some []) (Some []) (Some (Ok tt)) (look_at back_files ∷ look_at (second_file [] ∷ []) ∷ look_at both_files ∷ []) → ⊥)
 
 -- Looks at files that are honest, and a start behind which their faults stand: so the promises of looks aren't empty.
 abbrev pub LooksAreHonest : Type 0

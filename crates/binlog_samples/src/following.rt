@@ -1,5 +1,5 @@
 //! The definitions of runs that follow: lists of files, looks at them, and how such a run ends.
-ghost use Rattle.binlog_samples.specs.Following.{ListTexts, ListsBegin, NoLists, CutLists, TurnsOfLists, TurnsOfFiles, TwoListsAreNotOne, PartsOfLooks, BeginsAtEnd, GoneFiles, JoinedParts, EmptyLooks, LastFilesStay, LooksAreHonest, LooksAreWritten, MadeLooks, TextsOfRefusals, StatusesOfRefusals, StatusesOfEnds, TextsOfEnds, FailuresOfEnds};
+ghost use Rattle.binlog_samples.specs.Following.{ListTexts, ListsBegin, NoLists, CutLists, TurnsOfLists, TurnsOfFiles, TwoListsAreNotOne, PartsOfLooks, BeginsAtEnd, GoneFiles, JoinedParts, EmptyLooks, FilesComeBack, LastFilesStay, LooksAreHonest, LooksAreWritten, MadeLooks, TextsOfRefusals, StatusesOfRefusals, StatusesOfEnds, TextsOfEnds, FailuresOfEnds};
 ghost use Rattle.binlog_samples.specs.LastFiles.{ComesOnce, LastFilesReach};
 ghost use Rattle.binlog_samples.specs.FollowNext.{BothAreNotWritten, BothAreWritten, LastIsWritten, LooksDiffer, NextIsNotWritten, NextIsWritten};
 ghost use Rattle.binlog_samples.specs.FollowEnds.{EndsWithoutFault, EndsWithFault, EndsByDevice, FaultsAtStarts, FilesNamed, FailuresOfEither, FailuresOfRefusals};
@@ -26,6 +26,7 @@ pub fn sample_looks()
     ensures empty_looks { EmptyLooks }
     ensures looks_are_written { LooksAreWritten }
     ensures last_files_stay { LastFilesStay }
+    ensures files_come_back { FilesComeBack }
     ensures last_files_reach { LastFilesReach }
     ensures comes_once { ComesOnce }
     ensures looks_are_honest { LooksAreHonest }

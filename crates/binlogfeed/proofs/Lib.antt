@@ -18,6 +18,7 @@ pub mod Refusing
 pub mod InputLines
 pub mod Looked
 pub mod LooksOnce
+pub mod NamesGone
 pub mod FollowedLooks
 pub mod TurnedLists
 pub mod Following

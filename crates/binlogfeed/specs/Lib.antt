@@ -24,4 +24,5 @@ pub mod Openings
 pub mod LookSteps
 pub mod RunsOn
 pub mod FollowReads
+pub mod NamesGone
 pub mod ProgramSteps

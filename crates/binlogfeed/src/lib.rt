@@ -15,6 +15,7 @@ mod key_words;
 mod lists;
 mod look;
 pub mod looks;
+mod names_gone;
 mod opening;
 mod opening_at_end;
 mod options;

@@ -51,7 +51,7 @@ pub(crate) fn hint_refusal<R: Eprint + Files>(
         GoOnFault::DuplicateFile(file) => tell_look(rt, &RunFault::DuplicateFile(*file), paths),
         GoOnFault::OutOfOrder(_) => give(
             rt,
-            "a file that the list before had, too, stands behind that list's last one: give the files in the order in which the server wrote them",
+            "a file that an earlier list had, too, stands behind the last one of the list before: give the files in the order in which the server wrote them",
         ),
         GoOnFault::FileGone => give(
             rt,

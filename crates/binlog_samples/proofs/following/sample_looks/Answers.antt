@@ -14,7 +14,7 @@ use Rattle.binlog_units.specs.Parsing.{terms_of}
 use Rattle.binlog_units.specs.Places.{begin_file}
 use Rattle.binlog_units.specs.declared.place.Place.{Place}
 use Rattle.binlog_units.specs.declared.unit_state.UnitState.TheVariants.{Nothing}
-use Rattle.binlogfeed.specs.Looks.{HasLast}
+use Rattle.binlogfeed.specs.Looks.{HasLast, HasLastSince}
 use Rattle.binlogfeed.specs.Lines.{change_lines}
 use Rattle.binlog_samples.specs.Changes.{brief}
 use Rattle.binlog_samples.specs.Statuses.{two_names}
@@ -79,7 +79,26 @@ returns-clause-last_files_stay c = (
   (1, record { name = second_name; named = refl; found = search rules }, λ number name below e i within. absurd (omega (arith, below, slice_get_within (third_name ∷ second_name ∷ []) number name e))),
   none_has two_names (first_name ∷ []) first_name second_name refl refl (λ e. search rules),
   (λ h. out_of_order h.0 h.1 h.2),
-  λ style chosen kept. none_has (first_name ∷ []) (third_name ∷ []) third_name first_name refl refl (λ e. search rules) (kept.0.there (search rules)),
+  λ style chosen kept. let h = kept.0.there (search rules) in none_has (first_name ∷ []) (third_name ∷ []) third_name first_name refl refl (λ e. search rules) (h.0, h.1, h.2),
+)
+
+-- behind the second file none stands
+last_of_two : (number : ℕ) (name : List ℕ) → 1 < number → slice_get two_names number ≡ Some name → ⊥
+last_of_two number name below e = omega (arith, below, slice_get_within two_names number name e)
+
+back_again : HasLastSince (second_name ∷ []) (look_at both_files ∷ []) (second_name ∷ first_name ∷ []) → ⊥
+back_again h = out_of_order h.0 (record { name = h.1.name; named = h.1.named; found = h.1.found }) h.3.0
+
+pub returns-clause-files_come_back : goal.returns-clause-files_come_back
+returns-clause-files_come_back c = (
+  (
+    1,
+    record { name = second_name; named = refl; found = search rules },
+    λ number name below e. absurd (last_of_two number name below e),
+    (λ number name below e. absurd (last_of_two number name below e), tt),
+  ),
+  back_again,
+  λ style chosen kept. back_again (kept.0.there (search rules)),
 )
 
 pub returns-clause-last_files_reach : goal.returns-clause-last_files_reach

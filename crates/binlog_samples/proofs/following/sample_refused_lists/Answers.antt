@@ -1,4 +1,4 @@
-use Rattle.std.proofs.Common.{rules, ◌≡◌, ◌<◌, ◌≤◌, ℕ, zero, suc, List, [], ◌∷◌, ◌++◌, length, length-append, take, Some, refl, ap, ◌∙◌, subst, inl, inr, arith}
+use Rattle.std.proofs.Common.{rules, ◌≡◌, ◌<◌, ◌≤◌, ℕ, zero, suc, List, [], ◌∷◌, ◌++◌, length, length-append, take, Some, refl, sym, ap, ◌∙◌, subst, inl, inr, arith}
 use Rattle.std.specs.Prelude.{◌≢◌, slice_get}
 use Rattle.binlog_frame.specs.Closing.{closed}
 use Rattle.binlog_frame.specs.Logs.{Contents, content}
@@ -11,8 +11,9 @@ use Rattle.binlogfeed.specs.Looks.{files_at}
 use Rattle.binlog_samples.specs.Statuses.{two_names}
 use Rattle.binlog_samples.specs.Tokens.{first_name, second_name, first_file, second_file, third_file}
 use Rattle.binlog_samples.specs.Files.{rotate_event}
-use Rattle.binlog_samples.specs.Following.{both_files, cut_look, last_files, look_at, one_file}
+use Rattle.binlog_samples.specs.Following.{back_files, both_files, cut_look, last_files, look_at, one_file}
 use Rattle.binlog_samples.specs.FollowEnds.{changed_look}
+use Rattle.binlogfeed.proofs.NamesGone.{never_back}
 use Rattle.binlog_samples.proofs.OnBytes.{on_bytes}
 use Rattle.binlog_samples.proofs.Paths.{first_of}
 use Rattle.binlog_samples.proofs.following.sample_refused_lists.Goals as goal
@@ -29,6 +30,18 @@ both_differ (suc i) zero lt below e = omega (arith, lt)
 both_differ (suc i) (suc zero) lt below e = omega (arith, lt)
 both_differ (suc i) (suc (suc j)) lt below e = omega (arith, below)
 
+-- a list of the second file has not the first one's name
+none_is_first : (number : ℕ) (name : List ℕ) → slice_get (second_name ∷ []) number ≡ Some name → Some first_name ≡ Some name → ⊥
+none_is_first zero name there here = names_differ (here ∙ sym there)
+none_is_first (suc number) name there here = cc
+
+-- so it is in the other order
+back_differ : (i j : ℕ) → i < j → j < 2 → slice_get (second_name ∷ first_name ∷ []) i ≢ slice_get (second_name ∷ first_name ∷ []) j
+back_differ zero zero lt below e = omega (arith, lt)
+back_differ zero (suc zero) lt below e = names_differ (sym e)
+back_differ zero (suc (suc j)) lt below e = omega (arith, below)
+back_differ (suc i) j lt below e = omega (arith, lt, below)
+
 pub returns-clause-lists_refused : goal.returns-clause-lists_refused
 returns-clause-lists_refused c = (
   record { name = second_name; named = refl; absent = first_of (λ i. slice_get (first_name ∷ []) i ≢ Some second_name) names_differ },
@@ -37,6 +50,20 @@ returns-clause-lists_refused c = (
   (omega arith, (0, omega arith, refl), λ i j lt below e. omega (arith, lt, below)),
   (λ duplicate. let below = duplicate.1.1 in omega (arith, below)),
   (λ duplicate. first_of (λ i. slice_get two_names i ≢ slice_get two_names 1) names_differ duplicate.1.0 duplicate.1.1 duplicate.1.2),
+  inr (record {
+    file = 0;
+    last = record { name = second_name; named = refl; found = (omega arith, refl, λ i below e. omega (arith, below)) };
+    behind = omega arith;
+    name = first_name;
+    here = refl;
+    there = inl (0, refl);
+  }),
+  (λ told.
+      elim told [
+        | inl again ↦ none_is_first again.2.earlier again.2.name again.2.there again.2.here
+        | inr back ↦ back.there
+      ]),
+  (λ told. elim told [ inl again ↦ (let below = again.2.behind in omega (arith, below)) | inr back ↦ (let below = back.behind in omega (arith, below)) ]),
   (λ never. never),
 )
 
@@ -110,7 +137,14 @@ cut_stops c =
     omega (arith, n, front, length-append (take 371 (closed first_file.bytes)) c.behind)
 
 pub returns-clause-looks_continue : goal.returns-clause-looks_continue
-returns-clause-looks_continue c = ((last_continue, (both_continue, tt)), (λ each. cut_stops each.0), (λ each. cut_stops each.1.0))
+unfolding last_continue
+returns-clause-looks_continue c = (
+  (last_continue, (both_continue, tt, tt), ((refl, tt), tt)),
+  (λ each. cut_stops each.0),
+  (λ each. cut_stops each.1.0),
+  λ each. never_back (look_at (second_file [] ∷ [])) (look_at back_files) (look_at both_files ∷ []) 1 each.0 each.2 back_differ
+      (record { file = 0; last = record { name = second_name; named = refl; found = (omega arith, refl, λ i below e. omega (arith, below)) }; behind = omega arith; name = first_name; here = refl; there = inl (0, refl) }),
+)
 
 -- ---- files that are shorter
 
@@ -147,8 +181,8 @@ pub returns-clause-refused_for_reading : goal.returns-clause-refused_for_reading
 returns-clause-refused_for_reading c chosen = (
   (λ honest continues behind differ. tt),
   (λ honest continues behind differ. tt),
-  (λ refuses. refuses (refl, (refl, tt)) (both_continue, tt) tt both_differ),
-  (λ refuses. refuses (refl, (refl, tt)) (both_continue, tt) tt both_differ),
-  (λ refuses. refuses (refl, (refl, tt)) (both_continue, tt) tt both_differ),
+  (λ refuses. refuses (refl, (refl, tt)) (both_continue, tt, tt) tt both_differ),
+  (λ refuses. refuses (refl, (refl, tt)) (both_continue, tt, tt) tt both_differ),
+  (λ refuses. refuses (refl, (refl, tt)) (both_continue, tt, tt) tt both_differ),
   (λ honest continues behind differ. absurd (cut_stops continues.0)),
 )
