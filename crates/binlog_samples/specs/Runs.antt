@@ -5,7 +5,9 @@ use Rattle.binlog_feed.specs.Changes.{RowChange}
 use Rattle.binlog_feed.specs.Tokens.Judgement.{NoFile, Fits, NoChange, Faulty, NoTransaction}
 use Rattle.binlog_units.specs.declared.fault.LogFault.{LogFault}
 use Rattle.binlog_units.specs.declared.what.What.TheVariants.{BadRows}
+use Rattle.binlog_json.specs.declared.style.Style.TheVariants.{Plain}
 use Rattle.binlogfeed.specs.GoingOn.{CountsNew, GoesOnWith, IsNoRefusal}
+use Rattle.binlogfeed.specs.Lines.{change_line}
 use Rattle.binlogfeed.specs.Runs.{Answers, AnswersAll, AnswersIfBegun, AnswersOutput, AnswersRefusal, Output, line_count, refusal_by}
 use Rattle.binlogfeed.specs.declared.fault.RunFault.TheVariants as run
 use Rattle.binlogfeed.specs.declared.fault.TokenRefusal.TheVariants as refusals
@@ -78,14 +80,24 @@ LinesNotCut =
     (AnswersOutput two_lines (Some kept) (behind_kept line_b) (Err run.Write) → ⊥) × (AnswersOutput two_lines (Some kept) (behind_kept line_b) (Err (run.Read 0)) → ⊥)
     × (AnswersOutput two_lines (Some kept) (behind_kept line_b) (Err run.OutOfMemory) → ⊥)
 
--- Of lines that are gone a failed read keeps none back, neither a part of one nor a whole one. All other answers are as before.
+-- Of lines that are gone a failed read keeps none back, neither a part of one nor a whole one. All other answers but that of want of memory
+-- are as before.
 abbrev pub AllGoneLines : Type 0
 AllGoneLines =
-    AnswersAll two_lines (Some kept) (behind_kept (line_a ++ line_b)) (Err (run.Read 0)) × (AnswersAll two_lines (Some kept) (behind_kept (line_a ++ codes "b")) (Err (run.Read 0)) → ⊥)
-    × (AnswersAll two_lines (Some kept) (behind_kept line_a) (Err (run.Read 0)) → ⊥) × (AnswersAll two_lines (Some kept) (Some kept) (Err (run.Read 0)) → ⊥)
-    × AnswersAll two_lines (Some kept) (behind_kept line_a) (Err run.Write) × AnswersAll two_lines (Some kept) (behind_kept line_a) (Err run.OutOfMemory)
-    × (AnswersAll two_lines (Some kept) (behind_kept line_b) (Err run.Write) → ⊥)
-    × AnswersAll two_lines (Some kept) (behind_kept (line_a ++ line_b)) (Ok 2) × (AnswersAll two_lines (Some kept) (behind_kept line_a) (Ok 1) → ⊥)
+    AnswersAll Plain two_lines (Some kept) (behind_kept (line_a ++ line_b)) (Err (run.Read 0)) × (AnswersAll Plain two_lines (Some kept) (behind_kept (line_a ++ codes "b")) (Err (run.Read 0)) → ⊥)
+    × (AnswersAll Plain two_lines (Some kept) (behind_kept line_a) (Err (run.Read 0)) → ⊥) × (AnswersAll Plain two_lines (Some kept) (Some kept) (Err (run.Read 0)) → ⊥)
+    × AnswersAll Plain two_lines (Some kept) (behind_kept line_a) (Err run.Write) × (AnswersAll Plain two_lines (Some kept) (behind_kept line_b) (Err run.Write) → ⊥)
+    × AnswersAll Plain two_lines (Some kept) (behind_kept (line_a ++ line_b)) (Ok 2) × (AnswersAll Plain two_lines (Some kept) (behind_kept line_a) (Ok 1) → ⊥)
+
+-- of these the last is that of a change
+abbrev pub line_and : RowChange → Output
+line_and change = record two_lines { text = line_a ++ change_line Plain change }
+
+-- Want of memory keeps back none, or the last change's line as a whole. What isn't a beginning isn't answered so.
+abbrev pub GoneWithoutMemory : Type 0
+GoneWithoutMemory =
+    AnswersAll Plain two_lines (Some kept) (behind_kept (line_a ++ line_b)) (Err run.OutOfMemory) × ((change : RowChange) → AnswersAll Plain (line_and change) (Some kept) (behind_kept line_a) (Err run.OutOfMemory))
+    × (AnswersAll Plain two_lines (Some kept) (behind_kept line_b) (Err run.OutOfMemory) → ⊥)
 
 -- neither names nor a token are refused once there is an output
 abbrev pub OutputsRefuseNothing : Type 0

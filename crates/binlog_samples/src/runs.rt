@@ -1,5 +1,5 @@
 //! The definitions of what runs write and answer, over two lines.
-ghost use Rattle.binlog_samples.specs.Runs.{LinesCounted, AllGoneLines, AllLines, OtherLines, FaultOfLines, LinesCut, LinesNotCut, OutputsRefuseNothing};
+ghost use Rattle.binlog_samples.specs.Runs.{LinesCounted, AllGoneLines, AllLines, GoneWithoutMemory, OtherLines, FaultOfLines, LinesCut, LinesNotCut, OutputsRefuseNothing};
 ghost use Rattle.binlog_samples.specs.Runs.{RunsRefused, RunsNotRefused, RefusalsWriteNothing, RefusalsByJudgement, NamesAnswered, StartsAnswered, NotBegun};
 ghost use Rattle.binlog_samples.specs.RunsOn.{ChangesUpTo, DoesNotGoOn, GoesOnOverNone, LastNamed, ReadsPlaced};
 ghost use Rattle.binlog_samples.specs.Runs.{GoesOn, GoesOnToFault, GoesOnCut, GoesOnRefused, NewCounted};
@@ -13,6 +13,7 @@ pub fn sample_outputs()
     ensures lines_cut { LinesCut }
     ensures lines_not_cut { LinesNotCut }
     ensures all_gone_lines { AllGoneLines }
+    ensures gone_without_memory { GoneWithoutMemory }
     ensures outputs_refuse_nothing { OutputsRefuseNothing }
 {}
 

@@ -26,26 +26,26 @@ returns-in-Ok-flush-clause-answers g c = λ output start left.
 
 -- where no line was kept back
 pub returns-in-Err-clause-all : goal.returns-in-Err-clause-all
-returns-in-Err-clause-all g c = λ output start left.
+returns-in-Err-clause-all g c = λ style output start left.
     let old = g.W.Write.contents c.args.out.now in
     ends_by_write output start old (g.W.Write.contents c.write_text.new.out) c.args.waiting.now c.args.answer (c.has_failed_write.ensures.no c.if-has_failed_write.false)
-    (all_are_beginning output start old c.args.waiting.now c.args.answer left) c.in-Err.ensures.err
+    (all_are_beginning style output start old c.args.waiting.now c.args.answer left) c.in-Err.ensures.err
 
 pub returns-in-Err-flush-clause-all : goal.returns-in-Err-flush-clause-all
-returns-in-Err-flush-clause-all g c = λ output start left.
+returns-in-Err-flush-clause-all g c = λ style output start left.
     let old = g.W.Write.contents c.args.out.now in
     let mid = g.W.Write.contents c.write_text.new.out in
     let new = g.W.Write.contents c.flush.new.self in
     ends_by_write output start old new c.args.waiting.now c.args.answer (c.has_failed_write.ensures.no c.if-has_failed_write.false)
-    (all_are_beginning output start old c.args.waiting.now c.args.answer left)
+    (all_are_beginning style output start old c.args.waiting.now c.args.answer left)
     (whole_is_beginning old new c.args.waiting.now (appends_kept old mid new c.args.waiting.now c.in-Ok.ensures.ok c.in-Err-flush.ensures.bytes))
 
 pub returns-in-Ok-flush-clause-all : goal.returns-in-Ok-flush-clause-all
-returns-in-Ok-flush-clause-all g c = λ output start left.
+returns-in-Ok-flush-clause-all g c = λ style output start left.
     let old = g.W.Write.contents c.args.out.now in
     let mid = g.W.Write.contents c.write_text.new.out in
     let new = g.W.Write.contents c.flush.new.self in
-    ends_all output start old new c.args.waiting.now c.args.answer (c.has_failed_write.ensures.no c.if-has_failed_write.false) left
+    ends_all style output start old new c.args.waiting.now c.args.answer (c.has_failed_write.ensures.no c.if-has_failed_write.false) left
     (appends_kept old mid new c.args.waiting.now c.in-Ok.ensures.ok c.in-Ok-flush.ensures.bytes)
 
 -- what was written stays
