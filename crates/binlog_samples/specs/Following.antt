@@ -15,6 +15,7 @@ use Rattle.binlogfeed.specs.Lists.{BeginsWithList, HasNoList, list_text}
 use Rattle.binlogfeed.specs.Looks.{AllHonest, AreParts, BeginsFollowing, EndsBehindStart, HasLast, HasLastSince, Look, first_look, gone_by, joined_parts, looks_text}
 use Rattle.binlogfeed.specs.Turns.{Turns, lists_text}
 use Rattle.binlogfeed.specs.declared.fault.RunFault.TheVariants as run
+use Rattle.binlogfeed.specs.declared.fault.TokenRefusal.TheVariants as refusals
 use Rattle.binlogfeed.specs.declared.follow_fault.FollowFault.TheVariants.{Input, Unopened, NotBegun, Refused, Ended}
 use Rattle.binlogfeed.specs.declared.lists.ListFault.TheVariants as lists
 use Rattle.binlog_samples.specs.Changes.{brief, first_change}
@@ -201,9 +202,11 @@ TextsOfEnds =
     × WritesText (Some (97 ∷ [])) (Some (97 ∷ 98 ∷ 10 ∷ 99 ∷ [])) (98 ∷ 10 ∷ []) (99 ∷ 100 ∷ 10 ∷ []) (Err (Ended run.Write))
     × (WritesText (Some (97 ∷ [])) (Some (97 ∷ 98 ∷ [])) (98 ∷ 10 ∷ []) (99 ∷ 10 ∷ []) (Err (Ended run.Write)) → ⊥)
 
--- the device is named only where a read failed, and by a file of the list, and without a look only the output
+-- The device is named only where a read failed, and by a file of the list, and without a look only the output. A look that began isn't
+-- refused.
 abbrev pub FailuresOfEnds : Type 0
 FailuresOfEnds =
     (FailsAs (Err (Ended (run.Read 1))) (record (look_at one_file) { failures = 1 } ∷ []) → ⊥)
     × (FailsAs (Err (Ended (run.Read 0))) (look_at one_file ∷ []) → ⊥) × FailsAs (Err (Ended (run.Read 0))) (record (look_at one_file) { failures = 1 } ∷ [])
     × (FailsAs (Err (Ended (run.Read 0))) [] → ⊥) × FailsAs (Err (Ended run.Write)) []
+    × (FailsAs (Err (Ended (run.DuplicateFile 1))) (look_at both_files ∷ []) → ⊥) × (FailsAs (Err (Ended (run.Token refusals.NoFile))) (look_at one_file ∷ []) → ⊥)

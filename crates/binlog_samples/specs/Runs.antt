@@ -6,7 +6,8 @@ use Rattle.binlog_feed.specs.Tokens.Judgement.{NoFile, Fits, NoChange, Faulty, N
 use Rattle.binlog_units.specs.declared.fault.LogFault.{LogFault}
 use Rattle.binlog_units.specs.declared.what.What.TheVariants.{BadRows}
 use Rattle.binlog_json.specs.declared.style.Style.TheVariants.{Plain}
-use Rattle.binlogfeed.specs.GoingOn.{CountsNew, GoesOnWith, IsNoRefusal}
+use Rattle.binlogfeed.specs.Faults.{IsNoRefusal}
+use Rattle.binlogfeed.specs.GoingOn.{CountsNew, GoesOnWith}
 use Rattle.binlogfeed.specs.Lines.{change_line}
 use Rattle.binlogfeed.specs.Runs.{Answers, AnswersAll, AnswersIfBegun, AnswersOutput, AnswersRefusal, Output, line_count, refusal_by}
 use Rattle.binlogfeed.specs.declared.fault.RunFault.TheVariants as run

@@ -84,6 +84,12 @@ IsNamed names (Read file) = file < length names
 IsNamed names Write = Unit {0}
 IsNamed names OutOfMemory = Unit {0}
 
+-- over a feed that began, or went on, a run refuses neither names nor a token
+abbrev pub IsNoRefusal : RunFault → Type 0
+IsNoRefusal (DuplicateFile file) = ⊥
+IsNoRefusal (Token refusal) = ⊥
+IsNoRefusal other = Unit {0}
+
 -- why a run ends where a line wasn't added
 abbrev pub fault_of_adding : AddFault → RunFault
 fault_of_adding add_faults.Write = Write
