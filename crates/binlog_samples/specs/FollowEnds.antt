@@ -11,7 +11,7 @@ use Rattle.binlog_feed.specs.declared.start.Start.TheVariants.{Beginning, After}
 use Rattle.binlog_units.specs.declared.what.What.TheVariants.{BadMagic, BadRows}
 use Rattle.binlog_profile.specs.declared.profile.Profile.TheVariants.{Strict, Server}
 use Rattle.binlogfeed.specs.Follow.{AreSupplied, EitherFailed, EndsAs, EndsLists, FailsAs, FollowsLooks, NamesFiles, RefusesFirst, RefusesForReading, RefusesList, RefusesNext, RefusesShorter, WritesBlanks}
-use Rattle.binlogfeed.specs.Looks.{EachContinues, EndsBehindStart, Look}
+use Rattle.binlogfeed.specs.Looks.{EachContinues, EndsBehindStart, Look, TellsUnbegun}
 use Rattle.binlogfeed.specs.declared.fault.RunFault.TheVariants as run
 use Rattle.binlogfeed.specs.declared.fault.TokenRefusal.TheVariants.{NoTransaction}
 use Rattle.binlogfeed.specs.declared.follow_fault.FollowFault.TheVariants.{Input, Unopened, NotBegun, Refused, Ended}
@@ -98,6 +98,15 @@ FailuresOfBeginnings =
     FailsAs (Err (NotBegun (run.Read 0))) (failed_look ∷ []) × (FailsAs (Err (NotBegun (run.Read 1))) (failed_look ∷ []) → ⊥)
     × (FailsAs (Err (NotBegun (run.Read 0))) (look_at one_file ∷ []) → ⊥) × (FailsAs (Err (NotBegun (run.DuplicateFile 1))) (look_at one_file ∷ []) → ⊥)
     × FailsAs (Err (NotBegun (run.DuplicateFile 1))) (look_at both_files ∷ [])
+
+-- it names the second file that has a name, and by a failed read the token's file
+abbrev pub NamesOfBeginnings : Type 0
+NamesOfBeginnings =
+    TellsUnbegun (first_name ∷ first_name ∷ []) (look_at both_files).contents Beginning (run.DuplicateFile 1)
+    × (TellsUnbegun (first_name ∷ first_name ∷ []) (look_at both_files).contents Beginning (run.DuplicateFile 0) → ⊥)
+    × (TellsUnbegun (look_at both_files).names (look_at both_files).contents Beginning (run.DuplicateFile 1) → ⊥)
+    × TellsUnbegun (look_at both_files).names (look_at both_files).contents (After (token 153 0 first_name)) (run.Read 0)
+    × (TellsUnbegun (look_at both_files).names (look_at both_files).contents (After (token 153 0 first_name)) (run.Read 1) → ⊥)
 
 -- It has made one look: never none, and none behind which another stands. It has written the blanks, and nothing else.
 abbrev pub LooksNotBegun : Type 0

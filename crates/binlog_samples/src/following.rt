@@ -3,7 +3,7 @@ ghost use Rattle.binlog_samples.specs.Following.{ListTexts, ListsBegin, NoLists,
 ghost use Rattle.binlog_samples.specs.LastFiles.{ComesOnce, LastFilesReach};
 ghost use Rattle.binlog_samples.specs.FollowNext.{BothAreNotWritten, BothAreWritten, LastIsWritten, LooksDiffer, NextIsNotWritten, NextIsWritten};
 ghost use Rattle.binlog_samples.specs.FollowEnds.{EndsWithoutFault, EndsWithFault, EndsByDevice, FaultsAtStarts, FilesNamed, FailuresOfEither, FailuresOfRefusals};
-ghost use Rattle.binlog_samples.specs.FollowEnds.{FailuresOfBeginnings, LooksNotBegun, FirstRefused, BlanksWritten, ListsRefused, LooksContinue, RefusedAsShorter, RefusedForReading};
+ghost use Rattle.binlog_samples.specs.FollowEnds.{FailuresOfBeginnings, LooksNotBegun, NamesOfBeginnings, FirstRefused, BlanksWritten, ListsRefused, LooksContinue, RefusedAsShorter, RefusedForReading};
 ghost use Rattle.binlog_samples.specs.FollowEnds.{NextIsRefused, LookedAtIsNotRefused, AllListsLookedAt, ListLeft, LooksSupplied};
 
 /// Which bytes are lists, and which files each of them has looked at.
@@ -62,6 +62,7 @@ pub fn sample_look_ends()
     ensures failures_of_either { FailuresOfEither }
     ensures failures_of_refusals { FailuresOfRefusals }
     ensures failures_of_beginnings { FailuresOfBeginnings }
+    ensures names_of_beginnings { NamesOfBeginnings }
     ensures looks_not_begun { LooksNotBegun }
     ensures first_refused { FirstRefused }
     ensures blanks_written { BlanksWritten }

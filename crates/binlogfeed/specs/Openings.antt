@@ -10,7 +10,7 @@ use Rattle.binlog_units.specs.declared.fault.OpenFeedFault.{OpenFeedFault}
 use Rattle.binlog_units.specs.declared.fault.OpenFeedFault.TheVariants.{OutOfMemory, WindowTooSmall}
 use Rattle.binlog_feed.specs.declared.start.Start.{Start}
 use Rattle.binlogfeed.specs.Faults.{IsNamed, fault_of_opening}
-use Rattle.binlogfeed.specs.Looks.{BeginsFollowing, RefusesAtEndOf, RefusesFollowing}
+use Rattle.binlogfeed.specs.Looks.{BeginsFollowing, RefusesAtEndOf, RefusesFollowing, TellsUnbegun}
 use Rattle.binlogfeed.specs.Runs.{ReadsFailed}
 
 -- the window has the length that the fault asks for
@@ -33,10 +33,13 @@ module _ {S : Type 0} (L : Ghosts S) where
   abbrev pub RefusesToFollow : S → Start → S × OpenFeedFault → Type 0
   RefusesToFollow logs start back = IsTrue (L.honest back.0) → RefusesFollowing (L.names logs) (L.contents logs) start back.1
 
-  -- ---- over any source: the fault names a file of the list, and the device only where it has failed
+  -- ---- over any source: the fault names a file of the list, by the names or by the start, and the device only where it has failed
 
   abbrev pub NamesOpened : S → OpenFeedFault → Type 0
   NamesOpened logs fault = IsNamed (L.names logs) (fault_of_opening fault)
+
+  abbrev pub TellsOpening : S → Start → OpenFeedFault → Type 0
+  TellsOpening logs start fault = TellsUnbegun (L.names logs) (L.contents logs) start (fault_of_opening fault)
 
   abbrev pub FailsToOpen : S → S → OpenFeedFault → Type 0
   FailsToOpen old new fault = ReadsFailed (L.failures old) (L.failures new) (fault_of_opening fault)

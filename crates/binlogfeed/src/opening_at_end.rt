@@ -2,7 +2,8 @@
 ghost use Rattle.std.specs.Prelude.{◌≡◌, IfOk, IfErr};
 ghost use Rattle.binlog_feed.specs.FeedView.{IsSound};
 ghost use Rattle.binlogfeed.specs.Looks.{told_at_end};
-ghost use Rattle.binlogfeed.specs.Openings.{BeginsToFollow, FailsToOpen, NamesOpened, RefusesFileEnd, RefusesToFollow};
+ghost use Rattle.binlogfeed.specs.Openings.{BeginsToFollow, FailsToOpen, NamesOpened, RefusesFileEnd, RefusesToFollow, TellsOpening};
+ghost use Rattle.binlog_feed.specs.declared.start.Start.TheVariants.{After};
 ghost use Rattle.binlog_feed.specs.FileEnds.{FitsEnd};
 ghost use Rattle.binlog_feed.specs.OpenedFeeds.{GoesOnBehindFile, IfHonest};
 ghost use Rattle.binlog_frame.specs.Sources.{Keeps};
@@ -43,6 +44,7 @@ fn open_end<L: Logs>(
     ensures refused { IfErr result (RefusesFileEnd L.Logs logs token) }
     ensures source_back { IfErr result (λ back. Keeps L.Logs logs back.0) }
     ensures named { IfErr result (λ back. NamesOpened L.Logs logs back.1) }
+    ensures told { IfErr result (λ back. TellsOpening L.Logs logs (After token) back.1) }
     ensures failed { IfErr result (λ back. FailsToOpen L.Logs logs back.0 back.1) }
 {
     let Ok(first) = first_window(alloc) else {
@@ -84,6 +86,7 @@ pub(crate) fn open_following<L: Logs>(
     ensures refused { IfErr result (RefusesToFollow L.Logs logs start) }
     ensures source_back { IfErr result (λ back. Keeps L.Logs logs back.0) }
     ensures named { IfErr result (λ back. NamesOpened L.Logs logs back.1) }
+    ensures told { IfErr result (λ back. TellsOpening L.Logs logs start back.1) }
     ensures failed { IfErr result (λ back. FailsToOpen L.Logs logs back.0 back.1) }
 {
     match open_feed(alloc, logs, filter, start, window) {

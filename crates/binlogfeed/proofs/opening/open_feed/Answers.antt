@@ -1,6 +1,6 @@
 use Rattle.std.proofs.Common.{◌<◌, length, refl, ◌∙◌, arith}
 use Rattle.binlog_feed.proofs.Sources.{same_source, source_then}
-use Rattle.binlogfeed.proofs.Beginning.{still_refused, still_tells}
+use Rattle.binlogfeed.proofs.Beginning.{still_refused, still_tells, still_unbegun}
 use Rattle.binlogfeed.proofs.Keeping.{takes_from_first}
 use Rattle.binlogfeed.proofs.opening.open_feed.Goals as goal
 
@@ -31,6 +31,7 @@ returns-in-Ok g c =
       filter_back = tt;
       start_back = tt;
       named = tt;
+      told = tt;
       failed = tt;
     }
 
@@ -52,5 +53,6 @@ returns-in-Err-larger_window g c =
       filter_back = back.handed_back.filter_back ∙ inv.filter;
       start_back = back.handed_back.start_back ∙ inv.start;
       named = rw kept.same_names at told.0;
+      told = rw (kept.same_names, kept.same_contents, inv.start) at (still_unbegun (g.L.Logs.names logs) (g.L.Logs.contents logs) c.opening.start (length c.opening.window.items) (g.L.Logs.failures logs) (g.L.Logs.failures c.in-Err.logs_back) c.in-Err.fault why back.reason back.named ends);
       failed = told.1;
     }

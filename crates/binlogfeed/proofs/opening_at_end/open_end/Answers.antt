@@ -1,7 +1,8 @@
 use Rattle.std.proofs.Common.{◌<◌, length, refl, ◌∙◌, arith}
+use Rattle.binlog_feed.specs.declared.start.Start.TheVariants.{After}
 use Rattle.binlog_feed.proofs.Sources.{same_source, source_then}
-use Rattle.binlogfeed.proofs.Beginning.{still_tells}
-use Rattle.binlogfeed.proofs.BeginningAtEnd.{told_refused, told_tells}
+use Rattle.binlogfeed.proofs.Beginning.{still_tells, still_unbegun}
+use Rattle.binlogfeed.proofs.BeginningAtEnd.{told_refused, told_tells, told_unbegun}
 use Rattle.binlogfeed.proofs.Keeping.{takes_from_first}
 use Rattle.binlogfeed.proofs.opening_at_end.open_end.Goals as goal
 
@@ -32,6 +33,7 @@ returns-in-Ok-open_at_end g c =
       refused = tt;
       source_back = tt;
       named = tt;
+      told = tt;
       failed = tt;
     }
 
@@ -54,5 +56,7 @@ returns-in-Err-larger_window g c =
       refused = λ h. rw (kept.same_names, kept.same_contents, inv.token) at (told_refused (g.L.Logs.names logs) (g.L.Logs.contents logs) c.ending.token c.in-Err.fault why (back.refused h) ends);
       source_back = source_then _ _ _ kept back.handed_back.source_back;
       named = rw kept.same_names at again.0;
+      told = rw (kept.same_names, kept.same_contents, inv.token) at (told_unbegun (g.L.Logs.names logs) (g.L.Logs.contents logs) (After c.ending.token) why
+          (still_unbegun (g.L.Logs.names logs) (g.L.Logs.contents logs) (After c.ending.token) (length c.ending.window.items) (g.L.Logs.failures logs) after c.in-Err.fault why back.reason back.named ends));
       failed = again.1;
     })
