@@ -4,9 +4,9 @@
 usage: tests/house.py [--list NAME]
 
 The figures are of what a reader meets: definitions that share a name, long clauses, calls with many of them, long functions and files,
-places that are never reached, lines of proofs and documents, clauses that docs/GUARANTEES.md names and the code hasn't, words of the
-glossary, the calls on the way of a change (way.txt), the types round an event. --list prints what a figure counts. The last line is
-`N passed, M failed`.
+places that are never reached, wrong bodies that can't be planted, lines of proofs and documents, clauses that docs/GUARANTEES.md names and
+the code hasn't, words of the glossary, the calls on the way of a change (way.txt), the types round an event. --list prints what a figure
+counts. The last line is `N passed, M failed`.
 """
 import argparse
 import re
@@ -16,7 +16,9 @@ from collections.abc import Iterable, Iterator
 from pathlib import Path
 from typing import NamedTuple
 
+from edits import FOLDER, read_edits
 from promises import unknown_clauses
+from wrong_bodies import read_crates
 
 TOP = Path(__file__).resolve().parent.parent
 MOST = Path(__file__).resolve().parent / "house.txt"
@@ -194,6 +196,14 @@ def flat_wrong_bodies() -> Iterator[Item]:
     return (Item(short(path)) for path in sorted(TOP.glob("crates/*/wrong-bodies/*.edit")))
 
 
+def bad_wrong_bodies() -> Iterator[Item]:
+    """Wrong bodies that can't be planted, since their old text doesn't stand once in its function, and public functions that have none."""
+    for crate in read_crates().values():
+        if (TOP / "crates" / crate.name / FOLDER).is_dir():
+            read_edits(crate, "")
+            yield from (Item(f"{crate.name}/{name}: {why}") for name, why in sorted(crate.failed.items()))
+
+
 def glossary_words() -> list[str]:
     """The words that the glossary's tables define, in their order."""
     rows = (line for line in lines_of(GLOSSARY) if line.startswith("| ") and not line.startswith("| Word |"))
@@ -328,6 +338,7 @@ FIGURES = {
     "other_proofs_that_set_looks": other_proofs_that_set_looks,
     "unreachables": unreachables,
     "flat_wrong_bodies": flat_wrong_bodies,
+    "bad_wrong_bodies": bad_wrong_bodies,
     "lines_of_proofs": proof_lines,
     "lines_of_rows": lambda: lines_in([TOP / "tests/rows.jsonl", TOP / "tests/logs.jsonl"]),
     "lines_of_documents": lambda: lines_in(documents()),
