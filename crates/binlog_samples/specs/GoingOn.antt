@@ -124,13 +124,15 @@ abbrev pub PlaceFound : Type 0
 PlaceFound =
     Found one_followed two_followed (behind 371) × Found (alone front) two_followed (begin_file 0) × Found (alone front) (third_file ∷ first_file ∷ []) (begin_file 1)
 
--- not at another position, in another file, in a file that ends before it, or in one with a fault in place of its first event
+-- Not at another position, in another file, in a file that ends before it, or in one with a fault in place of its first event; and none is found
+-- where the earlier file's units end with a fault.
 abbrev pub OtherPlaces : Type 0
 OtherPlaces =
     (Found one_followed two_followed (begin_file 0) → ⊥) × (Found one_followed two_followed (behind 370) → ⊥) × (Found one_followed two_followed (behind 344) → ⊥) × (Found (alone front) two_followed (behind 153) → ⊥)
     × (Found (alone front) two_followed (begin_file 1) → ⊥) × (Found (alone front) (third_file ∷ first_file ∷ []) (begin_file 0) → ⊥)
     × ((place : Place) → Found one_followed (cut_to 370 first_file ∷ []) place → ⊥) × ((place : Place) → Found one_followed (with_other_byte first_file ∷ []) place → ⊥)
     × ((place : Place) → Found one_followed (third_file ∷ []) place → ⊥)
+    × ((place : Place) → Found ends_twice one_followed place → ⊥)
 
 -- ---- why a feed doesn't go on
 

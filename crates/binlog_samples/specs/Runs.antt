@@ -9,7 +9,7 @@ use Rattle.binlog_json.specs.declared.style.Style.TheVariants.{Plain}
 use Rattle.binlogfeed.specs.Faults.{IsNoRefusal}
 use Rattle.binlogfeed.specs.GoingOn.{CountsNew, GoesOnWith}
 use Rattle.binlogfeed.specs.Lines.{change_line}
-use Rattle.binlogfeed.specs.Runs.{Answers, AnswersAll, AnswersIfBegun, AnswersOutput, AnswersRefusal, Output, line_count, refusal_by}
+use Rattle.binlogfeed.specs.Runs.{Answers, AnswersAll, AnswersGone, AnswersIfBegun, AnswersOutput, AnswersRefusal, Output, line_count, refusal_by}
 use Rattle.binlogfeed.specs.declared.fault.RunFault.TheVariants as run
 use Rattle.binlogfeed.specs.declared.fault.TokenRefusal.TheVariants as refusals
 use Rattle.binlog_samples.specs.Statuses.{two_names}
@@ -94,11 +94,24 @@ AllGoneLines =
 abbrev pub line_and : RowChange → Output
 line_and change = record two_lines { text = line_a ++ change_line Plain change }
 
--- Want of memory keeps back none, or the last change's line as a whole. What isn't a beginning isn't answered so.
+-- Want of memory keeps back none, or the last change's line as a whole: nothing that is no such line, nor two lines. What isn't a beginning
+-- isn't answered so.
 abbrev pub GoneWithoutMemory : Type 0
 GoneWithoutMemory =
     AnswersAll Plain two_lines (Some kept) (behind_kept (line_a ++ line_b)) (Err run.OutOfMemory) × ((change : RowChange) → AnswersAll Plain (line_and change) (Some kept) (behind_kept line_a) (Err run.OutOfMemory))
+    × (AnswersAll Plain two_lines (Some kept) (behind_kept line_a) (Err run.OutOfMemory) → ⊥) × (AnswersAll Plain two_lines (Some kept) (Some kept) (Err run.OutOfMemory) → ⊥)
     × (AnswersAll Plain two_lines (Some kept) (behind_kept line_b) (Err run.OutOfMemory) → ⊥)
+
+-- the second of them, with the fault behind it
+abbrev pub faulty_rest : Output
+faulty_rest = record faulty_lines { text = line_b; count = 1 }
+
+-- What is left ends as the whole did.
+abbrev pub EndsAlike : Type 0
+EndsAlike =
+    AnswersGone Plain faulty_lines faulty_rest (Some kept) (behind_kept line_a) (Err (run.Read 0))
+    × (AnswersGone Plain faulty_lines (record faulty_rest { end = None }) (Some kept) (behind_kept line_a) (Err (run.Read 0)) → ⊥)
+    × (AnswersGone Plain two_lines faulty_rest (Some kept) (behind_kept line_a) (Err (run.Read 0)) → ⊥)
 
 -- neither names nor a token are refused once there is an output
 abbrev pub OutputsRefuseNothing : Type 0

@@ -1,5 +1,5 @@
 -- A run that goes on over other files: from which of them, what it has read and written, and where a failed read was.
-use Rattle.std.specs.Prelude.{ℕ, List, [], ◌∷◌, Bool, true, Some, None, Result, Ok, Err}
+use Rattle.std.specs.Prelude.{ℕ, List, [], ◌∷◌, Bool, true, false, Some, None, Result, Ok, Err}
 use Rattle.std.specs.declared.io.Write as writer
 use Rattle.binlog_select.specs.declared.filter.Filter.{Filter}
 use Rattle.binlog_frame.specs.Logs.{Contents}
@@ -12,7 +12,7 @@ use Rattle.binlog_units.specs.Places.{begin_file}
 use Rattle.binlog_units.specs.declared.fault.FeedFault.TheVariants as reading
 use Rattle.binlog_feed.specs.declared.fault.GoOnFault.TheVariants as going
 use Rattle.binlog_profile.specs.declared.profile.Profile.TheVariants.{Strict}
-use Rattle.binlogfeed.specs.Coming.{IsReadIn, StandsUpTo}
+use Rattle.binlogfeed.specs.Coming.{IsReadIn, StandsUpTo, TellsEnd}
 use Rattle.binlogfeed.specs.RunsOn.{WentOn}
 use Rattle.binlogfeed.specs.declared.fault.RunFault.{RunFault}
 use Rattle.binlogfeed.specs.declared.fault.RunFault.TheVariants as run
@@ -58,11 +58,12 @@ before_any feed = record feed { settled = Some None; names = []; window_length =
 abbrev pub behind_none : FeedView → FeedView
 behind_none later = record later { to_come = []; end = None; window_length = 9; mark = begin_file 0; names = []; honest = true; asked = [] }
 
--- over no files nothing is read or written
+-- Over no files nothing is read or written, and no token is refused, be the source honest or not.
 abbrev pub GoesOnOverNone : Type 0
 GoesOnOverNone = (style : Style) (chosen : Filter) (feed later : FeedView) (earlier : SourceState)
     → Went style chosen (before_any feed) no_files (behind_none later) earlier [] (Ok 0)
     × (Went style chosen (before_any feed) no_files (behind_none later) earlier [] (Err (run.Token NoFile)) → ⊥)
+    × (Went style chosen (before_any feed) no_files (record (behind_none later) { honest = false }) earlier [] (Err (run.Token NoFile)) → ⊥)
 
 -- Only a feed that has told its end goes on, and its window is never taken away. A file has the name of its last one, none behind that the name
 -- of another one, and no read begins before that file.
@@ -74,6 +75,13 @@ DoesNotGoOn = (style : Style) (chosen : Filter) (feed later : FeedView) (logs ea
     × (Went style chosen (record feed { names = two_names }) (record logs { names = first_name ∷ [] }) later earlier text result → ⊥)
     × (Went style chosen (record feed { names = two_names }) (record logs { names = second_name ∷ first_name ∷ [] }) later earlier text result → ⊥)
     × (Went style chosen (record feed { names = second_name ∷ [] }) (record logs { names = two_names; asked = [] }) (record later { asked = (0, 4) ∷ [] }) earlier text result → ⊥)
+
+-- Lines are counted where the feed has told that no fault ends it, and a log fault is the one that it has told.
+abbrev pub EndsTold : Type 0
+EndsTold =
+    TellsEnd (Some None) (Ok 2) × (TellsEnd None (Ok 2) → ⊥) × (TellsEnd (Some (Some second_end)) (Ok 2) → ⊥) × TellsEnd (Some (Some second_end)) (Err (run.Log second_end))
+    × (TellsEnd (Some None) (Err (run.Log second_end)) → ⊥) × (TellsEnd None (Err (run.Log second_end)) → ⊥)
+    × (TellsEnd (Some (Some second_end)) (Err (run.Log (record second_end { position = 371 }))) → ⊥) × TellsEnd None (Err run.Write)
 
 -- ---- where a read failed
 

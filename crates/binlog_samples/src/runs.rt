@@ -1,7 +1,7 @@
 //! The definitions of what runs write and answer, over two lines.
-ghost use Rattle.binlog_samples.specs.Runs.{LinesCounted, AllGoneLines, AllLines, GoneWithoutMemory, OtherLines, FaultOfLines, LinesCut, LinesNotCut, OutputsRefuseNothing};
+ghost use Rattle.binlog_samples.specs.Runs.{LinesCounted, AllGoneLines, AllLines, EndsAlike, GoneWithoutMemory, OtherLines, FaultOfLines, LinesCut, LinesNotCut, OutputsRefuseNothing};
 ghost use Rattle.binlog_samples.specs.Runs.{RunsRefused, RunsNotRefused, RefusalsWriteNothing, RefusalsByJudgement, NamesAnswered, StartsAnswered, NotBegun};
-ghost use Rattle.binlog_samples.specs.RunsOn.{ChangesUpTo, DoesNotGoOn, GoesOnOverNone, LastNamed, ReadsPlaced};
+ghost use Rattle.binlog_samples.specs.RunsOn.{ChangesUpTo, DoesNotGoOn, EndsTold, GoesOnOverNone, LastNamed, ReadsPlaced};
 ghost use Rattle.binlog_samples.specs.Runs.{GoesOn, GoesOnToFault, GoesOnCut, GoesOnRefused, NewCounted};
 
 /// Which lines a run writes, and what it answers.
@@ -14,6 +14,7 @@ pub fn sample_outputs()
     ensures lines_not_cut { LinesNotCut }
     ensures all_gone_lines { AllGoneLines }
     ensures gone_without_memory { GoneWithoutMemory }
+    ensures ends_alike { EndsAlike }
     ensures outputs_refuse_nothing { OutputsRefuseNothing }
 {}
 
@@ -41,6 +42,7 @@ pub fn sample_further_runs()
 pub fn sample_runs_on()
     ensures goes_on_over_none { GoesOnOverNone }
     ensures does_not_go_on { DoesNotGoOn }
+    ensures ends_told { EndsTold }
     ensures reads_placed { ReadsPlaced }
     ensures changes_up_to { ChangesUpTo }
     ensures last_named { LastNamed }

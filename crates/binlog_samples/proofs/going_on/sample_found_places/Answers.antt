@@ -1,4 +1,4 @@
-use Rattle.std.proofs.Common.{◌≡◌, ◌≤◌, ◌<◌, ◌∙◌, ℕ, List, [], ◌∷◌, ◌++◌, drop, length, refl, sym, ap, subst, inl, inr, arith}
+use Rattle.std.proofs.Common.{◌≡◌, ◌≤◌, ◌<◌, ◌∙◌, ℕ, List, [], ◌∷◌, ◌++◌, drop, length, Some, None, refl, sym, ap, subst, inl, inr, arith}
 use Rattle.std.specs.Prelude.{◌≢◌}
 use Rattle.std.proofs.lemmas.Option.{same_Some}
 use Rattle.binlog_frame.specs.Cutting.{Event, Reading, after}
@@ -13,7 +13,7 @@ use Rattle.binlog_units.specs.Places.{begin_file}
 use Rattle.binlog_units.specs.declared.place.Place.{Place}
 use Rattle.binlog_samples.specs.Files.{alone, front}
 use Rattle.binlog_samples.specs.Tokens.{first_name, second_name, third_name, first_file}
-use Rattle.binlog_samples.specs.GoingOn.{Found, behind, cut_to, held_by, names_in, one_followed, two_followed, with_other_byte}
+use Rattle.binlog_samples.specs.GoingOn.{Found, behind, cut_to, held_by, names_in, one_followed, second_end, two_followed, with_other_byte}
 use Rattle.binlog_samples.proofs.GrownFiles.{first_named, second_named, not_alone, numbers_differ}
 use Rattle.binlog_samples.proofs.OnBytes.{on_bytes}
 use Rattle.binlog_samples.proofs.going_on.sample_found_places.Goals as goal
@@ -97,4 +97,5 @@ returns-clause-other_places c = (
       let has = subst (λ (n : ℕ). HasEventBefore 371 (content (held_by (with_other_byte first_file ∷ [])) n)) there found.has_event in
       has (omega arith) refl),
   (λ place found. not_alone third_name found.name place.file (λ e. third_is_not_first (e ∙ sym (same_Some first_name found.name found.named))) found.found),
+  (λ place found. let end : Some second_end ≡ None = found.whole in cc),
 )

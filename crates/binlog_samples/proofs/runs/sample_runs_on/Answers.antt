@@ -1,4 +1,4 @@
-use Rattle.std.proofs.Common.{◌≡◌, ◌≤◌, ◌∙◌, ℕ, zero, suc, List, [], ◌∷◌, ◌++◌, append-nil, Some, None, refl, sym, subst, inl, inr, arith}
+use Rattle.std.proofs.Common.{◌≡◌, ◌≤◌, ◌∙◌, ℕ, zero, suc, List, [], ◌∷◌, ◌++◌, append-nil, Some, None, refl, sym, ap, subst, inl, inr, arith}
 use Rattle.std.specs.List.{All}
 use Rattle.std.specs.Prelude.{get_or, slice_get}
 use Rattle.std.proofs.lemmas.List.Elements.{All-nil}
@@ -7,6 +7,7 @@ use Rattle.binlog_frame.specs.Logs.{NotPast}
 use Rattle.binlog_feed.specs.Growing.{AreNewBehind}
 use Rattle.binlog_feed.specs.Searching.{IsFirstNamed}
 use Rattle.binlog_units.specs.Places.{begin_file}
+use Rattle.binlog_units.specs.declared.fault.LogFault.{LogFault}
 use Rattle.binlog_samples.specs.GoingOn.{second_end}
 use Rattle.binlog_samples.specs.Statuses.{two_names}
 use Rattle.binlog_samples.specs.Tokens.{first_name, second_name, third_name}
@@ -25,14 +26,16 @@ returns-clause-goes_on_over_none c style chosen feed later earlier = (
     new_names = λ number name below here i within. absurd (omega (arith, within));
     asks = record { more = []; noted = refl; behind = All-nil (NotPast (0, 0)) };
     marks = inl refl;
+    no_refusal = tt;
     text = λ honest. (refl, refl, refl);
-    gone = λ honest. record { gone = record { text = []; count = 0; end = None }; split = refl; answers = (refl, refl, refl) };
+    gone = λ honest. record { gone = record { text = []; count = 0; end = None }; split = refl; same_end = refl; answers = (refl, refl, refl) };
     read_in = λ honest. tt;
     up_to = λ honest. tt;
     from_mark = λ first honest some. absurd (omega (arith, some));
     from_beginning = λ first honest sound some. absurd (omega (arith, some));
   },
   (λ went. went.text refl),
+  (λ went. went.no_refusal),
 )
 
 -- the first file stands behind the last one again
@@ -65,6 +68,18 @@ returns-clause-does_not_go_on c style chosen feed later logs earlier text result
       let file = read_before went.place.file went.asks.more went.asks.noted went.asks.behind in
       let named : Some first_name ≡ Some there.name = subst (λ (n : ℕ). slice_get two_names n ≡ Some there.name) file there.found.1 in
       first_is_not_second (same_Some first_name second_name (named ∙ sym there.named))),
+)
+
+pub returns-clause-ends_told : goal.returns-clause-ends_told
+returns-clause-ends_told c = (
+  refl,
+  (λ e. let told : None ≡ Some None = e in cc),
+  (λ e. let told : Some (Some second_end) ≡ Some None = e in cc),
+  refl,
+  (λ e. let told : Some None ≡ Some (Some second_end) = e in cc),
+  (λ e. let told : None ≡ Some (Some second_end) = e in cc),
+  (λ e. let at : 390 ≡ 371 = ap (λ (fault : LogFault). fault.position) (same_Some second_end (record second_end { position = 371 }) (same_Some (Some second_end) (Some (record second_end { position = 371 })) e)) in omega (arith, at)),
+  tt,
 )
 
 pub returns-clause-reads_placed : goal.returns-clause-reads_placed
