@@ -139,7 +139,8 @@ abbrev pub look_by : List (List ℕ) → Look
 look_by names = record { names = names; contents = record { profile = Strict; files = [] }; honest = true; failures = 0 }
 
 -- A file is gone where none of the list has the name of the newest look's last one. Of two files of the list with one name the second is
--- told. A file is out of order where it stands behind that last one, and an earlier look had it. That a change is still to come is never told.
+-- told. A file is out of order where it stands behind that last one as the first that an earlier look had. That a change is still to come is
+-- never told.
 abbrev pub ListsRefused : Type 0
 ListsRefused =
     RefusesList (look_by two_names) [] (look_by (first_name ∷ [])) going.FileGone × (RefusesList (look_by two_names) [] (look_by (second_name ∷ [])) going.FileGone → ⊥)
@@ -150,6 +151,7 @@ ListsRefused =
     × RefusesList (look_by (second_name ∷ [])) (look_by two_names ∷ []) (look_by (second_name ∷ first_name ∷ [])) (going.OutOfOrder 1)
     × (RefusesList (look_by (second_name ∷ [])) [] (look_by (second_name ∷ first_name ∷ [])) (going.OutOfOrder 1) → ⊥)
     × (RefusesList (look_by (second_name ∷ [])) (look_by two_names ∷ []) (look_by (first_name ∷ second_name ∷ [])) (going.OutOfOrder 0) → ⊥)
+    × (RefusesList (look_by (second_name ∷ [])) (look_by two_names ∷ []) (look_by (second_name ∷ first_name ∷ first_name ∷ [])) (going.OutOfOrder 2) → ⊥)
     × (RefusesList (look_by two_names) [] (look_by two_names) going.NotAtEnd → ⊥)
 
 -- Each look continues the one before it, also where newer ones stand in front of the two. None does in which a file comes back.

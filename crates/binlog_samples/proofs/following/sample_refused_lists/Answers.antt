@@ -13,7 +13,7 @@ use Rattle.binlog_samples.specs.Tokens.{first_name, second_name, first_file, sec
 use Rattle.binlog_samples.specs.Files.{rotate_event}
 use Rattle.binlog_samples.specs.Following.{back_files, both_files, cut_look, last_files, look_at, one_file}
 use Rattle.binlog_samples.specs.FollowEnds.{changed_look}
-use Rattle.binlogfeed.proofs.NamesGone.{never_back}
+use Rattle.binlogfeed.proofs.NamesGone.{never_back, same_last}
 use Rattle.binlog_samples.proofs.OnBytes.{on_bytes}
 use Rattle.binlog_samples.proofs.Paths.{first_of}
 use Rattle.binlog_samples.proofs.following.sample_refused_lists.Goals as goal
@@ -57,6 +57,7 @@ returns-clause-lists_refused c = (
     name = first_name;
     here = refl;
     there = inl (0, refl);
+    first = λ number other below above here had. absurd (omega (arith, below, above));
   }),
   (λ told.
       elim told [
@@ -64,6 +65,13 @@ returns-clause-lists_refused c = (
         | inr back ↦ back.there
       ]),
   (λ told. elim told [ inl again ↦ (let below = again.2.behind in omega (arith, below)) | inr back ↦ (let below = back.behind in omega (arith, below)) ]),
+  (λ told.
+      elim told [
+        | inl again ↦ none_is_first again.2.earlier again.2.name again.2.there again.2.here
+        | inr back ↦
+            (let same = same_last (second_name ∷ []) (second_name ∷ first_name ∷ first_name ∷ []) second_name 0 back.file refl (omega arith, refl, λ i below e. omega (arith, below)) back.last in
+            let has = back.first 1 first_name (omega (arith, same)) (omega arith) refl (inl (0, refl)) in none_is_first has.0 first_name has.1 refl)
+      ]),
   (λ never. never),
 )
 
@@ -143,7 +151,7 @@ returns-clause-looks_continue c = (
   (λ each. cut_stops each.0),
   (λ each. cut_stops each.1.0),
   λ each. never_back (look_at (second_file [] ∷ [])) (look_at back_files) (look_at both_files ∷ []) 1 each.0 each.2 back_differ
-      (record { file = 0; last = record { name = second_name; named = refl; found = (omega arith, refl, λ i below e. omega (arith, below)) }; behind = omega arith; name = first_name; here = refl; there = inl (0, refl) }),
+      (record { file = 0; last = record { name = second_name; named = refl; found = (omega arith, refl, λ i below e. omega (arith, below)) }; behind = omega arith; name = first_name; here = refl; there = inl (0, refl); first = λ number other below above here had. absurd (omega (arith, below, above)) }),
 )
 
 -- ---- files that are shorter
