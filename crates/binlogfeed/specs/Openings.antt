@@ -33,7 +33,7 @@ module _ {S : Type 0} (L : Ghosts S) where
   abbrev pub RefusesToFollow : S → Start → S × OpenFeedFault → Type 0
   RefusesToFollow logs start back = IsTrue (L.honest back.0) → RefusesFollowing (L.names logs) (L.contents logs) start back.1
 
-  -- ---- over any source: the fault names a file of the list, by the names or by the start, and the device only where it has failed
+  -- ---- over any source: the fault names the second file of a name, or the file of the start, and the device only where it has failed
 
   abbrev pub NamesOpened : S → OpenFeedFault → Type 0
   NamesOpened logs fault = IsNamed (L.names logs) (fault_of_opening fault)
