@@ -2,6 +2,8 @@ pub mod Options
 pub mod DecimalGroups
 pub mod DecimalParts
 pub mod PlainBytes
+pub mod LoadedBefore
+pub mod StepsOver
 pub mod WholeDecimals
 pub mod Extents
 pub mod SetBits

@@ -2,6 +2,7 @@ pub mod Packed
 pub mod DecimalDigits
 pub mod Decimal
 pub mod Extent
+pub mod Steps
 pub mod DecimalShown
 pub mod DecimalParts
 pub mod Value

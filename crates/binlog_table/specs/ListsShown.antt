@@ -5,6 +5,7 @@ use Rattle.std.specs.String.{string_bytes}
 use Rattle.binlog_table.specs.declared.lists.Lists.{Lists}
 use Rattle.binlog_table.specs.Map.{Sections, Map}
 use Rattle.binlog_table.specs.NameOrder.{IsNameOrder}
+use Rattle.binlog_table.specs.Steps.{AreSteps}
 use Rattle.binlog_table.specs.ValueNamesShown.{names_view}
 
 abbrev pub listed_map : Sections → Lists → Map
@@ -25,3 +26,4 @@ pub record AreFit (l : Lists) : Type 0 where
   pub value_names : vec_len l.value_names ≡ vec_len l.columns
   pub key : All (λ i. i < vec_len l.columns) l.key.items
   pub order : IsNameOrder (map string_bytes l.names.names.items) l.names.order.items
+  pub steps : AreSteps l.columns.items l.steps.items

@@ -24,6 +24,7 @@ mod row_view;
 mod rows;
 mod rows_head;
 mod sections;
+mod steps;
 mod table_map;
 mod time;
 mod value;

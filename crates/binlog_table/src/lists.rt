@@ -11,6 +11,7 @@ use crate::fault::{MapFault, given};
 use crate::key::key_in;
 use crate::names::{ColumnNames, column_names};
 use crate::sections::Sections;
+use crate::steps::{Step, steps_of};
 use crate::value_names::value_names;
 use binlog_profile::Profile;
 use std::alloc::Global;
@@ -19,6 +20,8 @@ use std::alloc::Global;
 #[derive(Drop)]
 pub(crate) struct Lists {
     pub(crate) columns: Vec<Column>,
+    /// How a walk passes the values of the columns over.
+    pub(crate) steps: Vec<Step>,
     pub(crate) names: ColumnNames,
     pub(crate) key: Vec<usize>,
     pub(crate) value_names: Vec<Option<Vec<Vec<u8>>>>,
@@ -39,8 +42,10 @@ pub(crate) fn lists_of(
     let key = given!(key_in(alloc, count, fields.key, fields.prefix_key));
     let columns = given!(columns_in(alloc, profile, sections));
     let value_names = given!(value_names(alloc, &columns, fields.set_names, fields.enum_names));
+    let steps = steps_of(alloc, &columns)?;
     Ok(Lists {
         columns,
+        steps,
         names,
         key,
         value_names,

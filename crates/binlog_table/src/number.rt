@@ -1,5 +1,5 @@
 //! Numbers whose count of bytes is known only at run time. Each usual count has an arm of its own, which reads it without a loop.
-ghost use Rattle.std.specs.Prelude.{◌≡◌, ◌≤◌, length};
+ghost use Rattle.std.specs.Prelude.{◌≡◌, ◌≤◌, ◌-◌, length, drop};
 ghost use Rattle.byteorder.specs.Endian.{big_number, little_number, twos_complement};
 
 use byteorder::{BigEndian, ByteOrder, LittleEndian};
@@ -58,4 +58,17 @@ pub(crate) fn big(bytes: &[u8], width: usize) -> u64
         8 => BigEndian::read_u64(bytes),
         _ => BigEndian::read_uint(bytes, width),
     }
+}
+
+/// The number that so many bytes in front of a place spell, the lowest first. At least eight bytes stand in front of it: they are loaded at
+/// once, and those that aren't the number's are shifted out.
+#[inline(always)]
+pub(crate) fn little_before(bytes: &[u8], end: usize, width: usize) -> u64
+    requires some { 1 ≤ width }
+    requires few { width ≤ 8 }
+    requires front { 8 ≤ end }
+    requires room { end ≤ length bytes.now }
+    ensures { result ≡ little_number width (drop (end - width) bytes.now) }
+{
+    LittleEndian::read_u64(&bytes[end - 8..]) >> (64 - 8 * width)
 }
