@@ -52,6 +52,9 @@ PROOFS_THAT_SET_LOOKS = {
     OF_LOOKS / "proofs/looks/Looks" / proof
     for proof in ("none/Proof.antt", "add/Proof.antt", "add_for/Invariants.antt", "note/Invariants.antt")
 }
+# The traits of the standard library by which a file of the system is opened and read, and what notes what was read.
+OF_THE_SYSTEM = re.compile(r"\bimpl\b[^;{]*?\b(?:Files|OpenFile|Read|BufRead|Seek|Runtime)(?:<[^{]*?>)?\s+for\b")
+KEEPS = TOP / "crates/binlog_frame/src/buffer.rt"
 # These are no types round an event: its own header, what stands where no event does, and the standard library's.
 OWN_TYPES = {"Result", "Option", "Header", "Ending"}
 # So much counts what a way lacks.
@@ -323,6 +326,19 @@ def other_proofs_that_set_looks() -> Iterator[Item]:
                 yield Item(str(path.relative_to(TOP)))
 
 
+def other_sources_of_bytes() -> Iterator[Item]:
+    """The impls by which files could give other bytes than the system's, and the calls that note what was read, but for the one in `KEEPS`.
+
+    Any other could have a run look at files that aren't there, or make a source dishonest, of which no contract says anything.
+    """
+    for path in (path for path in sources() if path.suffix == ".rt"):
+        text = re.sub(r"//.*", "", path.read_text(encoding="utf-8"))
+        found = [*OF_THE_SYSTEM.findall(text), *re.findall(r"\btranscript\s*\.note\(", text)]
+        if path == KEEPS:
+            found = found[1:]
+        yield from (Item(f"{path.relative_to(TOP)}: {what}") for what in found)
+
+
 FIGURES = {
     "calls_between_main_and_the_feed": lambda: calls_between("calls_between_main_and_the_feed", MAIN, FEED),
     "calls_between_the_feed_and_the_file": lambda: calls_between("calls_between_the_feed_and_the_file", FEED, FILE),
@@ -336,6 +352,7 @@ FIGURES = {
     "functions_over_40_lines": long_functions,
     "files_over_800_lines": long_files,
     "other_proofs_that_set_looks": other_proofs_that_set_looks,
+    "other_sources_of_bytes": other_sources_of_bytes,
     "unreachables": unreachables,
     "flat_wrong_bodies": flat_wrong_bodies,
     "bad_wrong_bodies": bad_wrong_bodies,
