@@ -31,10 +31,10 @@ ENVIRONMENT = {"GLIBC_TUNABLES": "glibc.cpu.hwcaps=-AVX2,-AVX2_Usable,-AVX512F,-
 VALGRIND = ("--tool=callgrind", "--trace-syscalls=yes", "--callgrind-out-file=/dev/null")
 CALL = re.compile(rb"^SYSCALL\[\d+,\d+\]\( *\d+\) \w+ \(", re.M)
 
-# The transactions of the log of everyday changes, the looks at it, the transactions of the log of one table, the
+# The transactions of the log of everyday changes, the looks at it, those at one that grows, the transactions of the log of one table, the
 # tables of the log of many, and those of the log of wide ones: these are fewer than the reader keeps maps of, but more
 # than it keeps bytes of.
-TRANSACTIONS, LOOKS, MAPPED, TABLES, WIDE_TABLES = 1_000, 200, 100, 300, 60
+TRANSACTIONS, LOOKS, GROWTHS, MAPPED, TABLES, WIDE_TABLES = 1_000, 200, 20, 100, 300, 60
 # A transaction of so many rows, and one of twice as many, make as many requests for memory, but for so many.
 ROWS, MORE_REQUESTS = 5_000, 4
 # The bytes of a log of documents, and how many instructions they may take for each that BLOBs take.
@@ -53,11 +53,18 @@ class Cost(NamedTuple):
 
 
 class Reading(NamedTuple):
-    """A run: its words, its log, and its input."""
+    """A run: its words, its log, its input, and further logs by their paths."""
 
     words: tuple[str, ...]
     log: Callable[[], bytes]
     text: bytes = b""
+    more: Callable[[], dict[str, bytes]] = dict
+
+    def lay_out(self, folder: Path) -> None:
+        """Writes its logs."""
+        put(folder, ["log"], self.log())
+        for path, content in self.more().items():
+            put(folder, [path], content)
 
 
 @cache
@@ -90,12 +97,30 @@ def middle() -> str:
     return f"{everyday(TRANSACTIONS // 2).places[-1]}.1@log"
 
 
+@cache
+def earlier_log() -> dict[str, bytes]:
+    """A log in front of the one of everyday changes."""
+    return {"earlier": everyday_log()}
+
+
+@cache
+def grown_logs() -> dict[str, bytes]:
+    """A log in front of the one of everyday changes, and this one as it has grown, in a folder for each look."""
+    grown = {f"{look}/log": everyday(TRANSACTIONS + look).content() for look in range(1, GROWTHS + 1)}
+    return earlier_log() | grown
+
+
+# At each look the second of two logs has one transaction more.
+GROWN = b"".join(b"earlier\n%d/log\n\n" % look for look in range(1, GROWTHS + 1))
+
 READINGS = {
     "read": Reading(("read", "log"), everyday_log),
     "read --full": Reading(("read", "--full", "log"), everyday_log),
     "transactions": Reading(("transactions", "log"), everyday_log),
     "read --from": Reading(("read", f"--from={middle()}", "log"), everyday_log),
     "read --follow": Reading(("read", "--follow", "--only-tables=none", "log"), everyday_log, b"\n" * LOOKS),
+    "read --from a second log": Reading(("read", f"--from={middle()}", "earlier", "log"), everyday_log, more=earlier_log),
+    "read --follow of a log that grows": Reading(("read", "--follow", "--only-tables=none", "earlier", "log"), everyday_log, GROWN, grown_logs),
     "history": Reading(("history", "--schema=shop", "--table=orders", "--key=[0]", "log"), everyday_log),
     "read one table": Reading(("read", "--only-events=delete", "log"), one_table_log),
     "read many tables": Reading(("read", "log"), many_tables_log),
@@ -109,7 +134,7 @@ def instructions_and_calls(program: Path, reading: Reading, folder: Path) -> tup
     valgrind = shutil.which("valgrind")
     if valgrind is None:
         raise FileNotFoundError("there is no valgrind (apt-get install valgrind)")
-    put(folder, ["log"], reading.log())
+    reading.lay_out(folder)
     words = [valgrind, *VALGRIND, program, *reading.words]
     said = subprocess.run(
         words, cwd=folder, input=reading.text, capture_output=True, timeout=SECONDS, check=True, env=ENVIRONMENT
@@ -119,7 +144,7 @@ def instructions_and_calls(program: Path, reading: Reading, folder: Path) -> tup
 
 def memory(program: Path, reading: Reading, folder: Path) -> Memory:
     """Counts what memory a run uses."""
-    put(folder, ["log"], reading.log())
+    reading.lay_out(folder)
     outcome, used = run_preloaded(program, list(reading.words), folder, text=reading.text)
     if outcome.status != 0:
         raise ValueError(f"status {outcome.status}: {outcome.stderr.decode(errors='replace')}")

@@ -22,6 +22,8 @@ ROUNDS = 12
 SHARE = 0.05
 # So many looks are counted, behind the first.
 LOOKS = 50
+# A log grows behind so many looks that find nothing new, and behind each fewer.
+IDLE = 30
 
 # What a shell's loop over `ls` writes, with the program as its word $0. The log grows behind the second list.
 LOOP = """
@@ -141,6 +143,25 @@ def judge_cost(program: Path, folder: Path) -> list[str]:
     return [] if abs(long - short) <= SHARE * short else [f"a look takes {short:,.0f} instructions over 4 MB, and {long:,.0f} over 40 MB"]
 
 
+def judge_idle(program: Path, folder: Path) -> list[str]:
+    """Each look sees the log as it is when it is asked for, however many before it found nothing new."""
+    path, whole = folder / "log", worked_log(IDLE + 2)
+    path.write_bytes(worked_log(1))
+    driver = Driver(program)
+    answers = [driver.look(path)]
+    for idle in range(IDLE + 1):
+        answers += [driver.look() for _ in range(idle)]
+        with path.open("ab") as log:
+            log.write(whole[path.stat().st_size : len(worked_log(idle + 2))])
+        answers.append(driver.look())
+    lines = change_lines(IDLE + 2, "log").splitlines(keepends=True)
+    wanted = [lines[0] + b"\n"]
+    for idle in range(IDLE + 1):
+        wanted += [b"\n"] * idle + [lines[idle + 1] + b"\n"]
+    late = [str(look) for look, (answer, want) in enumerate(zip(answers, wanted)) if answer != want]
+    return ([f"looks {', '.join(late)} tell something else"] if late else []) + differs(Outcome(*driver.ended()), Wanted(0))
+
+
 def checks() -> list[Check]:
     """The checks of runs that follow logs."""
     growing = ((SHOP, ()), (SHOP, ("--full",)), (BANK, ()), (BANK, ("--only-tables=account",)))
@@ -151,4 +172,5 @@ def checks() -> list[Check]:
         ],
         Check("a shell's loop tells the files that are followed", judge_loop),
         Check("a look's instructions don't grow with the file", judge_cost),
+        Check("a look behind idle ones sees what has grown", judge_idle),
     ]
