@@ -10,7 +10,7 @@ use Rattle.binlog_feed.specs.declared.start.Start.{Start}
 use Rattle.binlog_feed.specs.declared.start.Start.TheVariants.{Beginning, After}
 use Rattle.binlog_units.specs.declared.what.What.TheVariants.{BadMagic, BadRows}
 use Rattle.binlog_profile.specs.declared.profile.Profile.TheVariants.{Strict, Server}
-use Rattle.binlogfeed.specs.Follow.{AreSupplied, EitherFailed, EndsAs, EndsLists, FailsAs, FollowsLooks, NamesFiles, RefusesFirst, RefusesForReading, RefusesList, RefusesNext, RefusesShorter, WritesBlanks}
+use Rattle.binlogfeed.specs.Follow.{AreSupplied, EitherFailed, EndsAs, EndsLists, EndsLook, FailsAs, FollowsLooks, NamesFiles, RefusesFirst, RefusesForReading, RefusesList, RefusesNext, RefusesShorter, WritesBlanks}
 use Rattle.binlogfeed.specs.Looks.{EachContinues, EndsBehindStart, Look, TellsUnbegun}
 use Rattle.binlogfeed.specs.declared.fault.RunFault.TheVariants as run
 use Rattle.binlogfeed.specs.declared.fault.TokenRefusal.TheVariants.{NoTransaction}
@@ -51,6 +51,13 @@ FaultsAtStarts =
     EndsBehindStart all (After (token 153 1 first_name)) (look_at bad_in_second)
     × (EndsBehindStart all (After (token 153 0 second_name)) (look_at bad_before) → ⊥)
     × (EndsBehindStart all (After (token 152 1 second_name)) (look_at bad_behind_second) → ⊥)
+
+-- A first look ends as what stands behind its start does, whatever stands in front.
+abbrev pub FirstLookEnds : Type 0
+FirstLookEnds =
+    EndsLook all (After (token 153 0 second_name)) (look_at bad_before) [] (Ok tt)
+    × ((fault : LogFault) → EndsLook all (After (token 153 0 second_name)) (look_at bad_before) [] (Err (Ended (run.Log fault))) → ⊥)
+    × (EndsLook all Beginning (look_at bad_before) [] (Ok tt) → ⊥)
 
 -- ---- what faults name
 
@@ -169,7 +176,7 @@ abbrev pub bad_magic : LogFault
 bad_magic = record { file = 0; position = 0; what = BadMagic }
 
 -- A file is shorter where it ends before the end of the last transaction that was there. Its fault is told where it isn't shorter, and has
--- one at its beginning. The files of the look have no fault of their own.
+-- one at its beginning. The files of the look have no fault of their own. So it is behind a first look with a fault in front of its start.
 abbrev pub RefusedAsShorter : Type 0
 RefusedAsShorter =
     (chosen : Filter)
@@ -180,6 +187,7 @@ RefusedAsShorter =
     × RefusesShorter chosen Beginning (look_at one_file) [] changed_look (going.Later (reading.Log bad_magic))
     × (RefusesShorter chosen Beginning (look_at one_file) [] (look_at both_files) (going.Later (reading.Log bad_magic)) → ⊥)
     × (RefusesShorter chosen Beginning (look_at one_file) [] (look_at both_files) (going.Earlier (reading.Log bad_magic)) → ⊥)
+    × (RefusesShorter chosen (After (token 153 0 second_name)) (look_at bad_before) [] (look_at bad_before) going.FileShorter → ⊥)
 
 -- Over files that continue those of the look no file is gone or shorter, and no fault of theirs is told. Where they don't, nothing is said.
 abbrev pub RefusedForReading : Type 0

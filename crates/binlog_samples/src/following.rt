@@ -1,8 +1,8 @@
 //! The definitions of runs that follow: lists of files, looks at them, and how such a run ends.
 ghost use Rattle.binlog_samples.specs.Following.{ListTexts, ListsBegin, NoLists, CutLists, TurnsOfLists, TurnsOfFiles, TwoListsAreNotOne, PartsOfLooks, BeginsAtEnd, GoneFiles, JoinedParts, EmptyLooks, FilesComeBack, LastFilesStay, LooksAreHonest, LooksAreWritten, MadeLooks, TextsOfRefusals, StatusesOfRefusals, StatusesOfEnds, TextsOfEnds, FailuresOfEnds};
-ghost use Rattle.binlog_samples.specs.LastFiles.{ComesOnce, LastFilesReach};
+ghost use Rattle.binlog_samples.specs.LastFiles.{ComesOnce, FilterStays, LastFilesReach, PlacesOfLasts, TextStandsBehind};
 ghost use Rattle.binlog_samples.specs.FollowNext.{BothAreNotWritten, BothAreWritten, LastIsWritten, LooksDiffer, NextIsNotWritten, NextIsWritten};
-ghost use Rattle.binlog_samples.specs.FollowEnds.{EndsWithoutFault, EndsWithFault, EndsByDevice, FaultsAtStarts, FilesNamed, FailuresOfEither, FailuresOfRefusals};
+ghost use Rattle.binlog_samples.specs.FollowEnds.{EndsWithoutFault, EndsWithFault, EndsByDevice, FaultsAtStarts, FirstLookEnds, FilesNamed, FailuresOfEither, FailuresOfRefusals};
 ghost use Rattle.binlog_samples.specs.FollowEnds.{FailuresOfBeginnings, LooksNotBegun, NamesOfBeginnings, FirstRefused, BlanksWritten, ListsRefused, LooksContinue, RefusedAsShorter, RefusedForReading};
 ghost use Rattle.binlog_samples.specs.FollowEnds.{NextIsRefused, LookedAtIsNotRefused, AllListsLookedAt, ListLeft, LooksSupplied};
 
@@ -43,6 +43,13 @@ pub fn sample_next_looks()
     ensures both_are_not_written { BothAreNotWritten }
 {}
 
+/// What a look writes whose files don't continue those of the one before, and one behind it.
+pub fn sample_turned_looks()
+    ensures filter_stays { FilterStays }
+    ensures text_stands_behind { TextStandsBehind }
+    ensures places_of_lasts { PlacesOfLasts }
+{}
+
 /// How runs that follow end.
 pub fn sample_follow_ends()
     ensures texts_of_refusals { TextsOfRefusals }
@@ -58,6 +65,7 @@ pub fn sample_look_ends()
     ensures ends_with_fault { EndsWithFault }
     ensures ends_by_device { EndsByDevice }
     ensures faults_at_starts { FaultsAtStarts }
+    ensures first_look_ends { FirstLookEnds }
     ensures files_named { FilesNamed }
     ensures failures_of_either { FailuresOfEither }
     ensures failures_of_refusals { FailuresOfRefusals }

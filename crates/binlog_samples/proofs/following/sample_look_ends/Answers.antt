@@ -1,19 +1,23 @@
-use Rattle.std.proofs.Common.{◌≡◌, ◌∙◌, [], ◌∷◌, refl, sym, inl, inr, arith}
+use Rattle.std.proofs.Common.{◌≡◌, ◌∙◌, [], ◌∷◌, Some, None, Ok, Err, refl, sym, ap, inl, inr, arith}
 use Rattle.std.proofs.lemmas.Option.{same_Some}
 use Rattle.binlog_frame.specs.Logs.{HasRisen}
 use Rattle.binlog_feed.specs.Tokens.{judge}
-use Rattle.binlog_feed.specs.Tokens.Judgement.{NoTransaction as no_transaction}
+use Rattle.binlog_feed.specs.ChangeMachine.{RemainingChanges}
+use Rattle.binlog_feed.specs.Tokens.Judgement.{Fits as fits, NoTransaction as no_transaction}
 use Rattle.binlog_units.specs.declared.fault.OpenFeedFault.{OpenFeedFault}
 use Rattle.binlog_units.specs.declared.fault.OpenFeedFault.TheVariants as opening
-use Rattle.binlog_feed.specs.declared.start.Start.TheVariants.{After}
+use Rattle.binlog_feed.specs.declared.start.Start.TheVariants.{Beginning, After}
+use Rattle.binlog_units.specs.declared.fault.LogFault.{LogFault}
 use Rattle.binlog_select.specs.declared.token.Token.{Token}
 use Rattle.binlogfeed.specs.Faults.{fault_of_opening}
-use Rattle.binlogfeed.specs.Follow.{RefusesFirst}
+use Rattle.binlogfeed.specs.Follow.{EndsLook, RefusesFirst}
 use Rattle.binlogfeed.specs.Looks.{IsNoEnd, RefusesFollowing}
 use Rattle.binlogfeed.specs.declared.fault.RunFault.TheVariants as run
+use Rattle.binlogfeed.specs.declared.follow_fault.FollowFault.TheVariants.{Ended}
 use Rattle.binlogfeed.specs.declared.fault.TokenRefusal.TheVariants.{NoTransaction}
-use Rattle.binlog_samples.specs.Tokens.{first_name, second_name, token}
-use Rattle.binlog_samples.specs.Following.{look_at, one_file}
+use Rattle.binlog_samples.specs.Tokens.{bad_before, first_name, second_name, token}
+use Rattle.binlog_samples.specs.Following.{all, look_at, one_file}
+use Rattle.binlog_samples.specs.FollowEnds.{bad_magic}
 use Rattle.binlog_samples.proofs.GrownFiles.{first_named}
 use Rattle.binlog_samples.proofs.NextLooks.{first_is_not_second}
 use Rattle.binlog_samples.proofs.OnBytes.{on_bytes}
@@ -45,6 +49,22 @@ returns-clause-first_refused c = (
   (λ refuses. let judged = (is_refused (token 153 0 first_name) refuses).0 in cc),
   inl refl,
 )
+
+-- an earlier file's fault is not met behind the start
+not_met : (fault : LogFault) → EndsLook all (After (token 153 0 second_name)) (look_at bad_before) [] (Err (Ended (run.Log fault))) → ⊥
+unfolding on_bytes
+not_met fault (remaining, inl begins, ends) = let none : remaining.end ≡ None = ap (λ (r : RemainingChanges). r.end) begins.1 in cc
+not_met fault (remaining, inr stands, ends) = let judged : fits ≡ no_transaction = stands.0 in cc
+
+-- from the beginning on it is
+is_met : EndsLook all Beginning (look_at bad_before) [] (Ok tt) → ⊥
+unfolding on_bytes
+is_met (remaining, inl begins, ends) = let some : remaining.end ≡ Some bad_magic = ap (λ (r : RemainingChanges). r.end) begins.1 in cc
+is_met (remaining, inr stands, ends) = absurd stands
+
+pub returns-clause-first_look_ends : goal.returns-clause-first_look_ends
+unfolding on_bytes
+returns-clause-first_look_ends c = ((_, inl (refl, refl), refl), not_met, is_met)
 
 still_none : HasRisen 0 0 → ⊥
 still_none (inl more) = omega (arith, more)

@@ -9,11 +9,12 @@ use Rattle.binlog_units.specs.Parsing.{LogFile}
 use Rattle.binlog_units.specs.Places.{begin_file}
 use Rattle.binlogfeed.specs.Looks.{files_at}
 use Rattle.binlog_samples.specs.Statuses.{two_names}
-use Rattle.binlog_samples.specs.Tokens.{first_name, second_name, first_file, second_file, third_file}
+use Rattle.binlog_samples.specs.Tokens.{bad_before, first_name, second_name, first_file, second_file, third_file}
 use Rattle.binlog_samples.specs.Files.{rotate_event}
 use Rattle.binlog_samples.specs.Following.{back_files, both_files, cut_look, last_files, look_at, one_file}
 use Rattle.binlog_samples.specs.FollowEnds.{changed_look}
 use Rattle.binlogfeed.proofs.NamesGone.{never_back, same_last}
+use Rattle.binlog_samples.proofs.GrownFiles.{not_short as not_shorter}
 use Rattle.binlog_samples.proofs.OnBytes.{on_bytes}
 use Rattle.binlog_samples.proofs.Paths.{first_of}
 use Rattle.binlog_samples.proofs.following.sample_refused_lists.Goals as goal
@@ -173,6 +174,13 @@ not_short names contents first long some short =
       | inr (risen, ends) ↦ some (subst (λ (n : ℕ). EndsInFront (content contents n)) there ends)
     ]
 
+-- nor is a second file, whatever stands in front of it
+second_is_long : IsShort (look_at bad_before).names (look_at bad_before).contents (look_at bad_before).names (look_at bad_before).contents (begin_file 1) → ⊥
+unfolding on_bytes
+second_is_long short =
+    let long : 371 ≤ 371 = omega arith in
+    not_shorter (look_at bad_before).names (look_at bad_before).contents (look_at bad_before).names (look_at bad_before).contents (begin_file 1) second_name 1 refl (search rules) long (λ ends. let none = ends.0 in cc) short
+
 pub returns-clause-refused_as_shorter : goal.returns-clause-refused_as_shorter
 unfolding on_bytes
 returns-clause-refused_as_shorter c chosen = (
@@ -183,6 +191,7 @@ returns-clause-refused_as_shorter c chosen = (
   (λ honest continues behind some. record { last = record { name = first_name; named = refl; found = search rules }; some = omega arith; long = omega arith; in_front = (refl, refl) }),
   (λ refuses. let none = (refuses (refl, (refl, tt)) tt tt (omega arith)).in_front.0 in cc),
   (λ refuses. let told = refuses (refl, (refl, tt)) tt tt (omega arith) in cc),
+  (λ refuses. second_is_long (refuses (refl, (refl, tt)) tt tt (omega arith))),
 )
 
 pub returns-clause-refused_for_reading : goal.returns-clause-refused_for_reading
