@@ -52,9 +52,17 @@ PROOFS_THAT_SET_LOOKS = {
     OF_LOOKS / "proofs/looks/Looks" / proof
     for proof in ("none/Proof.antt", "add/Proof.antt", "add_for/Invariants.antt", "note/Invariants.antt")
 }
-# The traits of the standard library by which a file of the system is opened and read, and what notes what was read.
-OF_THE_SYSTEM = re.compile(r"\bimpl\b[^;{]*?\b(?:Files|OpenFile|Read|BufRead|Seek|Runtime)(?:<[^{]*?>)?\s+for\b")
-KEEPS = TOP / "crates/binlog_frame/src/buffer.rt"
+# The traits of the standard library by which a file of the system is opened and read: an impl of one, or one by another name.
+TRAITS = "Files|OpenFile|Read|BufRead|Seek|Runtime"
+OF_THE_SYSTEM = re.compile(rf"\bimpl\b[^;{{]*?\b(?:{TRAITS})(?:<[^{{]*?>)?\s+for\b|\b(?:{TRAITS})\s+as\s+\w+")
+# What notes a read or a look: each of these has to, in its file.
+NOTES = re.compile(r"(\w+)\s*(?:\.|::)\s*note\(")
+NOTED_IN = {
+    TOP / "crates/binlog_frame/src/buffer.rt": ["transcript"],
+    TOP / "crates/binlog_frame/src/files.rt": ["reach"],
+    TOP / "crates/binlog_frame/src/memory.rt": ["begun"],
+    OF_LOOKS / "src/looks.rt": ["looks"],
+}
 # These are no types round an event: its own header, what stands where no event does, and the standard library's.
 OWN_TYPES = {"Result", "Option", "Header", "Ending"}
 # So much counts what a way lacks.
@@ -327,15 +335,14 @@ def other_proofs_that_set_looks() -> Iterator[Item]:
 
 
 def other_sources_of_bytes() -> Iterator[Item]:
-    """The impls by which files could give other bytes than the system's, and the calls that note what was read, but for the one in `KEEPS`.
+    """The impls by which files could give other bytes than the system's, and the calls that note what was read, but for those that have to.
 
     Any other could have a run look at files that aren't there, or make a source dishonest, of which no contract says anything.
     """
     for path in (path for path in sources() if path.suffix == ".rt"):
         text = re.sub(r"//.*", "", path.read_text(encoding="utf-8"))
-        found = [*OF_THE_SYSTEM.findall(text), *re.findall(r"\btranscript\s*\.note\(", text)]
-        if path == KEEPS:
-            found = found[1:]
+        notes = NOTES.findall(text)
+        found = [*OF_THE_SYSTEM.findall(text), *([] if notes == NOTED_IN.get(path, []) else [f"{it}.note(" for it in notes] or ["no note("])]
         yield from (Item(f"{path.relative_to(TOP)}: {what}") for what in found)
 
 

@@ -34,7 +34,7 @@ CALL = re.compile(rb"^SYSCALL\[\d+,\d+\]\( *\d+\) \w+ \(", re.M)
 # The transactions of the log of everyday changes, the looks at it, those at one that grows, the transactions of the log of one table, the
 # tables of the log of many, and those of the log of wide ones: these are fewer than the reader keeps maps of, but more
 # than it keeps bytes of.
-TRANSACTIONS, LOOKS, GROWTHS, MAPPED, TABLES, WIDE_TABLES = 1_000, 200, 20, 100, 300, 60
+TRANSACTIONS, LOOKS, GROWTHS, MAPPED, TABLES, WIDE_TABLES = 1_000, 1_000, 20, 100, 300, 60
 # A transaction of so many rows, and one of twice as many, make as many requests for memory, but for so many.
 ROWS, MORE_REQUESTS = 5_000, 4
 # The bytes of a log of documents, and how many instructions they may take for each that BLOBs take.
