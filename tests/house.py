@@ -55,14 +55,26 @@ PROOFS_THAT_SET_LOOKS = {
 # The traits of the standard library by which a file of the system is opened and read: an impl of one, or one by another name.
 TRAITS = "Files|OpenFile|Read|BufRead|Seek|Runtime"
 OF_THE_SYSTEM = re.compile(rf"\bimpl\b[^;{{]*?\b(?:{TRAITS})(?:<[^{{]*?>)?\s+for\b|\b(?:{TRAITS})\s+as\s+\w+")
-# What notes a read or a look: each of these has to, in its file.
-NOTES = re.compile(r"(\w+)\s*(?:\.|::)\s*note\(")
-NOTED_IN = {
-    TOP / "crates/binlog_frame/src/buffer.rt": ["transcript"],
-    TOP / "crates/binlog_frame/src/files.rt": ["reach"],
-    TOP / "crates/binlog_frame/src/memory.rt": ["begun"],
-    OF_LOOKS / "src/looks.rt": ["looks"],
-}
+# What is read of files is noted in a `Transcript`. These are all lines of the crate of files that say so, beside those of its own module.
+OF_FILES = TOP / "crates/binlog_frame"
+NOTES = re.compile(r"\b(?:[Tt]ranscript|keep|note)\b|\.len\s*=[^=]")
+NOTING = Counter(
+    {
+        "use crate::transcript::Transcript;": 2,
+        "mod transcript;": 1,
+        "pub use transcript::Transcript;": 1,
+        "transcript: Transcript,": 1,
+        "transcript: Transcript::new(),": 1,
+        "pub(crate) fn keep(": 1,
+        "transcript: &mut Transcript,": 1,
+        "transcript.note(number, offset, held);": 1,
+        "self.buffer.keep(i, offset, count, &mut self.transcript);": 1,
+        "self.buffer.keep(i, offset, 0, &mut self.transcript);": 1,
+        ".note(i, offset, end_of_read(len, offset, buf.len()));": 1,
+        "self.begun.note(i, offset, end);": 1,
+    }
+)
+PROOFS_OF_NOTES = {OF_FILES / "proofs/transcript/Transcript" / name / "Proof.antt" for name in ("new", "note")}
 # These are no types round an event: its own header, what stands where no event does, and the standard library's.
 OWN_TYPES = {"Result", "Option", "Header", "Ending"}
 # So much counts what a way lacks.
@@ -334,16 +346,25 @@ def other_proofs_that_set_looks() -> Iterator[Item]:
                 yield Item(str(path.relative_to(TOP)))
 
 
-def other_sources_of_bytes() -> Iterator[Item]:
-    """The impls by which files could give other bytes than the system's, and the calls that note what was read, but for those that have to.
+def lines_that_note() -> Iterator[str]:
+    """The lines of code of the crate of files, but for the module of `Transcript` and clauses, that speak of what is noted, or set a length."""
+    for path in sorted(OF_FILES.glob("src/**/*.rt")):
+        lines = (re.sub(r"//.*", "", line).strip() for line in lines_of(path))
+        if path.name not in {"transcript.rt", "reach.rt"}:
+            yield from (line for line in lines if NOTES.search(line) and not re.match(r"(?:ghost|ensures|requires)\b", line))
 
-    Any other could have a run look at files that aren't there, or make a source dishonest, of which no contract says anything.
+
+def other_sources_of_bytes() -> Iterator[Item]:
+    """What could have a run look at files that aren't there, or make a source dishonest, of which no contract says anything.
+
+    These are impls by which files could give other bytes than the system's, lines of code that note a read or set a length, and proofs by hand
+    of what is noted, but for those that have to.
     """
     for path in (path for path in sources() if path.suffix == ".rt"):
         text = re.sub(r"//.*", "", path.read_text(encoding="utf-8"))
-        notes = NOTES.findall(text)
-        found = [*OF_THE_SYSTEM.findall(text), *([] if notes == NOTED_IN.get(path, []) else [f"{it}.note(" for it in notes] or ["no note("])]
-        yield from (Item(f"{path.relative_to(TOP)}: {what}") for what in found)
+        yield from (Item(f"{path.relative_to(TOP)}: {what}") for what in OF_THE_SYSTEM.findall(text))
+    yield from (Item(line, count) for line, count in (Counter(lines_that_note()) - NOTING).items())
+    yield from (Item(short(path)) for path in {*OF_FILES.glob("proofs/transcript/**/Proof.antt")} - PROOFS_OF_NOTES)
 
 
 FIGURES = {
