@@ -52,6 +52,22 @@ PROOFS_THAT_SET_LOOKS = {
     OF_LOOKS / "proofs/looks/Looks" / proof
     for proof in ("none/Proof.antt", "add/Proof.antt", "add_for/Invariants.antt", "note/Invariants.antt")
 }
+# What these files have to say, so that the look that is added is that of the files of the system that `note` is given.
+SAID_OF_LOOKS = {
+    "src/looks.rt": (
+        "use binlog_frame::FileLogs;",
+        "pub(crate) fn note<R, F>(&mut self, logs: &FileLogs<R, F>)",
+        "ensures { self.new.list ≡ look_at_files logs.now ∷ self.old.list }",
+    ),
+    "specs/LookSteps.antt": (
+        "use Rattle.binlog_frame.specs.FileLogs.{failures_of, held_of, is_honest, names_of}",
+        "use Rattle.binlog_frame.specs.declared.files.FileLogs.{FileLogs}",
+        "abbrev pub look_at_files : {R F : Type 0} → FileLogs R F → Look",
+        "look_at_files logs = record { names = names_of logs; contents = held_of logs; honest = is_honest logs; failures = failures_of logs }",
+    ),
+    "proofs/looks/Looks/note/Invariants.antt": ("ghost-add_for g a = look_at_files a._logs.now",),
+    "proofs/looks/Looks/add_for/Invariants.antt": ("ghost-add g a = g.look",),
+}
 # The traits of the standard library by which a file of the system is opened and read: an impl of one, or one by another name.
 TRAITS = "Files|OpenFile|Read|BufRead|Seek|Runtime"
 OF_THE_SYSTEM = re.compile(rf"\bimpl\b[^;{{]*?\b(?:{TRAITS})(?:<[^{{]*?>)?\s+for\b|\b(?:{TRAITS})\s+as\s+\w+")
@@ -75,6 +91,26 @@ NOTING = Counter(
     }
 )
 PROOFS_OF_NOTES = {OF_FILES / "proofs/transcript/Transcript" / name / "Proof.antt" for name in ("new", "note")}
+# The crates that the program is made of, and all their lines that reach files of the system: those that are read are opened at one place,
+# hints look at what a path names, and nothing is made or changed.
+OF_THE_PROGRAM = ("binlog_frame", "binlog_units", "binlog_feed", "binlog_json", "line_output", "binlogfeed", "program")
+REACHES = re.compile(r"\bfs\b|\bFile::|\bFileLogs::open\b|\brt\.(?!alloc\b|clone\b|eprint\b|eprintln\b|reader\b|stderr\b|var\b)\w")
+REACHING = Counter(
+    {
+        "use std::fs::{self, File, Metadata, OpenFile};": 1,
+        "use std::os::unix::fs::MetadataExt;": 1,
+        "use std::fs::OpenFile;": 1,
+        "if !fs::metadata(rt, path)?.is_file() {": 1,
+        "let file = File::open(rt, path)?;": 1,
+        "match FileLogs::open(rt, rt.alloc(), paths) {": 1,
+        "use std::fs::File;": 1,
+        "let Ok(mut file) = File::open(rt, path) else {": 1,
+        "use std::fs;": 1,
+        "use std::os::unix::fs::FileTypeExt;": 1,
+        "if let Ok(about) = fs::metadata(rt, OUTPUT) {": 1,
+        "match rt.metadata(path) {": 1,
+    }
+)
 # These are no types round an event: its own header, what stands where no event does, and the standard library's.
 OWN_TYPES = {"Result", "Option", "Header", "Ending"}
 # So much counts what a way lacks.
@@ -341,29 +377,46 @@ def other_proofs_that_set_looks() -> Iterator[Item]:
         text = path.read_text(encoding="utf-8")
         # A proof by hand of that crate may name the type by way of another module.
         by_hand = path.name == "Proof.antt" and (OF_LOOKS in path.parents or "looks.Looks" in text)
-        if by_hand or re.search(r"\bghost-add(_for)?\b *:", text):
+        if by_hand or "ghost-add" in text:
             if path not in PROOFS_THAT_SET_LOOKS:
                 yield Item(str(path.relative_to(TOP)))
+    for name, said in SAID_OF_LOOKS.items():
+        there = Counter(line.strip() for line in lines_of(OF_LOOKS / name))
+        yield from (Item(f"{name} doesn't say: {line}", MISSING) for line in said if there[line] != 1)
+        picks = [line for line in there if line.startswith("ghost-")]
+        yield from (Item(f"{name}: {line}", MISSING) for line in picks if line not in said)
+
+
+def code_of(path: Path) -> Iterator[str]:
+    """The lines of code of a file, without comments and clauses."""
+    lines = (re.sub(r"//.*", "", line).strip() for line in lines_of(path))
+    return (line for line in lines if not re.match(r"(?:ghost|ensures|requires)\b", line))
 
 
 def lines_that_note() -> Iterator[str]:
-    """The lines of code of the crate of files, but for the module of `Transcript` and clauses, that speak of what is noted, or set a length."""
+    """The lines of code of the crate of files, but for the module of `Transcript`, that speak of what is noted, or set a length."""
     for path in sorted(OF_FILES.glob("src/**/*.rt")):
-        lines = (re.sub(r"//.*", "", line).strip() for line in lines_of(path))
         if path.name not in {"transcript.rt", "reach.rt"}:
-            yield from (line for line in lines if NOTES.search(line) and not re.match(r"(?:ghost|ensures|requires)\b", line))
+            yield from filter(NOTES.search, code_of(path))
+
+
+def lines_that_reach() -> Iterator[str]:
+    """The lines of code of the program's crates that reach files of the system."""
+    for path in sorted(path for crate in OF_THE_PROGRAM for path in TOP.glob(f"crates/{crate}/src/**/*.rt")):
+        yield from filter(REACHES.search, code_of(path))
 
 
 def other_sources_of_bytes() -> Iterator[Item]:
     """What could have a run look at files that aren't there, or make a source dishonest, of which no contract says anything.
 
-    These are impls by which files could give other bytes than the system's, lines of code that note a read or set a length, and proofs by hand
-    of what is noted, but for those that have to.
+    These are impls by which files could give other bytes than the system's, lines of code that note a read or set a length, lines that reach
+    files of the system, and proofs by hand of what is noted, but for those that have to.
     """
     for path in (path for path in sources() if path.suffix == ".rt"):
         text = re.sub(r"//.*", "", path.read_text(encoding="utf-8"))
         yield from (Item(f"{path.relative_to(TOP)}: {what}") for what in OF_THE_SYSTEM.findall(text))
     yield from (Item(line, count) for line, count in (Counter(lines_that_note()) - NOTING).items())
+    yield from (Item(line, count) for line, count in (Counter(lines_that_reach()) - REACHING).items())
     yield from (Item(short(path)) for path in {*OF_FILES.glob("proofs/transcript/**/Proof.antt")} - PROOFS_OF_NOTES)
 
 

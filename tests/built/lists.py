@@ -92,6 +92,7 @@ ENDING = (
     Case(["log"], b"next\nmore/log\n\n", LOG + MARK + GAIN + MARK),
     Case(["log"], b"next\nlog\n\nnext\nmore/log\n\n", LOG + 2 * MARK + GAIN + MARK),
     Case(["log", "next"], b"next\n\nlog\nnext\n\n", LOG + NEXT + 3 * MARK),
+    Case(["next", "log"], b"log\n\nnext\nlog\n\nnext\nmore/log\n\n", NEXT + LOG + 3 * MARK + GAIN + MARK),
     Case(["log"], b"more/log\nnext\n\n", LOG + MARK + GAIN + NEXT + MARK),
     Case(["log", "next"], b"next\n\n", LOG + NEXT + 2 * MARK),
     Case(["log"], b"log\nnone/next\n\nnext\n\n", LOG + 2 * MARK + NEXT + MARK),
