@@ -20,9 +20,9 @@ from logs import (
 MARK = b"\n"
 UNREADABLE, WRITE_FAULT = said("cannot read the list of files"), said("write fault")
 
-# The lines of `log`, of what it gains in `more/log`, and of `next`.
-LOG, NEXT = change_lines(1, "log"), change_lines(1, "next")
-GAIN = change_lines(2, "log")[len(LOG) :]
+# The lines of `log`, `next` and `last`, and of what two of them gain.
+LOG, NEXT, LAST = change_lines(1, "log"), change_lines(1, "next"), change_lines(1, "last")
+GAIN, LAST_GAIN = change_lines(2, "log")[len(LOG) :], change_lines(2, "last")[len(LAST) :]
 
 # A path is told as it was given, however long it is. The system takes 255 bytes in a name, and 4,095 in a path.
 NAMES = ("a" * 255, "a" * 256, "a/" * 150, "a" * 5_000)
@@ -46,8 +46,8 @@ class Case(NamedTuple):
 
 def lay_out(folder: Path) -> None:
     """Lays out logs. Those with one name are what a log may be at the next look: grown, with a fault, or shorter."""
-    put(folder, ["log", "next", "twice/log", "é/log"], A)
-    put(folder, ["more/log"], worked_log(2))
+    put(folder, ["log", "next", "last", "twice/log", "é/log"], A)
+    put(folder, ["more/log", "more/last"], worked_log(2))
     put(folder, ["tail/log"], A + b"cut")
     put(folder, ["bad/log"], appended(A, parts("xid")))
     put(folder, ["worse/log"], appended(worked_log(2), parts("xid")))
@@ -93,6 +93,7 @@ ENDING = (
     Case(["log"], b"next\nlog\n\nnext\nmore/log\n\n", LOG + 2 * MARK + GAIN + MARK),
     Case(["log", "next"], b"next\n\nlog\nnext\n\n", LOG + NEXT + 3 * MARK),
     Case(["next", "log"], b"log\n\nnext\nlog\n\nnext\nmore/log\n\n", NEXT + LOG + 3 * MARK + GAIN + MARK),
+    Case(["log", "next", "last"], b"log\nlast\n\nlog\nmore/last\n\n", LOG + NEXT + LAST + 2 * MARK + LAST_GAIN + MARK),
     Case(["log"], b"more/log\nnext\n\n", LOG + MARK + GAIN + NEXT + MARK),
     Case(["log", "next"], b"next\n\n", LOG + NEXT + 2 * MARK),
     Case(["log"], b"log\nnone/next\n\nnext\n\n", LOG + 2 * MARK + NEXT + MARK),
