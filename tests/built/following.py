@@ -155,9 +155,9 @@ def judge_idle(program: Path, folder: Path) -> list[str]:
             log.write(whole[path.stat().st_size : len(worked_log(idle + 2))])
         answers.append(driver.look())
     lines = change_lines(IDLE + 2, "log").splitlines(keepends=True)
-    wanted = [lines[0] + b"\n"]
+    wanted = [lines[0]]
     for idle in range(IDLE + 1):
-        wanted += [b"\n"] * idle + [lines[idle + 1] + b"\n"]
+        wanted += [b""] * idle + [lines[idle + 1]]
     late = [str(look) for look, (answer, want) in enumerate(zip(answers, wanted)) if answer != want]
     return ([f"looks {', '.join(late)} tell something else"] if late else []) + differs(Outcome(*driver.ended()), Wanted(0))
 
