@@ -6,7 +6,7 @@ use Rattle.binlog_frame.specs.Frames.{place_of, to_come}
 use Rattle.binlog_frame.specs.Logs.{content}
 use Rattle.binlog_frame.specs.Reading.{event_at, reading_of}
 use Rattle.binlog_frame.specs.Splitting.{SplitsFile, then_all}
-use Rattle.binlog_feed.specs.ChangeMachine.{RemainingChanges, feed_files, nothing_so_far, remaining_changes_at, remaining_changes_in_file}
+use Rattle.binlog_feed.specs.ChangeMachine.{RemainingChanges}
 use Rattle.binlog_feed.specs.Contents.{content_fault}
 use Rattle.binlog_feed.specs.FeedView.{filtered, passes_by}
 use Rattle.binlog_feed.specs.Growing.{AreNewBehind, IsBehindAt, IsLastByName, last_file}
@@ -23,6 +23,7 @@ use Rattle.binlog_samples.specs.Following.{all, both_files, given, last_files, l
 use Rattle.binlog_samples.proofs.NextLooks.{cut_short}
 use Rattle.binlog_samples.proofs.OnBytes.{on_bytes}
 use Rattle.binlog_samples.proofs.following.sample_looks.Goals as goal
+use Rattle.binlog_feed.specs.ChangeReader.{nothing_brought, remaining_changes_at, changes_of_files, then_file_changes}
 
 pub returns-clause-parts_of_looks : goal.returns-clause-parts_of_looks
 unfolding on_bytes
@@ -130,7 +131,7 @@ behind_all (event ∷ events) one other e =
 
 -- The seventh event of the file ends at 371.
 comes_behind : (coming : RemainingChanges) (place : Place) → place ≡ record { file = 1; frames = place.frames; state = Nothing } → place_of place.frames ≡ 371 → SplitsFile first_file.bytes place.frames
-    → coming ≡ filtered all (remaining_changes_at (look_at (third_file ∷ both_files)).names (look_at (third_file ∷ both_files)).contents place nothing_so_far)
+    → coming ≡ filtered all (remaining_changes_at (look_at (third_file ∷ both_files)).names (look_at (third_file ∷ both_files)).contents place nothing_brought)
     → (map brief coming.changes ≡ second_change ∷ []) × (coming.end ≡ None)
 unfolding on_bytes content_fault
 comes_behind coming place is at splits comes =
@@ -138,8 +139,8 @@ comes_behind coming place is at splits comes =
     let seventh = unwrap_or (slice_get reading.events 6) (event_at 0 0 []) in
     let rest : Reading = record { events = drop 7 reading.events; place = reading.place; ending = reading.ending } in
     let come = behind_all (take 6 reading.events ++ seventh ∷ []) rest (to_come first_file.bytes place.frames) (splits (take 6 reading.events) (drop 7 reading.events) seventh refl (sym at)) in
-    let from = subst (λ (p : Place). coming ≡ filtered all (remaining_changes_at (look_at (third_file ∷ both_files)).names (look_at (third_file ∷ both_files)).contents p nothing_so_far)) is comes in
-    let all_come = subst (λ (r : Reading). coming ≡ filtered all (remaining_changes_in_file 1 first_name (terms_of first_file (Some second_name)) Nothing nothing_so_far r (feed_files 2 (second_file [] ∷ [])))) (sym come) from in
+    let from = subst (λ (p : Place). coming ≡ filtered all (remaining_changes_at (look_at (third_file ∷ both_files)).names (look_at (third_file ∷ both_files)).contents p nothing_brought)) is comes in
+    let all_come = subst (λ (r : Reading). coming ≡ filtered all (then_file_changes 1 first_name (terms_of first_file (Some second_name)) Nothing nothing_brought r (changes_of_files 2 (second_file [] ∷ [])))) (sym come) from in
     (ap (λ (r : RemainingChanges). map brief r.changes) all_come, ap (λ (r : RemainingChanges). r.end) all_come)
 
 pub returns-clause-comes_once : goal.returns-clause-comes_once

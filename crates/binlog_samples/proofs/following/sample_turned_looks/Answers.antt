@@ -3,7 +3,7 @@ use Rattle.std.specs.List.{filter}
 use Rattle.std.specs.Prelude.{slice_get}
 use Rattle.binlog_frame.specs.Logs.{content}
 use Rattle.binlog_feed.specs.Changes.{RowChange}
-use Rattle.binlog_feed.specs.ChangeMachine.{RemainingChanges, nothing_so_far, remaining_changes_at}
+use Rattle.binlog_feed.specs.ChangeMachine.{RemainingChanges}
 use Rattle.binlog_feed.specs.Contents.{content_fault}
 use Rattle.binlog_feed.specs.Feeds.{changes, feed}
 use Rattle.binlog_feed.specs.FeedView.{passes_by}
@@ -18,6 +18,7 @@ use Rattle.binlog_samples.specs.LastFiles.{passing_none}
 use Rattle.binlog_samples.specs.Tokens.{first_name, third_file, third_name}
 use Rattle.binlog_samples.proofs.OnBytes.{on_bytes}
 use Rattle.binlog_samples.proofs.following.sample_turned_looks.Goals as goal
+use Rattle.binlog_feed.specs.ChangeReader.{nothing_brought, remaining_changes_at}
 
 none_passes : (list : List RowChange) → filter (passes_by passing_none) list ≡ []
 none_passes [] = refl
@@ -32,7 +33,7 @@ bare_first style look text (remaining, inl begins, is, ends) = is ∙ bare_text 
 bare_first style look text (remaining, inr begins, is, ends) = absurd begins
 
 bare_next : (style : Style) (before next : Look) (text : List ℕ) → IsNextPiece style (passes_by passing_none) before next text → text ≡ 10 ∷ []
-bare_next style before next text (coming, from, is, ends) = is ∙ bare_text style (remaining_changes_at next.names next.contents from.place nothing_so_far).changes coming.changes (ap (λ (r : RemainingChanges). r.changes) from.comes)
+bare_next style before next text (coming, from, is, ends) = is ∙ bare_text style (remaining_changes_at next.names next.contents from.place nothing_brought).changes coming.changes (ap (λ (r : RemainingChanges). r.changes) from.comes)
 
 pub returns-clause-filter_stays : goal.returns-clause-filter_stays
 returns-clause-filter_stays c style text kept =
@@ -42,7 +43,7 @@ returns-clause-filter_stays c style text kept =
     let newest = look_at (third_file ∷ both_files) in
     let first = bare_first style oldest on.pieces.0 (on.pieces.3 refl) in
     let second = bare_next style oldest before on.pieces.1 (on.pieces.4 refl) in
-    let third = bare_text style (remaining_changes_at newest.names newest.contents on.from_last.place nothing_so_far).changes on.coming.changes (ap (λ (r : RemainingChanges). r.changes) on.from_last.comes) in
+    let third = bare_text style (remaining_changes_at newest.names newest.contents on.from_last.place nothing_brought).changes on.coming.changes (ap (λ (r : RemainingChanges). r.changes) on.from_last.comes) in
     let front : on.front ≡ 10 ∷ 10 ∷ [] = on.pieces.2 ∙ ap (λ (t : List ℕ). t ++ on.pieces.1) first ∙ ap (λ (t : List ℕ). (10 ∷ []) ++ t) second in
     on.writes.0 ∙ ap (λ (t : List ℕ). t ++ look_text style on.coming.changes) front ∙ ap (λ (t : List ℕ). (10 ∷ 10 ∷ []) ++ t) third
 
