@@ -356,7 +356,7 @@ RUNS = (
         3,
         "file shorter: log",
         "hint: the server lost the file's end when its machine lost power or crashed (with sync_binlog=1, too): "
-        "lines were written of what it lost\n",
+        "it had been read further\n",
         b"less/log\n\n",
     ),
     Case(

@@ -59,7 +59,7 @@ pub(crate) fn hint_refusal<R: Eprint + Files>(
         ),
         GoOnFault::FileShorter => give(
             rt,
-            "the server lost the file's end when its machine lost power or crashed (with sync_binlog=1, too): lines were written of what it lost",
+            "the server lost the file's end when its machine lost power or crashed (with sync_binlog=1, too): it had been read further",
         ),
         GoOnFault::Earlier(fault) => tell(rt, &fault_of_reading(*fault), None),
         GoOnFault::Later(fault) => tell_look(rt, &fault_of_reading(*fault), paths),
