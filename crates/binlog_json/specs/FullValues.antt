@@ -10,6 +10,7 @@ use Rattle.binlog_table.specs.RowImage.{RowImage}
 use Rattle.binlog_table.specs.Value as cell
 use Rattle.binlog_table.specs.Value.{Content}
 use Rattle.binlog_types.specs.ColumnTypes.{types_of}
+use Rattle.binlog_table.specs.TypeCodes as type_code
 use Rattle.binlog_types.specs.Charsets.{charset_name, encoding_of}
 use Rattle.binlog_types.specs.declared.column_type.ColumnType.{ColumnType}
 use Rattle.binlog_types.specs.declared.charsets.Charset.{Charset}
@@ -33,7 +34,7 @@ type_in map column = slice_index_or (types_of map.sections) column unknown_type
 -- the greatest number of an integer type's bytes
 abbrev pub greatest_of : ℕ → ℕ
 greatest_of code =
-    if code == 1 then 255 else (if code == 2 then 65535 else (if code == 9 then 16777215 else (if code == 3 then 4294967295 else 18446744073709551615)))
+    if code == type_code.tiny then 255 else (if code == type_code.short then 65535 else (if code == type_code.int24 then 16777215 else (if code == type_code.long then 4294967295 else 18446744073709551615)))
 
 -- a number below zero says the bytes of one from the top
 abbrev pub as_unsigned : ℕ → ℤ → ℕ
@@ -76,7 +77,7 @@ is_binary _ = Bool.false
 
 -- BINARY is stored without the zeros at its end
 abbrev pub whole_bytes : ColumnType → List ℕ → List ℕ
-whole_bytes t bytes = if t.code == 254 then bytes ++ replicate (t.size - length bytes) 0 else bytes
+whole_bytes t bytes = if t.code == type_code.string then bytes ++ replicate (t.size - length bytes) 0 else bytes
 
 -- a text of no known character set is its bytes
 abbrev pub text_in : Option Charset → ColumnType → List ℕ → Data
@@ -101,10 +102,10 @@ members_text (Some charset) members =
 -- ---- FLOAT, DOUBLE and JSON
 
 abbrev pub is_float : ℕ → Bool
-is_float code = code == 4 || code == 5
+is_float code = code == type_code.float || code == type_code.double
 
 abbrev pub is_json : ℕ → Bool
-is_json code = code == 245
+is_json code = code == type_code.json
 
 -- The text of a value of JSON that the bytes say: of a FLOAT or DOUBLE the shortest number that reads back, of a JSON column the document.
 -- NaN and the infinities have none, nor have bytes that are no document, nor has a value of another type.

@@ -6,6 +6,7 @@ use Rattle.binlog_json.specs.Json.{Data, Members, string, object, member, no_mem
 use Rattle.binlog_table.specs.Map.{Map}
 use Rattle.binlog_table.specs.NameOrder.{name_of}
 use Rattle.binlog_types.specs.Charsets.{charset_name, encoding_of}
+use Rattle.binlog_table.specs.TypeCodes as type_code
 use Rattle.binlog_types.specs.ColumnTypes.{is_named}
 use Rattle.binlog_types.specs.declared.column_type.ColumnType.{ColumnType}
 use Rattle.binlog_types.specs.declared.charsets.Charset.{Charset}
@@ -31,31 +32,31 @@ lob_size n = if n == 1 then codes "tiny" else (if n == 3 then codes "medium" els
 
 abbrev pub number_name : ℕ → List ℕ
 number_name code =
-    if code == 1 then codes "tinyint" else (if code == 2 then codes "smallint" else (if code == 9 then codes "mediumint" else
-    (if code == 3 then codes "int" else (if code == 8 then codes "bigint" else (if code == 4 then codes "float" else codes "double")))))
+    if code == type_code.tiny then codes "tinyint" else (if code == type_code.short then codes "smallint" else (if code == type_code.int24 then codes "mediumint" else
+    (if code == type_code.long then codes "int" else (if code == type_code.longlong then codes "bigint" else (if code == type_code.float then codes "float" else codes "double")))))
 
 abbrev pub is_number : ℕ → Bool
-is_number code = code == 1 || (code == 2 || (code == 9 || (code == 3 || (code == 8 || (code == 4 || code == 5)))))
+is_number code = code == type_code.tiny || (code == type_code.short || (code == type_code.int24 || (code == type_code.long || (code == type_code.longlong || (code == type_code.float || code == type_code.double)))))
 
 abbrev pub other_name : ColumnType → List ℕ
 other_name t =
-    if t.code == 10 then codes "date" else (if t.code == 13 then codes "year" else (if t.code == 245 then codes "json" else
-    (if t.code == 255 then codes "geometry" else (if t.code == 16 then codes "bit" ++ size_text t.size else
-    (if t.code == 17 then codes "timestamp" ++ fraction_size t.size else (if t.code == 18 then codes "datetime" ++ fraction_size t.size else
-    (if t.code == 19 then codes "time" ++ fraction_size t.size else codes "unknown")))))))
+    if t.code == type_code.date then codes "date" else (if t.code == type_code.year then codes "year" else (if t.code == type_code.json then codes "json" else
+    (if t.code == type_code.geometry then codes "geometry" else (if t.code == type_code.bit_type then codes "bit" ++ size_text t.size else
+    (if t.code == type_code.timestamp2 then codes "timestamp" ++ fraction_size t.size else (if t.code == type_code.datetime2 then codes "datetime" ++ fraction_size t.size else
+    (if t.code == type_code.time2 then codes "time" ++ fraction_size t.size else codes "unknown")))))))
 
 abbrev pub bytes_name : ColumnType → List ℕ
 bytes_name t =
-    if t.code == 252 then lob_size t.size ++ codes "blob" else
-    (if t.code == 254 then codes "binary" ++ size_text t.size else codes "varbinary" ++ size_text t.size)
+    if t.code == type_code.blob then lob_size t.size ++ codes "blob" else
+    (if t.code == type_code.string then codes "binary" ++ size_text t.size else codes "varbinary" ++ size_text t.size)
 
 abbrev pub text_name : ColumnType → List ℕ
 text_name t =
-    if t.code == 252 then lob_size t.size ++ codes "text" else
-    (if t.code == 254 then codes "char" else (if t.code == 247 then codes "enum" else (if t.code == 248 then codes "set" else codes "varchar")))
+    if t.code == type_code.blob then lob_size t.size ++ codes "text" else
+    (if t.code == type_code.string then codes "char" else (if t.code == type_code.enum then codes "enum" else (if t.code == type_code.set then codes "set" else codes "varchar")))
 
 abbrev pub has_charset : ℕ → Bool
-has_charset code = code == 252 || (code == 254 || (code == 247 || (code == 248 || (code == 15 || code == 253))))
+has_charset code = code == type_code.blob || (code == type_code.string || (code == type_code.enum || (code == type_code.set || (code == type_code.varchar || code == type_code.var_string))))
 
 -- bytes are named by types of their own; an ENUM or a SET stays one
 abbrev pub is_bytes : ColumnType → Bool
@@ -67,7 +68,7 @@ charset_type t = if is_bytes t then bytes_name t else text_name t ++ charset_tex
 abbrev pub type_text : ColumnType → List ℕ
 type_text t =
     if is_number t.code then number_name t.code ++ sign_of t.unsigned else
-    (if t.code == 246 then codes "decimal(" ++ (decimal t.size ++ (44 ∷ (decimal t.scale ++ (41 ∷ sign_of t.unsigned)))) else
+    (if t.code == type_code.newdecimal then codes "decimal(" ++ (decimal t.size ++ (44 ∷ (decimal t.scale ++ (41 ∷ sign_of t.unsigned)))) else
     (if has_charset t.code then charset_type t else other_name t))
 
 abbrev pub type_of_column : Map → ℕ → Data

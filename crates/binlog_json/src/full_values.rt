@@ -15,7 +15,7 @@ use crate::names::{enum_name, is_named, members_of};
 use crate::room::Room;
 use crate::values::{append_base64, append_encoded, append_raw, append_value};
 use binlog_documents::{DocumentWriter, is_plain};
-use binlog_table::{Cell, RowView};
+use binlog_table::{Cell, RowView, type_code};
 use binlog_types::{Charset, ColumnType, Encoding, charset_name, encoding_of};
 use float_text::push_stored;
 use std::alloc::AllocError;
@@ -56,10 +56,10 @@ fn greatest_of(code: u8) -> u64
     ensures value { result ≡ greatest_of code }
 {
     match code {
-        1 => 255,
-        2 => 65_535,
-        9 => 16_777_215,
-        3 => 4_294_967_295,
+        type_code::TINY => 255,
+        type_code::SHORT => 65_535,
+        type_code::INT24 => 16_777_215,
+        type_code::LONG => 4_294_967_295,
         _ => u64::MAX,
     }
 }
@@ -225,14 +225,14 @@ fn append_full_set(
 fn is_float(code: u8) -> bool
     ensures { result ≡ is_float code }
 {
-    code == 4 || code == 5
+    code == type_code::FLOAT || code == type_code::DOUBLE
 }
 
 /// Whether it is the number of JSON.
 pub(crate) fn is_json(code: u8) -> bool
     ensures { result ≡ is_json code }
 {
-    code == 245
+    code == type_code::JSON
 }
 
 /// Appends the number that a FLOAT or a DOUBLE is, or the document that a value of JSON is. False, and nothing is appended, where the
@@ -287,7 +287,7 @@ fn append_whole(
 ) -> Result<(), AllocError>
     ensures { OnOk result (Prints out.old out.new (in_base64 (whole_bytes column_type.now bytes.now))) }
 {
-    if column_type.code != 254 {
+    if column_type.code != type_code::STRING {
         return append_encoded(out, &mut room.quoter, &mut room.text, bytes);
     }
     room.names.clear();

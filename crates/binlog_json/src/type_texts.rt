@@ -4,10 +4,12 @@ ghost use Rattle.std.specs.Option.{option_or};
 ghost use Rattle.binlog_types.specs.ColumnTypes.{is_named};
 ghost use Rattle.binlog_json.specs.TypeTexts.{is_bytes, size_text, fraction_size, sign_of, lob_size, number_name, is_number, other_name, bytes_name, text_name, has_charset, charset_type, type_text};
 ghost use Rattle.binlog_json.specs.Growth.{Gains};
+ghost use Rattle.binlog_table.specs.TypeCodes as type_code;
 
 use crate::append::append_number;
 use crate::full_values::is_binary;
 use crate::lines::Line;
+use binlog_table::type_code;
 use binlog_types::{ColumnType, charset_name, encoding_of};
 use std::alloc::AllocError;
 
@@ -49,12 +51,12 @@ fn number_name(code: u8) -> &'static str
     ensures { result.now ≡ number_name code }
 {
     match code {
-        1 => "tinyint",
-        2 => "smallint",
-        9 => "mediumint",
-        3 => "int",
-        8 => "bigint",
-        4 => "float",
+        type_code::TINY => "tinyint",
+        type_code::SHORT => "smallint",
+        type_code::INT24 => "mediumint",
+        type_code::LONG => "int",
+        type_code::LONGLONG => "bigint",
+        type_code::FLOAT => "float",
         _ => "double",
     }
 }
@@ -62,13 +64,30 @@ fn number_name(code: u8) -> &'static str
 fn is_number(code: u8) -> bool
     ensures { result ≡ is_number code }
 {
-    matches!(code, 1 | 2 | 9 | 3 | 8 | 4 | 5)
+    matches!(
+        code,
+        type_code::TINY
+            | type_code::SHORT
+            | type_code::INT24
+            | type_code::LONG
+            | type_code::LONGLONG
+            | type_code::FLOAT
+            | type_code::DOUBLE
+    )
 }
 
 fn has_charset(code: u8) -> bool
     ensures { result ≡ has_charset code }
 {
-    matches!(code, 252 | 254 | 247 | 248 | 15 | 253)
+    matches!(
+        code,
+        type_code::BLOB
+            | type_code::STRING
+            | type_code::ENUM
+            | type_code::SET
+            | type_code::VARCHAR
+            | type_code::VAR_STRING
+    )
 }
 
 fn append_sized(out: &mut Line, name: &str, size: u16) -> Result<(), AllocError>
@@ -90,14 +109,14 @@ fn append_other(out: &mut Line, column_type: &ColumnType) -> Result<(), AllocErr
 {
     let size = column_type.size;
     match column_type.code {
-        10 => out.push_str("date"),
-        13 => out.push_str("year"),
-        245 => out.push_str("json"),
-        255 => out.push_str("geometry"),
-        16 => append_sized(out, "bit", size),
-        17 => append_fractional(out, "timestamp", size),
-        18 => append_fractional(out, "datetime", size),
-        19 => append_fractional(out, "time", size),
+        type_code::DATE => out.push_str("date"),
+        type_code::YEAR => out.push_str("year"),
+        type_code::JSON => out.push_str("json"),
+        type_code::GEOMETRY => out.push_str("geometry"),
+        type_code::BIT => append_sized(out, "bit", size),
+        type_code::TIMESTAMP2 => append_fractional(out, "timestamp", size),
+        type_code::DATETIME2 => append_fractional(out, "datetime", size),
+        type_code::TIME2 => append_fractional(out, "time", size),
         _ => out.push_str("unknown"),
     }
 }
@@ -113,8 +132,8 @@ fn append_bytes_name(out: &mut Line, column_type: &ColumnType) -> Result<(), All
     ensures { OnOk result (Gains out.old out.new (bytes_name column_type.now)) }
 {
     match column_type.code {
-        252 => append_two(out, lob_size(column_type.size), "blob"),
-        254 => append_sized(out, "binary", column_type.size),
+        type_code::BLOB => append_two(out, lob_size(column_type.size), "blob"),
+        type_code::STRING => append_sized(out, "binary", column_type.size),
         _ => append_sized(out, "varbinary", column_type.size),
     }
 }
@@ -123,10 +142,10 @@ fn append_text_name(out: &mut Line, column_type: &ColumnType) -> Result<(), Allo
     ensures { OnOk result (Gains out.old out.new (text_name column_type.now)) }
 {
     match column_type.code {
-        252 => append_two(out, lob_size(column_type.size), "text"),
-        254 => out.push_str("char"),
-        247 => out.push_str("enum"),
-        248 => out.push_str("set"),
+        type_code::BLOB => append_two(out, lob_size(column_type.size), "text"),
+        type_code::STRING => out.push_str("char"),
+        type_code::ENUM => out.push_str("enum"),
+        type_code::SET => out.push_str("set"),
         _ => out.push_str("varchar"),
     }
 }
@@ -144,7 +163,7 @@ fn is_bytes(column_type: &ColumnType) -> bool
 fn is_named(code: u8) -> bool
     ensures { result ≡ is_named code }
 {
-    matches!(code, 247 | 248)
+    matches!(code, type_code::ENUM | type_code::SET)
 }
 
 fn append_charset_type(out: &mut Line, column_type: &ColumnType) -> Result<(), AllocError>
@@ -161,7 +180,7 @@ fn append_charset_type(out: &mut Line, column_type: &ColumnType) -> Result<(), A
 }
 
 fn append_decimal_type(out: &mut Line, column_type: &ColumnType) -> Result<(), AllocError>
-    requires { column_type.now.code ≡ 246 }
+    requires { column_type.now.code ≡ type_code.newdecimal }
     ensures { OnOk result (Gains out.old out.new (type_text column_type.now)) }
 {
     out.push_str("decimal(")?;
@@ -179,7 +198,7 @@ pub(crate) fn append_type(out: &mut Line, column_type: &ColumnType) -> Result<()
     if is_number(code) {
         return append_two(out, number_name(code), sign_of(column_type.unsigned));
     }
-    if code == 246 {
+    if code == type_code::NEWDECIMAL {
         return append_decimal_type(out, column_type);
     }
     if has_charset(code) {

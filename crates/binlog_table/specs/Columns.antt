@@ -7,19 +7,20 @@ use Rattle.binlog_table.specs.declared.column.Column.{Column}
 use Rattle.binlog_table.specs.declared.column.Layout.{Layout}
 use Rattle.binlog_table.specs.declared.column.Layout.TheVariants.{Integer, Year, Date, Text, Raw, Float, Bits, Timestamp, DateTime, Time, Decimal, Enum, Set}
 use Rattle.binlog_table.specs.MapResult.{◌>>=◌}
+use Rattle.binlog_table.specs.TypeCodes.{tiny, short, long, float, double, longlong, int24, date, year, varchar, bit_type, timestamp2, datetime2, time2, json, newdecimal, enum, set, blob, var_string, string, geometry}
 
 -- ---- the layout of a type, by its metadata
 
 -- TINY, SHORT, INT24, LONG, LONGLONG, YEAR and DATE have no metadata
 abbrev pub plain_layout : ℕ → Option Layout
 plain_layout t =
-    if t == 1 then Some (Integer 1) else (if t == 2 then Some (Integer 2) else (if t == 9 then Some (Integer 3) else
-    (if t == 3 then Some (Integer 4) else (if t == 8 then Some (Integer 8) else
-    (if t == 13 then Some Year else (if t == 10 then Some Date else None))))))
+    if t == tiny then Some (Integer 1) else (if t == short then Some (Integer 2) else (if t == int24 then Some (Integer 3) else
+    (if t == long then Some (Integer 4) else (if t == longlong then Some (Integer 8) else
+    (if t == year then Some Year else (if t == date then Some Date else None))))))
 
 -- FLOAT, DOUBLE, TIMESTAMP2, DATETIME2, TIME2, BLOB, JSON and GEOMETRY have one byte
 abbrev pub has_byte : ℕ → Bool
-has_byte t = t == 4 || (t == 5 || (t == 17 || (t == 18 || (t == 19 || (t == 252 || (t == 245 || t == 255))))))
+has_byte t = t == float || (t == double || (t == timestamp2 || (t == datetime2 || (t == time2 || (t == blob || (t == json || t == geometry))))))
 
 abbrev pub some_if : Bool → Layout → Option Layout
 some_if test layout = if test then Some layout else None
@@ -29,14 +30,14 @@ is_length_width byte = nat_le 1 byte && nat_le byte 4
 
 abbrev pub byte_layout : ℕ → ℕ → Option Layout
 byte_layout t byte =
-    if t == 4 then Some (Float 4) else (if t == 5 then Some (Float 8) else
-    (if t == 17 then some_if (nat_le byte 6) (Timestamp byte) else (if t == 18 then some_if (nat_le byte 6) (DateTime byte) else
-    (if t == 19 then some_if (nat_le byte 6) (Time byte) else
-    (if t == 252 then some_if (is_length_width byte) (Text byte) else some_if (is_length_width byte) (Raw byte))))))
+    if t == float then Some (Float 4) else (if t == double then Some (Float 8) else
+    (if t == timestamp2 then some_if (nat_le byte 6) (Timestamp byte) else (if t == datetime2 then some_if (nat_le byte 6) (DateTime byte) else
+    (if t == time2 then some_if (nat_le byte 6) (Time byte) else
+    (if t == blob then some_if (is_length_width byte) (Text byte) else some_if (is_length_width byte) (Raw byte))))))
 
 -- VARCHAR, VAR_STRING, BIT, NEWDECIMAL and STRING have two
 abbrev pub has_pair : ℕ → Bool
-has_pair t = t == 15 || (t == 253 || (t == 16 || (t == 246 || t == 254)))
+has_pair t = t == varchar || (t == var_string || (t == bit_type || (t == newdecimal || t == string)))
 
 -- a length up to the greatest one takes one byte up to 255, else two
 abbrev pub prefix_len : ℕ → ℕ
@@ -65,15 +66,15 @@ or_bad (Some x) = Ok x
 -- CHAR and BINARY, ENUM, SET; other real types aren't read
 abbrev pub string_layout : ℕ → ℕ → Result Layout MapFault
 string_layout real len =
-    if real == 254 then Ok (Text (prefix_len len)) else
-    (if real == 247 then or_bad (some_if (len == 1 || len == 2) (Enum len)) else
-    (if real == 248 then or_bad (some_if (len == 1 || (len == 2 || (len == 3 || (len == 4 || len == 8)))) (Set len)) else
+    if real == string then Ok (Text (prefix_len len)) else
+    (if real == enum then or_bad (some_if (len == 1 || len == 2) (Enum len)) else
+    (if real == set then or_bad (some_if (len == 1 || (len == 2 || (len == 3 || (len == 4 || len == 8)))) (Set len)) else
     Err (TypeOutOfProfile real)))
 
 abbrev pub pair_layout : ℕ → ℕ → ℕ → Result Layout MapFault
 pair_layout t first second =
-    if t == 16 then or_bad (bits_layout first second) else (if t == 246 then or_bad (decimal_layout first second) else
-    (if t == 254 then string_layout (real_type first) (string_len first second) else Ok (Text (prefix_len (first + 256 * second)))))
+    if t == bit_type then or_bad (bits_layout first second) else (if t == newdecimal then or_bad (decimal_layout first second) else
+    (if t == string then string_layout (real_type first) (string_len first second) else Ok (Text (prefix_len (first + 256 * second)))))
 
 abbrev pub byte_at : List ℕ → Result ℕ MapFault
 byte_at [] = Err BadMap
@@ -102,7 +103,7 @@ layout_at t metadata = plain_or (plain_layout t) (metadata_layout t metadata)
 -- The types that have a bit of signedness: TINY, SHORT, LONG, FLOAT, DOUBLE, LONGLONG, INT24 and NEWDECIMAL.
 -- YEAR isn't among them.
 abbrev pub is_numeric : ℕ → Bool
-is_numeric t = t == 1 || (t == 2 || (t == 3 || (t == 4 || (t == 5 || (t == 8 || (t == 9 || t == 246))))))
+is_numeric t = t == tiny || (t == short || (t == long || (t == float || (t == double || (t == longlong || (t == int24 || t == newdecimal))))))
 
 -- bit j, the highest of each byte first
 abbrev pub high_bit : List ℕ → ℕ → Bool

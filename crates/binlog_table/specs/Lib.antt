@@ -11,6 +11,7 @@ pub mod RowsBody
 pub mod Rows
 pub mod Side
 pub mod MapResult
+pub mod TypeCodes
 pub mod Columns
 pub mod Fields
 pub mod FieldsShown

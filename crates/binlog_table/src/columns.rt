@@ -10,6 +10,7 @@ use crate::column::Column;
 use crate::fault::{MapFault, given};
 use crate::layout::layout_at;
 use crate::sections::Sections;
+use crate::type_code::{DOUBLE, FLOAT, INT24, LONG, LONGLONG, NEWDECIMAL, SHORT, TINY};
 use binlog_profile::Profile;
 use std::alloc::Global;
 
@@ -17,7 +18,10 @@ use std::alloc::Global;
 fn is_numeric(code: u8) -> bool
     ensures { result ≡ is_numeric code }
 {
-    matches!(code, 1 | 2 | 3 | 4 | 5 | 8 | 9 | 246)
+    matches!(
+        code,
+        TINY | SHORT | LONG | FLOAT | DOUBLE | LONGLONG | INT24 | NEWDECIMAL
+    )
 }
 
 /// A bit of a bitmap, the highest of each byte first.

@@ -5,19 +5,23 @@ ghost use Rattle.binlog_table.specs.Columns.{plain_layout, has_byte, byte_layout
 
 use crate::column::{ByteCount, DecimalSize, EnumSize, Layout, Precision};
 use crate::fault::{MapFault, given};
+use crate::type_code::{
+    BIT, BLOB, DATE, DATETIME2, DOUBLE, ENUM, FLOAT, GEOMETRY, INT24, JSON, LONG, LONGLONG,
+    NEWDECIMAL, SET, SHORT, STRING, TIME2, TIMESTAMP2, TINY, VAR_STRING, VARCHAR, YEAR,
+};
 
 /// The layout of a type without metadata.
 fn plain_layout(code: u8) -> Option<Layout>
     ensures { result ≡ plain_layout code }
 {
     match code {
-        1 => Some(Layout::Integer(ByteCount { bytes: 1 })),
-        2 => Some(Layout::Integer(ByteCount { bytes: 2 })),
-        9 => Some(Layout::Integer(ByteCount { bytes: 3 })),
-        3 => Some(Layout::Integer(ByteCount { bytes: 4 })),
-        8 => Some(Layout::Integer(ByteCount { bytes: 8 })),
-        13 => Some(Layout::Year),
-        10 => Some(Layout::Date),
+        TINY => Some(Layout::Integer(ByteCount { bytes: 1 })),
+        SHORT => Some(Layout::Integer(ByteCount { bytes: 2 })),
+        INT24 => Some(Layout::Integer(ByteCount { bytes: 3 })),
+        LONG => Some(Layout::Integer(ByteCount { bytes: 4 })),
+        LONGLONG => Some(Layout::Integer(ByteCount { bytes: 8 })),
+        YEAR => Some(Layout::Year),
+        DATE => Some(Layout::Date),
         _ => None,
     }
 }
@@ -25,7 +29,10 @@ fn plain_layout(code: u8) -> Option<Layout>
 fn has_byte(code: u8) -> bool
     ensures { result ≡ has_byte code }
 {
-    matches!(code, 4 | 5 | 17 | 18 | 19 | 252 | 245 | 255)
+    matches!(
+        code,
+        FLOAT | DOUBLE | TIMESTAMP2 | DATETIME2 | TIME2 | BLOB | JSON | GEOMETRY
+    )
 }
 
 /// The layout of a type with one byte of metadata, where that is in range.
@@ -33,14 +40,14 @@ fn byte_layout(code: u8, byte: u8) -> Option<Layout>
     ensures { result ≡ byte_layout code byte }
 {
     match code {
-        4 => Some(Layout::Float(ByteCount { bytes: 4 })),
-        5 => Some(Layout::Float(ByteCount { bytes: 8 })),
-        17 if byte <= 6 => Some(Layout::Timestamp(Precision { digits: byte })),
-        18 if byte <= 6 => Some(Layout::DateTime(Precision { digits: byte })),
-        19 if byte <= 6 => Some(Layout::Time(Precision { digits: byte })),
-        17 | 18 | 19 => None,
+        FLOAT => Some(Layout::Float(ByteCount { bytes: 4 })),
+        DOUBLE => Some(Layout::Float(ByteCount { bytes: 8 })),
+        TIMESTAMP2 if byte <= 6 => Some(Layout::Timestamp(Precision { digits: byte })),
+        DATETIME2 if byte <= 6 => Some(Layout::DateTime(Precision { digits: byte })),
+        TIME2 if byte <= 6 => Some(Layout::Time(Precision { digits: byte })),
+        TIMESTAMP2 | DATETIME2 | TIME2 => None,
         _ if byte < 1 || byte > 4 => None,
-        252 => Some(Layout::Text(ByteCount { bytes: byte })),
+        BLOB => Some(Layout::Text(ByteCount { bytes: byte })),
         _ => Some(Layout::Raw(ByteCount { bytes: byte })),
     }
 }
@@ -48,7 +55,7 @@ fn byte_layout(code: u8, byte: u8) -> Option<Layout>
 fn has_pair(code: u8) -> bool
     ensures { result ≡ has_pair code }
 {
-    matches!(code, 15 | 253 | 16 | 246 | 254)
+    matches!(code, VARCHAR | VAR_STRING | BIT | NEWDECIMAL | STRING)
 }
 
 /// The bytes that a length up to a greatest one takes.
@@ -91,13 +98,13 @@ fn string_layout(real: u8, len: u16) -> Result<Layout, MapFault>
     ensures { GivesExactly (λ l. l) result (string_layout real len) }
 {
     match real {
-        254 => Ok(Layout::Text(prefix(len))),
-        247 => match len {
+        STRING => Ok(Layout::Text(prefix(len))),
+        ENUM => match len {
             1 => Ok(Layout::Enum(EnumSize { bytes: 1 })),
             2 => Ok(Layout::Enum(EnumSize { bytes: 2 })),
             _ => Err(MapFault::BadMap),
         },
-        248 => match len {
+        SET => match len {
             1 | 2 | 3 | 4 | 8 => Ok(Layout::Set(ByteCount { bytes: len as u8 })),
             _ => Err(MapFault::BadMap),
         },
@@ -110,15 +117,15 @@ fn pair_layout(code: u8, first: u8, second: u8) -> Result<Layout, MapFault>
     ensures { GivesExactly (λ l. l) result (pair_layout code first second) }
 {
     match code {
-        16 => match bits_layout(first, second) {
+        BIT => match bits_layout(first, second) {
             Some(layout) => Ok(layout),
             None => Err(MapFault::BadMap),
         },
-        246 => match decimal_layout(first, second) {
+        NEWDECIMAL => match decimal_layout(first, second) {
             Some(layout) => Ok(layout),
             None => Err(MapFault::BadMap),
         },
-        254 => {
+        STRING => {
             if first & 48 == 48 {
                 string_layout(first, u16::from(second))
             } else {

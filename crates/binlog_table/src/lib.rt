@@ -27,6 +27,7 @@ mod sections;
 mod steps;
 mod table_map;
 mod time;
+pub mod type_code;
 mod value;
 mod value_names;
 

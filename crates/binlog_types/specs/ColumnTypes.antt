@@ -7,6 +7,7 @@ use Rattle.binlog_table.specs.Packed.{packed_at}
 use Rattle.binlog_table.specs.Columns.{has_byte, has_pair, is_numeric, high_bit, real_type, string_len}
 use Rattle.binlog_table.specs.Fields.{Fields}
 use Rattle.binlog_table.specs.Map.{Sections}
+use Rattle.binlog_table.specs.TypeCodes.{year, varchar, bit_type, newdecimal, enum, set, blob, var_string, string}
 use Rattle.binlog_types.specs.Charsets.{charset_of}
 use Rattle.binlog_types.specs.declared.column_type.ColumnType.{ColumnType}
 
@@ -54,18 +55,18 @@ metadata_len t = if has_byte t then 1 else (if has_pair t then 2 else 0)
 
 -- Real servers give a bit of signedness to the numeric types and to YEAR.
 abbrev pub has_sign : ℕ → Bool
-has_sign t = is_numeric t || t == 13
+has_sign t = is_numeric t || t == year
 
 -- VARCHAR, VAR_STRING, BLOB and STRING have a character set, and ENUM and SET have theirs
 abbrev pub is_text : ℕ → Bool
-is_text real = real == 15 || (real == 253 || (real == 252 || real == 254))
+is_text real = real == varchar || (real == var_string || (real == blob || real == string))
 
 abbrev pub is_named : ℕ → Bool
-is_named real = real == 247 || real == 248
+is_named real = real == enum || real == set
 
 -- the type, which for CHAR, BINARY, ENUM and SET stands in the metadata
 abbrev pub code_of : ℕ → List ℕ → ℕ
-code_of t metadata = if t == 254 then real_type (slice_index metadata 0) else t
+code_of t metadata = if t == string then real_type (slice_index metadata 0) else t
 
 -- The greatest length of CHAR, BINARY and VARCHAR in bytes, the bytes of a value of ENUM and SET, the bits of BIT; of other types the
 -- first byte of metadata: the digits of DECIMAL, those of a fraction of a second, the bytes of the length of a BLOB.
@@ -73,14 +74,14 @@ abbrev pub size_of : ℕ → List ℕ → ℕ
 size_of t metadata =
     let first = slice_index metadata 0 in
     let second = slice_index metadata 1 in
-    if t == 254 then string_len first second else
-    (if t == 15 || t == 253 then first + 256 * second else
-    (if t == 16 then first + 8 * second else
+    if t == string then string_len first second else
+    (if t == varchar || t == var_string then first + 256 * second else
+    (if t == bit_type then first + 8 * second else
     (if has_byte t || has_pair t then first else 0)))
 
 -- the digits of a DECIMAL behind the point
 abbrev pub scale_of : ℕ → List ℕ → ℕ
-scale_of t metadata = if t == 246 then slice_index metadata 1 else 0
+scale_of t metadata = if t == newdecimal then slice_index metadata 1 else 0
 
 abbrev pub column_type : ℕ → List ℕ → Bool → Option ℕ → ColumnType
 column_type t metadata unsigned collation = record {

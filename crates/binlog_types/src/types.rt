@@ -8,37 +8,47 @@ use crate::charsets::charset_of;
 use crate::collations::collations_of;
 use crate::column_type::ColumnType;
 use binlog_table::TableMap;
+use binlog_table::type_code::{
+    BIT, BLOB, DATETIME2, DOUBLE, ENUM, FLOAT, GEOMETRY, INT24, JSON, LONG, LONGLONG, NEWDECIMAL,
+    SET, SHORT, STRING, TIME2, TIMESTAMP2, TINY, VAR_STRING, VARCHAR, YEAR,
+};
 use std::alloc::{AllocError, Global};
 
 fn has_byte(code: u8) -> bool
     ensures { result ≡ has_byte code }
 {
-    matches!(code, 4 | 5 | 17 | 18 | 19 | 252 | 245 | 255)
+    matches!(
+        code,
+        FLOAT | DOUBLE | TIMESTAMP2 | DATETIME2 | TIME2 | BLOB | JSON | GEOMETRY
+    )
 }
 
 fn has_pair(code: u8) -> bool
     ensures { result ≡ has_pair code }
 {
-    matches!(code, 15 | 253 | 16 | 246 | 254)
+    matches!(code, VARCHAR | VAR_STRING | BIT | NEWDECIMAL | STRING)
 }
 
 /// Whether a type has a bit of signedness on real servers. YEAR has one.
 fn has_sign(code: u8) -> bool
     ensures { result ≡ has_sign code }
 {
-    matches!(code, 1 | 2 | 3 | 4 | 5 | 8 | 9 | 246 | 13)
+    matches!(
+        code,
+        TINY | SHORT | LONG | FLOAT | DOUBLE | LONGLONG | INT24 | NEWDECIMAL | YEAR
+    )
 }
 
 fn is_text(code: u8) -> bool
     ensures { result ≡ is_text code }
 {
-    matches!(code, 15 | 253 | 252 | 254)
+    matches!(code, VARCHAR | VAR_STRING | BLOB | STRING)
 }
 
 fn is_named(code: u8) -> bool
     ensures { result ≡ is_named code }
 {
-    matches!(code, 247 | 248)
+    matches!(code, ENUM | SET)
 }
 
 /// How many bytes of metadata a type has.
@@ -67,7 +77,7 @@ fn byte_at(bytes: &[u8], place: usize) -> u8
 fn code_of(code: u8, metadata: &[u8]) -> u8
     ensures { result ≡ code_of code metadata.now }
 {
-    if code != 254 {
+    if code != STRING {
         return code;
     }
     let first = byte_at(metadata, 0);
@@ -80,15 +90,15 @@ fn size_of(code: u8, metadata: &[u8]) -> u16
     let first = byte_at(metadata, 0);
     let second = byte_at(metadata, 1);
     match code {
-        254 => {
+        STRING => {
             if first & 48 == 48 {
                 u16::from(second)
             } else {
                 u16::from(second) | u16::from((first & 48) ^ 48) * 16
             }
         }
-        15 | 253 => u16::from(first) + 256 * u16::from(second),
-        16 => u16::from(first) + 8 * u16::from(second),
+        VARCHAR | VAR_STRING => u16::from(first) + 256 * u16::from(second),
+        BIT => u16::from(first) + 8 * u16::from(second),
         _ => {
             if metadata_len(code) == 0 {
                 0
@@ -102,7 +112,11 @@ fn size_of(code: u8, metadata: &[u8]) -> u16
 fn scale_of(code: u8, metadata: &[u8]) -> u8
     ensures { result ≡ scale_of code metadata.now }
 {
-    if code == 246 { byte_at(metadata, 1) } else { 0 }
+    if code == NEWDECIMAL {
+        byte_at(metadata, 1)
+    } else {
+        0
+    }
 }
 
 /// A bit of a bitmap, the highest of each byte first.
