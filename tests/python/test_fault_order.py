@@ -63,20 +63,24 @@ def faults_in(text: str, where: Module, variants: str, seen: set[str] | None = N
     return list(dict.fromkeys(found))
 
 
-def listed(name: str, where: Module) -> list[tuple[Module, str]]:
-    """The faults in the list of a definition, in its order; a list in a list is taken apart, and so is one of another name."""
-    right = where.right(name)
-    inner = re.search(r"first_of \((.*)∷ \[\]\)", right, re.DOTALL)
-    if not inner:
-        called = right.split()[0]
-        is_list = called in where.equations and "first_of (" in where.right(called)
-        return listed(called, where) if is_list else [(where, name)]
-    found = []
-    for call in inner[1].split("∷"):
-        called = call.split()[0]
-        home = where if called in where.equations else module(*where.used[called].split("."))
-        found += listed(called, home)
-    return found
+def listed(text: str, where: Module) -> list[tuple[Module, str]]:
+    """What stands in the list of faults that a text is, in its order; a list in a list is taken apart, and so is one that a word is."""
+    text = text.strip()
+    if inner := re.fullmatch(r"first_of \((.*)\)", text, re.DOTALL):
+        return listed(inner[1], where)
+    if text.endswith("∷ []"):
+        return [found for part in text.split("∷")[:-1] for found in listed(part, where)]
+    home, right = meaning(text, where)
+    is_list = right.strip().startswith("first_of (") or right.endswith("∷ []") or len(text.split()) == 1
+    return listed(right, home) if right and is_list else [(where, text)]
+
+
+def meaning(text: str, where: Module) -> tuple[Module, str]:
+    """The right side of the definition that a text begins with, and its file; an empty text where none has its name."""
+    called = text.split()[0]
+    of, _, path = where.used.get(called, "").partition(".")
+    home = where if called in where.equations else module(of, path) if of else where
+    return home, home.right(called) if called in home.equations else ""
 
 
 def framing() -> list[str]:
@@ -89,9 +93,10 @@ def framing() -> list[str]:
     return names
 
 
-def marks(where: Module, name: str) -> list[str]:
-    """What a definition says in letters and numbers, and its row has to say too: texts, and the least length of a body."""
-    return re.findall(r'codes "(.*?)"', where.right(name)) + re.findall(r"length event\.body\) (\d+)", where.right(name))
+def marks(where: Module, text: str) -> list[str]:
+    """What a text says in letters and numbers, and its row has to say too: texts, and the least length of a body."""
+    says = text + meaning(text, where)[1]
+    return re.findall(r'codes "(.*?)"', says) + re.findall(r"length event\.body\) (\d+)", says)
 
 
 def row_names(row: str) -> list[str]:
@@ -127,12 +132,12 @@ class FaultOrder(unittest.TestCase):
     def test_faults_of_a_log(self) -> None:
         """The table has a row for each fault of `any_fault`, in its order, behind one for the framing."""
         found = listed("any_fault", module("binlog_feed", "AllFaults"))
-        defined = [framing(), *(faults_in(name, where, "declared.what.What.TheVariants") for where, name in found)]
+        defined = [framing(), *(faults_in(text, where, "declared.what.What.TheVariants") for where, text in found)]
         rows = table_rows()
         self.assertEqual([names for names, _ in rows], defined)
-        for (_, says), (where, name) in zip(rows[1:], found):
-            for mark in marks(where, name):
-                self.assertIn(mark, says, name)
+        for (_, says), (where, text) in zip(rows[1:], found):
+            for mark in marks(where, text):
+                self.assertIn(mark, says, text)
         # Of the two that share a name, only the first has a least length.
         self.assertEqual([says for names, says in rows if names == ["BadRows"] and " 10 " in says], [rows[-3][1]])
 

@@ -4,8 +4,9 @@ use Rattle.std.specs.Prelude.{◌≢◌, slice_get, slice_index}
 use Rattle.std.proofs.lemmas.Option.{same_Some}
 use Rattle.binlog_frame.specs.Logs.{Contents, content}
 use Rattle.binlog_frame.specs.Splitting.{EndsInFront}
-use Rattle.binlog_feed.specs.Growing.{IsShort, end_from_mark, last_file}
+use Rattle.binlog_feed.specs.Growing.{IsUnfound, end_from_mark, last_file}
 use Rattle.binlog_feed.specs.Searching.{IsFirstNamed}
+use Rattle.binlog_feed.specs.declared.fault.GoOnFault.TheVariants.{FileShorter}
 use Rattle.binlog_units.specs.declared.place.Place.{Place}
 use Rattle.binlog_samples.proofs.Paths.{first_of}
 
@@ -39,12 +40,12 @@ only_first names name file other found again = both_equal file other (λ lt. aga
 pub not_short : (names : List (List ℕ)) (contents : Contents) (later_names : List (List ℕ)) (later_contents : Contents) (mark : Place) (name : List ℕ) (file : ℕ)
     → slice_get names (last_file names) ≡ Some name → IsFirstNamed later_names name file
     → end_from_mark names contents mark ≤ length (content later_contents file) → (EndsInFront (content later_contents file) → ⊥)
-    → IsShort names contents later_names later_contents mark → ⊥
+    → IsUnfound names contents later_names later_contents mark FileShorter → ⊥
 not_short names contents later_names later_contents mark name file named found long some short =
-    let same = same_Some short.name name (sym short.named ∙ named) in
-    let again = subst (λ (n : List ℕ). IsFirstNamed later_names n short.file) same short.found in
-    let there = only_first later_names name short.file file again found in
-    elim short.lacks [
+    let same = same_Some short.1.name name (sym short.1.named ∙ named) in
+    let again = subst (λ (n : List ℕ). IsFirstNamed later_names n short.0) same short.1.found in
+    let there = only_first later_names name short.0 file again found in
+    elim short.2 [
       | inl less ↦
           let below = subst (λ (n : ℕ). length (content later_contents n) < end_from_mark names contents mark) there less in
           omega (arith, below, long)

@@ -9,7 +9,7 @@ use Rattle.binlog_feed.specs.Feeds.{feed, end_from}
 use Rattle.binlog_units.specs.Parsing.{LogFile}
 use Rattle.binlog_feed.specs.Tokens.{Judgement, change_at, judge, judge_change, token_of, is_after, rest}
 use Rattle.binlog_feed.specs.Tokens.Judgement.{NoFile, Fits, NoChange, NoTransaction}
-use Rattle.binlog_units.specs.UnitSummaries.{all_units}
+use Rattle.binlog_units.specs.Places.{units_of_files}
 use Rattle.binlog_units.specs.declared.fault.LogFault.{LogFault}
 use Rattle.binlog_units.specs.declared.unit.Unit.{Unit as UnitSummary}
 use Rattle.binlog_units.specs.declared.unit.UnitEnding.TheVariants.{Xid}
@@ -83,10 +83,10 @@ abbrev pub OneApart : Type 0
 OneApart =
     (FilesAreApart → (file : LogFile) (passes : RowChange → Bool)
     → record { changes = feed (file ∷ []) passes; end = end_from 3 (file ∷ []) } ≡ changes_read_apart passes 3 (file ∷ []))
-    × (UnitsAreApart → (file : LogFile) → all_units (file ∷ []) ≡ units_read_apart 0 (file ∷ []))
+    × (UnitsAreApart → (file : LogFile) → units_of_files 0 (file ∷ []) ≡ units_read_apart 0 (file ∷ []))
 
 abbrev pub TwoApart : Type 0
 TwoApart =
     (FilesAreApart → (file other : LogFile) (passes : RowChange → Bool)
     → record { changes = feed (file ∷ other ∷ []) passes; end = end_from 3 (file ∷ other ∷ []) } ≡ changes_read_apart passes 3 (file ∷ other ∷ []))
-    × (UnitsAreApart → (file other : LogFile) → all_units (file ∷ other ∷ []) ≡ units_read_apart 0 (file ∷ other ∷ []))
+    × (UnitsAreApart → (file other : LogFile) → units_of_files 0 (file ∷ other ∷ []) ≡ units_read_apart 0 (file ∷ other ∷ []))

@@ -4,7 +4,7 @@ use Rattle.binlog_frame.specs.Frames.{beginning, passed}
 use Rattle.binlog_frame.specs.Logs.{Contents}
 use Rattle.binlog_feed.specs.FeedView.{FeedView}
 use Rattle.binlog_feed.specs.Following.{IsOfReading, RefusesGoOn}
-use Rattle.binlog_feed.specs.Growing.{IsFaultOfGrown, IsShort, IsUnfound, StandsBehind}
+use Rattle.binlog_feed.specs.Growing.{IsUnfound, StandsBehind}
 use Rattle.binlog_units.specs.Parsing.{LogFile}
 use Rattle.binlog_units.specs.Places.{begin_file}
 use Rattle.binlog_units.specs.declared.fault.FeedFault.TheVariants as reading
@@ -46,14 +46,15 @@ behind position = record { file = 0; frames = passed (beginning 0) position 0; s
 -- ---- shorter files
 
 abbrev pub Short : List LogFile → List LogFile → Place → Type 0
-Short files later mark = IsShort (names_in files) (held_by files) (names_in later) (held_by later) mark
+Short files later mark = IsUnfound (names_in files) (held_by files) (names_in later) (held_by later) mark going.FileShorter
 
--- the file with the name of the last one ends before the end of that one's last whole unit, be the mark in this one, before it or behind that unit
+-- The file with the name of the last one ends before the end of that one's last whole unit, be the mark in this one, before it or behind that
+-- unit, and whatever the file holds.
 abbrev pub ShorterFiles : Type 0
 ShorterFiles =
     Short one_followed (cut_to 370 first_file ∷ []) (begin_file 0) × Short one_followed (cut_to 370 first_file ∷ []) (behind 371)
     × Short two_followed (first_file ∷ cut_to 370 (second_file []) ∷ []) (begin_file 1) × Short two_followed (cut_to 370 (second_file []) ∷ []) (begin_file 0)
-    × Short two_followed (cut_to 370 (second_file []) ∷ []) (behind 153)
+    × Short two_followed (cut_to 370 (second_file []) ∷ []) (behind 153) × Short one_followed (cut_to 370 (with_other_byte first_file) ∷ []) (begin_file 0)
 
 -- not where it reaches as far, where another file is shorter, or where no file has the name
 abbrev pub FilesNotShorter : Type 0
@@ -65,7 +66,7 @@ FilesNotShorter =
 -- ---- faults in place of the first event
 
 abbrev pub Faulty : List LogFile → List LogFile → LogFault → Type 0
-Faulty files later = IsFaultOfGrown (names_in files) (held_by files) (names_in later) (held_by later) (begin_file 0)
+Faulty files later fault = IsUnfound (names_in files) (held_by files) (names_in later) (held_by later) (begin_file 0) (going.Later (reading.Log fault))
 
 abbrev pub magic_of : ℕ → LogFault
 magic_of file = record { file = file; position = 0; what = BadMagic }

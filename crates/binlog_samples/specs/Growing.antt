@@ -3,7 +3,7 @@ use Rattle.std.specs.Prelude.{ℕ, List, [], ◌∷◌, ◌++◌, drop, take, No
 use Rattle.binlog_frame.specs.Cutting.{magic}
 use Rattle.binlog_frame.specs.Splitting.{EndsInFront, TellsIfEvents}
 use Rattle.binlog_frame.specs.declared.fault.FrameFault.TheVariants as frame_faults
-use Rattle.binlog_feed.specs.Growing.{IsFaultInFront, IsLastByName, LacksGrown}
+use Rattle.binlog_feed.specs.Growing.{IsFaultInFront, IsLastByName, LacksPlace}
 use Rattle.binlog_units.specs.declared.fault.FeedFault.TheVariants.{Log}
 use Rattle.binlog_units.specs.declared.fault.LogFault.{LogFault}
 use Rattle.binlog_units.specs.declared.what.What.{What}
@@ -52,10 +52,10 @@ TellsUnfound =
     × (TellsIfEvents first_log (Ok None) → ⊥) × (TellsIfEvents without_format (Ok None) → ⊥) × (TellsIfEvents without_format (Err frame_faults.BadFormat) → ⊥)
     × (TellsIfEvents first_log (Err frame_faults.NoFormat) → ⊥)
 
--- A file that is shorter than the position has no place, whatever it holds, and no fault. One that isn't has none where it ends before its
--- first event is whole, and its fault is told.
+-- A file has no place where it ends before its first event is whole, and its fault is told. Nothing is read of it for the place at its
+-- beginning.
 abbrev pub Lacks : Type 0
 Lacks =
-    LacksGrown without_magic 372 (Ok None) × LacksGrown (take 100 first_log) 100 (Ok None) × LacksGrown without_magic 371 (Err (Log (fault_in 0 BadMagic)))
-    × (LacksGrown without_magic 371 (Ok None) → ⊥) × (LacksGrown first_log 371 (Ok None) → ⊥) × (LacksGrown without_magic 372 (Err (Log (fault_in 0 BadMagic))) → ⊥)
-    × (LacksGrown without_magic 371 (Err (Log (fault_in 4 BadMagic))) → ⊥)
+    LacksPlace (take 100 first_log) 100 (Ok None) × LacksPlace without_magic 371 (Err (Log (fault_in 0 BadMagic)))
+    × (LacksPlace without_magic 371 (Ok None) → ⊥) × (LacksPlace first_log 371 (Ok None) → ⊥) × (LacksPlace without_magic 371 (Err (Log (fault_in 4 BadMagic))) → ⊥)
+    × (LacksPlace [] 0 (Ok None) → ⊥) × (LacksPlace without_magic 0 (Err (Log (fault_in 0 BadMagic))) → ⊥)

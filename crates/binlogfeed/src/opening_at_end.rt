@@ -4,8 +4,10 @@ ghost use Rattle.binlog_feed.specs.FeedView.{IsSound};
 ghost use Rattle.binlogfeed.specs.Looks.{told_at_end};
 ghost use Rattle.binlogfeed.specs.Openings.{BeginsToFollow, FailsToOpen, NamesOpened, RefusesFileEnd, RefusesToFollow, TellsOpening};
 ghost use Rattle.binlog_feed.specs.declared.start.Start.TheVariants.{After};
-ghost use Rattle.binlog_feed.specs.FileEnds.{FitsEnd};
+ghost use Rattle.binlog_feed.specs.AtEnd.{judge_end};
 ghost use Rattle.binlog_feed.specs.OpenedFeeds.{GoesOnBehindFile, IfHonest};
+ghost use Rattle.binlog_feed.specs.Tokens.Judgement.{Fits};
+ghost use Rattle.binlog_units.specs.FeedSources.{files_in};
 ghost use Rattle.binlog_frame.specs.Sources.{Keeps};
 ghost use Rattle.binlog_feed.specs.FeedGoingOn.{TakesSource};
 
@@ -37,7 +39,7 @@ fn open_end<L: Logs>(
     filter: Filter,
     token: Token,
 ) -> Result<Feed<L>, (L, OpenFeedFault)>
-    ensures fits { IfOk result (IfHonest (λ _. FitsEnd L.Logs logs token)) }
+    ensures fits { IfOk result (IfHonest (λ _. judge_end (files_in L.Logs logs) token ≡ Fits)) }
     ensures goes_on { IfOk result (IfHonest (GoesOnBehindFile L.Logs logs filter token)) }
     ensures sound { IfOk result (IfHonest IsSound) }
     ensures source { IfOk result (TakesSource L.Logs logs) }

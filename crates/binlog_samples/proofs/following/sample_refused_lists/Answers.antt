@@ -4,7 +4,8 @@ use Rattle.binlog_frame.specs.Closing.{closed}
 use Rattle.binlog_frame.specs.Logs.{Contents, content}
 use Rattle.binlog_frame.specs.Splitting.{EndsInFront}
 use Rattle.binlog_feed.specs.Continues.{Continues}
-use Rattle.binlog_feed.specs.Growing.{IsShort}
+use Rattle.binlog_feed.specs.Growing.{IsUnfound}
+use Rattle.binlog_feed.specs.declared.fault.GoOnFault.TheVariants.{FileShorter}
 use Rattle.binlog_units.specs.Parsing.{LogFile}
 use Rattle.binlog_units.specs.Places.{begin_file}
 use Rattle.binlogfeed.specs.Looks.{files_at}
@@ -163,11 +164,11 @@ is_zero (suc n) none = absurd (none (omega arith))
 
 -- a list whose first file has the name, as many bytes, and something in place of its first event
 not_short : (names : List (List ℕ)) (contents : Contents) → slice_get names 0 ≡ Some first_name → 371 ≤ length (content contents 0) → (EndsInFront (content contents 0) → ⊥)
-    → IsShort (look_at one_file).names (look_at one_file).contents names contents (begin_file 0) → ⊥
+    → IsUnfound (look_at one_file).names (look_at one_file).contents names contents (begin_file 0) FileShorter → ⊥
 unfolding on_bytes
 not_short names contents first long some short =
-    let there : short.file ≡ 0 = is_zero short.file (λ (lt : 0 < short.file). short.found.2 0 lt (first ∙ short.named)) in
-    elim short.lacks [
+    let there : short.0 ≡ 0 = is_zero short.0 (λ (lt : 0 < short.0). short.1.found.2 0 lt (first ∙ short.1.named)) in
+    elim short.2 [
       | inl less ↦
           let below : length (content contents 0) < 371 = subst (λ (n : ℕ). length (content contents n) < 371) there less in
           omega (arith, below, long)
@@ -175,7 +176,7 @@ not_short names contents first long some short =
     ]
 
 -- nor is a second file, whatever stands in front of it
-second_is_long : IsShort (look_at bad_before).names (look_at bad_before).contents (look_at bad_before).names (look_at bad_before).contents (begin_file 1) → ⊥
+second_is_long : IsUnfound (look_at bad_before).names (look_at bad_before).contents (look_at bad_before).names (look_at bad_before).contents (begin_file 1) FileShorter → ⊥
 unfolding on_bytes
 second_is_long short =
     let long : 371 ≤ 371 = omega arith in
@@ -184,12 +185,12 @@ second_is_long short =
 pub returns-clause-refused_as_shorter : goal.returns-clause-refused_as_shorter
 unfolding on_bytes
 returns-clause-refused_as_shorter c chosen = (
-  (λ honest continues behind some. record { name = first_name; file = 0; named = refl; found = search rules; lacks = inl (omega arith) }),
+  (λ honest continues behind some. (0, record { name = first_name; named = refl; found = search rules }, inl (omega arith))),
   (λ refuses. not_short (cut_look 371).names (cut_look 371).contents refl (omega arith) (λ ends. let none = ends.0 in cc) (refuses (refl, (refl, tt)) tt tt (omega arith))),
   (λ refuses. not_short (look_at both_files).names (look_at both_files).contents refl (omega arith) (λ ends. let none = ends.0 in cc) (refuses (refl, (refl, tt)) tt tt (omega arith))),
   (λ refuses. not_short changed_look.names changed_look.contents refl (omega arith) (λ ends. ends.1) (refuses (refl, (refl, tt)) tt tt (omega arith))),
-  (λ honest continues behind some. record { last = record { name = first_name; named = refl; found = search rules }; some = omega arith; long = omega arith; in_front = (refl, refl) }),
-  (λ refuses. let none = (refuses (refl, (refl, tt)) tt tt (omega arith)).in_front.0 in cc),
+  (λ honest continues behind some. (record { name = first_name; named = refl; found = search rules }, omega arith, (omega arith, (refl, refl)))),
+  (λ refuses. let none = (refuses (refl, (refl, tt)) tt tt (omega arith)).2.1.0 in cc),
   (λ refuses. let told = refuses (refl, (refl, tt)) tt tt (omega arith) in cc),
   (λ refuses. second_is_long (refuses (refl, (refl, tt)) tt tt (omega arith))),
 )

@@ -7,7 +7,7 @@ use Rattle.binlog_frame.specs.Logs.{content}
 use Rattle.binlog_frame.specs.Reading.{event_at, reading_from, reading_of, then_reads}
 use Rattle.binlog_frame.specs.Splitting.{SplitsFile, then_all}
 use Rattle.binlog_frame.proofs.Splitting.{splits_rest}
-use Rattle.binlog_feed.specs.Growing.{HasEventBefore, IsBehindAt, end_from_mark}
+use Rattle.binlog_feed.specs.Growing.{IsBehindAt, end_from_mark}
 use Rattle.binlog_units.specs.Parsing.{LogFile}
 use Rattle.binlog_units.specs.Places.{begin_file}
 use Rattle.binlog_units.specs.declared.place.Place.{Place}
@@ -94,7 +94,7 @@ returns-clause-other_places c = (
   (λ place found.
       let lt : place.file < 1 = found.found.0 in
       let there : place.file ≡ 0 = omega (arith, lt) in
-      let has = subst (λ (n : ℕ). HasEventBefore 371 (content (held_by (with_other_byte first_file ∷ [])) n)) there found.has_event in
+      let has = subst (λ (n : ℕ). 0 < 371 → (reading_of (content (held_by (with_other_byte first_file ∷ [])) n)).events ≢ []) there found.has_event in
       has (omega arith) refl),
   (λ place found. not_alone third_name found.name place.file (λ e. third_is_not_first (e ∙ sym (same_Some first_name found.name found.named))) found.found),
   (λ place found. let end : Some second_end ≡ None = found.whole in cc),

@@ -23,11 +23,12 @@ third_is_not_first = numbers_differ third_name first_name (λ e. omega (arith, e
 pub returns-clause-shorter_files : goal.returns-clause-shorter_files
 unfolding on_bytes
 returns-clause-shorter_files c = (
-  record { name = first_name; file = 0; named = refl; found = first_named first_name []; lacks = inl (omega arith) },
-  record { name = first_name; file = 0; named = refl; found = first_named first_name []; lacks = inl (omega arith) },
-  record { name = second_name; file = 1; named = refl; found = second_named first_name second_name [] first_is_not_second; lacks = inl (omega arith) },
-  record { name = second_name; file = 0; named = refl; found = first_named second_name []; lacks = inl (omega arith) },
-  record { name = second_name; file = 0; named = refl; found = first_named second_name []; lacks = inl (omega arith) },
+  (0, record { name = first_name; named = refl; found = first_named first_name [] }, inl (omega arith)),
+  (0, record { name = first_name; named = refl; found = first_named first_name [] }, inl (omega arith)),
+  (1, record { name = second_name; named = refl; found = second_named first_name second_name [] first_is_not_second }, inl (omega arith)),
+  (0, record { name = second_name; named = refl; found = first_named second_name [] }, inl (omega arith)),
+  (0, record { name = second_name; named = refl; found = first_named second_name [] }, inl (omega arith)),
+  (0, record { name = first_name; named = refl; found = first_named first_name [] }, inl (omega arith)),
 )
 
 pub returns-clause-files_not_shorter : goal.returns-clause-files_not_shorter
@@ -37,7 +38,7 @@ returns-clause-files_not_shorter c = (
   not_short (names_in one_followed) (held_by one_followed) (first_name ∷ []) (held_by (cut_to 371 first_file ∷ [])) (behind 371) first_name 0 refl (first_named first_name []) (omega arith) (λ ends. let none = ends.0 in cc),
   not_short (names_in two_followed) (held_by two_followed) (first_name ∷ second_name ∷ []) (held_by (cut_to 370 first_file ∷ second_file [] ∷ [])) (begin_file 1) second_name 1 refl
       (second_named first_name second_name [] first_is_not_second) (omega arith) (λ ends. let none = ends.0 in cc),
-  (λ short. not_alone first_name short.name short.file (λ e. first_is_not_second (e ∙ sym (same_Some second_name short.name short.named))) short.found),
+  (λ short. not_alone first_name short.1.name short.0 (λ e. first_is_not_second (e ∙ sym (same_Some second_name short.1.name short.1.named))) short.1.found),
   not_short (names_in one_followed) (held_by one_followed) (second_name ∷ first_name ∷ first_name ∷ []) (held_by (second_file [] ∷ first_file ∷ cut_to 370 first_file ∷ [])) (begin_file 0) first_name 1 refl
       (second_named second_name first_name (first_name ∷ []) (λ e. first_is_not_second (sym e))) (omega arith) (λ ends. let none = ends.0 in cc),
 )
@@ -47,9 +48,9 @@ returns-clause-files_not_shorter c = (
 pub returns-clause-faults_of_grown : goal.returns-clause-faults_of_grown
 unfolding on_bytes
 returns-clause-faults_of_grown c = (
-  record { last = record { name = first_name; named = refl; found = first_named first_name [] }; some = omega arith; long = omega arith; in_front = (refl, refl) },
-  record { last = record { name = first_name; named = refl; found = second_named third_name first_name [] third_is_not_first }; some = omega arith; long = omega arith; in_front = (refl, refl) },
-  record { last = record { name = second_name; named = refl; found = first_named second_name [] }; some = omega arith; long = omega arith; in_front = (refl, refl) },
+  (record { name = first_name; named = refl; found = first_named first_name [] }, omega arith, (omega arith, (refl, refl))),
+  (record { name = first_name; named = refl; found = second_named third_name first_name [] third_is_not_first }, omega arith, (omega arith, (refl, refl))),
+  (record { name = second_name; named = refl; found = first_named second_name [] }, omega arith, (omega arith, (refl, refl))),
 )
 
 abbrev place_in : Option FileFault → ℕ
@@ -63,18 +64,18 @@ what_in (Some fault) = fault.what
 pub returns-clause-other_faults : goal.returns-clause-other_faults
 unfolding on_bytes
 returns-clause-other_faults c = (
-  (λ faulty. let place : 0 ≡ 4 = ap place_in faulty.in_front.1 in omega (arith, place)),
-  (λ faulty. let what : BadMagic ≡ NoFormat = ap what_in faulty.in_front.1 in cc),
-  (λ faulty. third_is_not_first (same_Some third_name first_name (faulty.last.found.1 ∙ sym faulty.last.named))),
-  (λ faulty. first_is_not_second (same_Some first_name second_name (faulty.last.found.1 ∙ sym faulty.last.named))),
+  (λ faulty. let place : 0 ≡ 4 = ap place_in faulty.2.1.1 in omega (arith, place)),
+  (λ faulty. let what : BadMagic ≡ NoFormat = ap what_in faulty.2.1.1 in cc),
+  (λ faulty. third_is_not_first (same_Some third_name first_name (faulty.0.found.1 ∙ sym faulty.0.named))),
+  (λ faulty. first_is_not_second (same_Some first_name second_name (faulty.0.found.1 ∙ sym faulty.0.named))),
 )
 
 pub returns-clause-no_faults_of_grown : goal.returns-clause-no_faults_of_grown
 unfolding on_bytes
 returns-clause-no_faults_of_grown c = (
-  (λ faulty. let long : 371 ≤ 370 = faulty.long in omega (arith, long)),
-  (λ faulty. let none = faulty.in_front.0 in cc),
-  (λ faulty. let some : 0 < 0 = faulty.some in omega (arith, some)),
+  (λ faulty. let long : 371 ≤ 370 = faulty.1 in omega (arith, long)),
+  (λ faulty. let none = faulty.2.1.0 in cc),
+  (λ faulty. let some : 0 < 0 = faulty.2.0 in omega (arith, some)),
 )
 
 -- ---- why no place is found
@@ -82,8 +83,8 @@ returns-clause-no_faults_of_grown c = (
 pub returns-clause-places_unfound : goal.returns-clause-places_unfound
 unfolding on_bytes
 returns-clause-places_unfound c = (
-  record { name = first_name; file = 0; named = refl; found = first_named first_name []; lacks = inl (omega arith) },
-  record { last = record { name = first_name; named = refl; found = first_named first_name [] }; some = omega arith; long = omega arith; in_front = (refl, refl) },
+  (0, record { name = first_name; named = refl; found = first_named first_name [] }, inl (omega arith)),
+  (record { name = first_name; named = refl; found = first_named first_name [] }, omega arith, (omega arith, (refl, refl))),
   refl,
   tt,
 )
@@ -96,9 +97,9 @@ pub returns-clause-places_found : goal.returns-clause-places_found
 unfolding on_bytes
 returns-clause-places_found c = (
   not_short (names_in one_followed) (held_by one_followed) (first_name ∷ []) (held_by (cut_to 371 first_file ∷ [])) (begin_file 0) first_name 0 refl (first_named first_name []) (omega arith) (λ ends. let none = ends.0 in cc),
-  (λ faulty. let place : 0 ≡ 4 = ap place_in faulty.in_front.1 in omega (arith, place)),
+  (λ faulty. let place : 0 ≡ 4 = ap place_in faulty.2.1.1 in omega (arith, place)),
   (λ told. let none : None ≡ Some (magic_of 0) = told in cc),
   (λ told. let position : 390 ≡ 371 = ap position_in told in omega (arith, position)),
-  (λ faulty. let none = faulty.in_front.0 in cc),
+  (λ faulty. let none = faulty.2.1.0 in cc),
   (λ told. let none : None ≡ Some second_end = told in cc),
 )

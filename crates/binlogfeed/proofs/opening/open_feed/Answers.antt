@@ -15,7 +15,7 @@ opening-preserved g c =
 
 pub opening-smaller : goal.opening-smaller
 opening-smaller g c =
-    let rises : length c.opening.window.items < length c.in-Ok-larger_window.larger.items = rw c.in-Ok-larger_window.ensures.larger at c.in-Err.ensures.reason in
+    let rises : length c.opening.window.items < length c.in-Ok-larger_window.larger.items = rw c.in-Ok-larger_window.ensures.larger at c.in-Err.ensures.handed_back.reason in
     omega (arith, rises, c.in-Ok-larger_window.ensures.fits)
 
 pub returns-in-Ok : goal.returns-in-Ok
@@ -23,7 +23,7 @@ returns-in-Ok g c =
     let inv = c.opening.invariant in
     let given = c.in-Ok.ensures in
     record {
-      begins = λ h. rw (inv.source.same_names, inv.source.same_contents, inv.start, inv.filter) at (given.begins h);
+      begins = λ h. rw (inv.source.same_names, inv.source.same_contents, inv.start, inv.filter) at (given.opened.begins h);
       sound = given.sound;
       source = takes_from_first g.L.Logs c.args.logs c.opening.logs c.in-Ok.feed inv.source given.source;
       refused = tt;
@@ -43,16 +43,16 @@ returns-in-Err-larger_window g c =
     let back = c.in-Err.ensures in
     let why = c.in-Err-larger_window.fault in
     let ends = c.in-Err-larger_window.ensures.refused in
-    let told = still_tells (g.L.Logs.names logs) (length c.opening.window.items) (g.L.Logs.failures c.args.logs) (g.L.Logs.failures logs) (g.L.Logs.failures c.in-Err.logs_back) c.in-Err.fault why kept.no_fewer back.reason ends in
+    let told = still_tells (g.L.Logs.names logs) (length c.opening.window.items) (g.L.Logs.failures c.args.logs) (g.L.Logs.failures logs) (g.L.Logs.failures c.in-Err.logs_back) c.in-Err.fault why kept.no_fewer back.handed_back.reason ends in
     record {
       begins = tt;
       sound = tt;
       source = tt;
-      refused = λ h. rw (kept.same_names, kept.same_contents, inv.start) at (still_refused (g.L.Logs.names logs) (g.L.Logs.contents logs) c.opening.start c.in-Err.fault why (back.refused h) ends);
+      refused = λ h. rw (kept.same_names, kept.same_contents, inv.start) at (still_refused (g.L.Logs.names logs) (g.L.Logs.contents logs) c.opening.start c.in-Err.fault why (back.refused.judged h) ends);
       source_back = source_then _ _ _ kept back.handed_back.source_back;
       filter_back = back.handed_back.filter_back ∙ inv.filter;
       start_back = back.handed_back.start_back ∙ inv.start;
       named = rw kept.same_names at told.0;
-      told = rw (kept.same_names, kept.same_contents, inv.start) at (still_unbegun (g.L.Logs.names logs) (g.L.Logs.contents logs) c.opening.start (length c.opening.window.items) (g.L.Logs.failures logs) (g.L.Logs.failures c.in-Err.logs_back) c.in-Err.fault why back.reason back.named ends);
+      told = rw (kept.same_names, kept.same_contents, inv.start) at (still_unbegun (g.L.Logs.names logs) (g.L.Logs.contents logs) c.opening.start (length c.opening.window.items) (g.L.Logs.failures logs) (g.L.Logs.failures c.in-Err.logs_back) c.in-Err.fault why back.handed_back.reason back.handed_back.named ends);
       failed = told.1;
     }

@@ -17,7 +17,7 @@ ending-preserved g c =
 
 pub ending-smaller : goal.ending-smaller
 ending-smaller g c =
-    let rises : length c.ending.window.items < length c.in-Ok-larger_window.larger.items = rw c.in-Ok-larger_window.ensures.larger at c.in-Err.ensures.reason in
+    let rises : length c.ending.window.items < length c.in-Ok-larger_window.larger.items = rw c.in-Ok-larger_window.ensures.larger at c.in-Err.ensures.handed_back.reason in
     omega (arith, rises, c.in-Ok-larger_window.ensures.fits)
 
 pub returns-in-Ok-open_at_end : goal.returns-in-Ok-open_at_end
@@ -26,8 +26,8 @@ returns-in-Ok-open_at_end g c =
     let kept = inv.source in
     let given = c.in-Ok-open_at_end.ensures in
     record {
-      fits = λ h. rw (kept.same_names, kept.same_contents, inv.token) at (given.fits h);
-      goes_on = λ h. rw (kept.same_names, kept.same_contents, inv.token, inv.filter) at (given.joins h);
+      fits = λ h. rw (kept.same_names, kept.same_contents, inv.token) at (given.opened.fits h);
+      goes_on = λ h. rw (kept.same_names, kept.same_contents, inv.token, inv.filter) at (given.opened.joins h);
       sound = given.sound;
       source = takes_from_first g.L.Logs c.args.logs c.ending.logs c.in-Ok-open_at_end.feed kept given.source;
       refused = tt;
@@ -46,7 +46,7 @@ returns-in-Err-larger_window g c =
     let why = c.in-Err-larger_window.fault in
     let ends = c.in-Err-larger_window.ensures.refused in
     let after = g.L.Logs.failures c.in-Err.logs_back in
-    let told = still_tells (g.L.Logs.names logs) (length c.ending.window.items) (g.L.Logs.failures c.args.logs) (g.L.Logs.failures logs) after c.in-Err.fault why kept.no_fewer back.reason ends in
+    let told = still_tells (g.L.Logs.names logs) (length c.ending.window.items) (g.L.Logs.failures c.args.logs) (g.L.Logs.failures logs) after c.in-Err.fault why kept.no_fewer back.handed_back.reason ends in
     let again = told_tells (g.L.Logs.names logs) (g.L.Logs.failures c.args.logs) after why told in
     rw c.told_at_end.ensures (record {
       fits = tt;
@@ -57,6 +57,6 @@ returns-in-Err-larger_window g c =
       source_back = source_then _ _ _ kept back.handed_back.source_back;
       named = rw kept.same_names at again.0;
       told = rw (kept.same_names, kept.same_contents, inv.token) at (told_unbegun (g.L.Logs.names logs) (g.L.Logs.contents logs) (After c.ending.token) why
-          (still_unbegun (g.L.Logs.names logs) (g.L.Logs.contents logs) (After c.ending.token) (length c.ending.window.items) (g.L.Logs.failures logs) after c.in-Err.fault why back.reason back.named ends));
+          (still_unbegun (g.L.Logs.names logs) (g.L.Logs.contents logs) (After c.ending.token) (length c.ending.window.items) (g.L.Logs.failures logs) after c.in-Err.fault why back.handed_back.reason back.handed_back.named ends));
       failed = again.1;
     })
