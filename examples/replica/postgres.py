@@ -212,6 +212,11 @@ class Postgres(Target):
         self._waiting.add(creating.statement(name, columns, key, creating.postgres_type, quoted), -1)
         self.flush()
 
+    def empty(self, name: str) -> None:
+        """Takes all rows of a table away. TRUNCATE would keep readers out, and needs a right of its own."""
+        self._waiting.add(f"DELETE FROM {quoted(name)}", -1)
+        self.flush()
+
     def alterations(self, name: str, columns: Sequence[tuple[str, str]], there: Sequence[str]) -> list[str]:
         """Statements that make a table with the columns that are there one with these."""
         return creating.alterations(name, columns, there, creating.postgres_type, quoted)

@@ -19,6 +19,8 @@ import argparse
 import signal
 import sys
 import traceback
+from collections.abc import Sequence
+from dataclasses import replace
 from pathlib import Path
 from types import FrameType
 
@@ -33,11 +35,13 @@ from binlogfeed.filters import add_profile  # noqa: E402
 from binlogfeed.hints import hints_of  # noqa: E402
 from binlogfeed.lines import Change  # noqa: E402
 from binlogfeed.options import LAG_HELP, lag_seconds, only_one, seconds  # noqa: E402
+from binlogfeed.statements import DROP_DATABASE, ROWS, Effect, Statement  # noqa: E402
 from binlogfeed.tokens import beginning  # noqa: E402
-from changes import Changes, Source, waits_for  # noqa: E402
+from changes import Changes, Source, behind_statement, is_behind_statement, waits_for  # noqa: E402
 from copying import Server, take_copy  # noqa: E402
 from postgres import Postgres  # noqa: E402
 from sqlite import Sqlite  # noqa: E402
+from statements_met import Notes, Orders, stop_at  # noqa: E402
 from targets import NEW_COLUMNS, AwayError, MisfitError, ReplicaError, Target, WrongWordsError  # noqa: E402
 
 ENDS = """exit status:
@@ -48,20 +52,18 @@ ENDS = """exit status:
   4   a log or the target can't be reached, read or written, or another replica uses it: it may be there again later
   5   out of memory
   6   logs that were still to be read are gone
-  7   a change doesn't fit the target
+  7   a change doesn't fit the target, or the server has truncated, altered, dropped or renamed one of its tables
   70  the program can't be started, or a mistake in this one"""
-
-# So many statements that aren't carried over are told of each look.
-MOST_STATEMENTS = 10
 
 
 class Replica:
     """A target that is kept as a schema's tables are."""
 
-    def __init__(self, target: Target, source: Source, commit_every: int, follows: bool = False) -> None:
+    def __init__(self, target: Target, source: Source, commit_every: int, follows: bool = False, orders: Orders = Orders()) -> None:
         """A replica of what the logs have of a schema. A transaction of the target has so many of the log's.
 
-        One that follows waits for the first change of the schema, where the logs have those of others alone.
+        One that follows waits for the first change of the schema, where the logs have those of others alone. The orders say what is
+        wanted at statements.
         """
         self._target = target
         self._source = source
@@ -72,7 +74,10 @@ class Replica:
         self._is_known = bool(self._kept) and waits_for(self._kept) is None
         self._has_waited = source.begin == FIRST and waits_for(self._kept) == source.wanted
         self._place = Place.from_text(self._kept) if self._is_known or self._has_waited else Place()
-        self._changes = Changes(source, self._place, is_first=not self._is_known)
+        # Whether the place is behind the statement that has its token.
+        self._is_behind = is_behind_statement(self._kept)
+        self._changes = Changes(source, self._place, is_first=not self._is_known, is_behind=self._is_behind)
+        self._orders, self._notes = orders, Notes()
         # The log's transaction that is being taken, the token of its last change, and how many are whole before it.
         self._transaction: str | None = None
         self._token = ""
@@ -83,6 +88,13 @@ class Replica:
         self._follows, self._is_waiting = follows, False
 
     def catch_up(self) -> None:
+        """Takes what the logs have by now, and says which statements it went on behind."""
+        try:
+            self._catch_up()
+        finally:
+            self._notes.say()
+
+    def _catch_up(self) -> None:
         """Takes what the logs have by now."""
         while True:
             try:
@@ -112,8 +124,11 @@ class Replica:
             # What is committed behind the logs' end by now isn't to be missed after a kill.
             self._keep(self._changes.place)
         try:
-            for change, size in self._changes.look():
-                self._take(change, size)
+            for found in self._changes.look():
+                if isinstance(found, Statement):
+                    self._meet(found)
+                else:
+                    self._take(*found)
         except LogFault as fault:
             # A log's fault stands behind whole transactions, unless the file changed while it was read.
             if self._transaction and fault.what != "SourceChanged":
@@ -126,19 +141,46 @@ class Replica:
         if self._transaction:
             self._commit()
         self._keep(self._changes.place, self._is_unknown())
-        self._say_statements()
         if self._changes.is_empty and not self._said_none:
             self._said_none = True
             print(f"replica: no log matches {self._source.logs} yet", file=sys.stderr, flush=True)
 
-    def _say_statements(self) -> None:
-        """Says which statements of the look changed the schema, and have no rows in the log."""
-        statements = self._changes.statements()
-        for statement in statements[:MOST_STATEMENTS]:
-            print(f"replica: this has no rows in the log and isn't carried over: {statement}", file=sys.stderr)
-        if more := statements[MOST_STATEMENTS:]:
-            print(f"replica: nor are {len(more)} more statements, up to {more[-1]}", file=sys.stderr)
-        sys.stderr.flush()
+    def _meet(self, statement: Statement) -> None:
+        """Obeys a statement, goes on behind it, or ends the replica there. What stands before it is kept."""
+        effect = statement.effect(self._source.tables_wanted)
+        if effect is None or effect.what == ROWS:
+            self._notes.add(statement)
+            return
+        if self._transaction:
+            self._commit()
+        if not self._is_of_target(effect):
+            return
+        is_done = statement.token == self._orders.done
+        if not is_done and not self._orders.obeys(effect):
+            if self._is_known and self._place.file != statement.file:
+                # The logs before it aren't needed any more.
+                self._keep(self._changes.in_log(statement.file, self._place))
+            raise stop_at(statement, effect, self._orders)
+        self._go_behind(statement, () if is_done else effect.tables)
+
+    def _is_of_target(self, effect: Effect) -> bool:
+        """Whether the target has a table that a statement is of, or should have one by now. A server may write all names in small letters."""
+        names = {name for table in effect.tables for name in (table, table.lower())}
+        return effect.brings or effect.what == DROP_DATABASE or any(self._target.shape(name).types for name in names)
+
+    def _go_behind(self, statement: Statement, emptied: Sequence[str]) -> None:
+        """Takes the rows of some tables away, and keeps the place behind a statement, both at once."""
+        place = self._changes.place_behind(statement.token, self._place)
+        text = behind_statement(place)
+        self._target.begin(self._kept)
+        try:
+            for table in emptied:
+                self._target.empty(table)
+            self._target.commit(text)
+        except MisfitError as error:
+            raise MisfitError(f"{statement.shown()} at {statement.token} is refused: {error}") from error
+        self._target.forget()
+        self._place, self._kept, self._is_known, self._is_behind = place, text, True, True
 
     def _is_unknown(self) -> bool:
         """Whether the logs have changes of other schemas alone. The name may be wrong then, and the place isn't to count for another.
@@ -188,19 +230,22 @@ class Replica:
             self._target.commit(text)
         except MisfitError as error:
             raise MisfitError(f"up to {self._token}: {error}") from error
-        self._place, self._kept, self._is_known = place, text, True
+        self._place, self._kept, self._is_known, self._is_behind = place, text, True, False
         self._transaction, self._whole = None, 0
         if self._alone:
             self._alone -= 1
             self._batcher.alone = self._alone > 0
 
     def _keep(self, place: Place, is_unknown: bool = False) -> None:
-        """Keeps the place at the end of a look, which may be in a later log than the last change."""
-        text = self._source.waiting_behind(place) if is_unknown else place.to_text()
+        """Keeps the place at the end of a look, which may be in a later log than the last change, or before a statement there."""
+        if self._is_behind:
+            place = replace(place, token=self._place.token)
+        is_behind = self._is_behind and place.resume is not None
+        text = self._source.waiting_behind(place) if is_unknown else behind_statement(place) if is_behind else place.to_text()
         if text != self._kept and place.file is not None:
             self._target.begin(self._kept)
             self._target.commit(text)
-            self._place, self._kept, self._is_known = place, text, not is_unknown
+            self._place, self._kept, self._is_known, self._is_behind = place, text, not is_unknown, is_behind
 
     def _take_back(self) -> None:
         """Goes back to the kept place."""
@@ -210,7 +255,7 @@ class Replica:
         self._transaction, self._whole = None, 0
         if self._target.place() != self._kept:
             raise AwayError("another process has moved the target on: start again")
-        self._changes = Changes(self._source, self._place, is_first=not self._is_known, again=True)
+        self._changes = Changes(self._source, self._place, not self._is_known, again=True, is_behind=self._is_behind)
 
 
 def opened(words: str, schema: str, unfit: str = "error") -> Target:
@@ -239,6 +284,13 @@ def count(word: str) -> int:
     return number
 
 
+def token(word: str) -> str:
+    """The token of a statement."""
+    if not begin.TOKEN.fullmatch(word):
+        raise ValueError
+    return word
+
+
 def given_words() -> argparse.Namespace:
     """Reads the command line."""
     form = argparse.RawDescriptionHelpFormatter
@@ -264,6 +316,10 @@ def given_words() -> argparse.Namespace:
     parser.add_argument("--lag", type=lag_seconds, default=0.0, metavar="SECONDS", help=LAG_HELP)
     every = "commit after so many of the log's transactions (1), and behind each look"
     parser.add_argument("--commit-every", type=count, default=1, metavar="N", help=every)
+    truncate = "have each TRUNCATE TABLE take the rows of the target's table away, where the replica else ends"
+    parser.add_argument("--truncate", action="store_true", help=truncate)
+    done = "go on behind the statement of this token, at which the replica ended: the target's tables are as it left the server's"
+    parser.add_argument("--done", type=token, metavar="TOKEN", help=done)
     unfit = "what a value becomes that its column can't hold, such as 0000-00-00 (error)"
     parser.add_argument("--unfit", choices=("error", "null"), default="error", help=unfit)
     return parser.parse_args()
@@ -279,7 +335,7 @@ def keep_up(given: argparse.Namespace) -> None:
         if given.server:
             only = [name for name in given.only_tables.split(",") if name]
             take_copy(target, Server(given.server, given.defaults_file), given.schema, only)
-        replica = Replica(target, logs, given.commit_every, given.follow)
+        replica = Replica(target, logs, given.commit_every, given.follow, Orders(given.truncate, given.done or ""))
         try:
             replica.catch_up()
             while given.follow:

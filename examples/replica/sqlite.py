@@ -94,6 +94,11 @@ class Sqlite(Target):
         with judged():
             self._connection.execute(creating.statement(name, columns, key, creating.sqlite_type, quoted))
 
+    def empty(self, name: str) -> None:
+        """Takes all rows of a table away."""
+        with judged():
+            self._connection.execute(f"DELETE FROM {quoted(name)}")
+
     def alterations(self, name: str, columns: Sequence[tuple[str, str]], there: Sequence[str]) -> list[str]:
         """Statements that make a table with the columns that are there one with these."""
         return creating.alterations(name, columns, there, creating.sqlite_type, quoted)

@@ -59,6 +59,12 @@ class MisfitError(ReplicaError):
     status = 7
 
 
+class StatementError(ReplicaError):
+    """A statement that the replica doesn't carry over, and can't pass over either. A person does it in the target, and says so."""
+
+    status = 7
+
+
 class Shape(NamedTuple):
     """A table as the target has it: its columns with their types, and the columns of its primary key."""
 
@@ -170,6 +176,15 @@ class Target:
     def has_rows(self, name: str) -> bool:
         """Whether a table has a row."""
         raise NotImplementedError
+
+    def empty(self, name: str) -> None:
+        """Takes all rows of a table away, in the open transaction."""
+        raise NotImplementedError
+
+    def forget(self) -> None:
+        """Forgets what was known of the tables: a person may have changed them."""
+        self._tables.clear()
+        self._met.clear()
 
     def alterations(self, name: str, columns: Sequence[tuple[str, str]], there: Sequence[str]) -> list[str]:
         """Statements that make a table with the columns that are there one with these, which have their types in the log."""

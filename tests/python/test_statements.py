@@ -1,8 +1,9 @@
 """Statements in logs that no line tells of: they are found once each, and the replica says which it doesn't carry over."""
 import zlib
 
+from binlogfeed import FileFault
 from binlogfeed.logs import MAGIC
-from binlogfeed.statements import Statement, Statements
+from binlogfeed.statements import ALTER, DROP, DROP_DATABASE, RENAME, ROWS, TRUNCATE, Effect, Statement, Statements, Wanted
 from replicas import LOGS, SqliteFiles, ended, rows_wanted
 from support import SHOP, FolderTest
 
@@ -53,33 +54,58 @@ class Found(FolderTest):
         self.put("binlog.000002", second)
         self.assertEqual([of.text for of in found.of(logs)], ["SET x = 1"])
         self.assertEqual([of.text for of in Statements("binlog.000001", given[1].position).of(logs)][0], "TRUNCATE line")
-        # A server may have purged a log that was read.
+        # Up to a place, and behind the unit that begins at one.
+        place, some = ("binlog.000002", given[2].position), Statements()
+        self.assertEqual([of.text for of in some.of(logs, place)], ["BEGIN", "TRUNCATE line"])
+        self.assertEqual([of.text for of in some.of(logs, place)], [])
+        self.assertEqual([of.text for of in some.of(logs)], ["DROP TABLE `a`", "SET x = 1"])
+        behind = Statements("binlog.000001", given[1].position, is_behind=True)
+        self.assertEqual([of.text for of in behind.of(logs)], ["DROP TABLE `a`", "SET x = 1"])
+        # What a log says that is gone can't be known.
         logs[0].unlink()
-        self.assertEqual([of.text for of in Statements().of(logs)], ["DROP TABLE `a`", "SET x = 1"])
+        with self.assertRaises(FileFault):
+            list(Statements().of(logs))
 
-    def test_changes(self):
-        """Which statements change rows or columns of a schema's tables."""
-        of_line = [
-            "TRUNCATE line", "truncate table `shop` . `line`", "ALTER TABLE line ADD x INT", "/* by hand */ DROP TABLE IF EXISTS a, shop.line",
-            "RENAME TABLE line TO old", "INSERT INTO line SELECT 1", "UPDATE line SET a = 1", "DELETE FROM line", "DROP DATABASE shop",
-        ]
-        others = ["BEGIN", "COMMIT", "CREATE TABLE line (a INT)", "TRUNCATE other.line", "DROP DATABASE other", "DROP TEMPORARY TABLE line", "SAVEPOINT `line`"]
-        for text in of_line:
-            self.assertTrue(Statement("f", 4, "shop", text).changes("shop"), text)
-            self.assertTrue(Statement("f", 4, "shop", text).changes("shop", "line,tag"), text)
-        for text in others:
-            self.assertFalse(Statement("f", 4, "shop", text).changes("shop"), text)
-        self.assertFalse(Statement("f", 4, "other", "TRUNCATE line").changes("shop"))
-        self.assertTrue(Statement("f", 4, "other", "TRUNCATE shop.line").changes("shop"))
-        self.assertFalse(Statement("f", 4, "shop", "TRUNCATE line").changes("shop", "tag"))
-        self.assertFalse(Statement("f", 4, "shop", "DELETE FROM line").changes("shop", "tag"))
+    def test_tokens(self):
+        """A statement's token has the place of its GTID event."""
+        units = [event(GTID, bytes(42), 4), event(QUERY, query("TRUNCATE line"), 4)]
+        begin = len(log_of())
+        for number, kind in enumerate((33, 34, 42)):
+            log = self.put(f"binlog.00000{number}", log_of() + event(kind, bytes(42), begin) + event(QUERY, query("TRUNCATE line"), begin + len(units[0])))
+            (found,) = Statements().of([log])
+            self.assertEqual((found.token, found.position), (f"{begin}.0@binlog.00000{number}", begin + len(units[0])))
+
+    def test_effects(self):
+        """What statements do to a schema's tables, and to some of them."""
+        for text, what in {
+            "TRUNCATE line": TRUNCATE, "truncate table `shop` . `line`": TRUNCATE, "TRUNCATE`line`": TRUNCATE, 'TRUNCATE "line"': TRUNCATE,
+            "ALTER TABLE line ADD x INT": ALTER, "ALTER IGNORE TABLE line ADD x INT": ALTER, "ALTER TABLE line RENAME TO old": ALTER,
+            "ALTER TABLE d.x EXCHANGE PARTITION p WITH TABLE shop.line": ALTER,
+            "/* by hand */ DROP TABLE IF EXISTS a, shop.line": DROP, "/*!50003 DROP TABLE line */": DROP, "DROP /* x */ TABLES line -- y": DROP,
+            "RENAME TABLE line TO old": RENAME, "RENAME TABLE x TO y, line TO old": RENAME, "DROP DATABASE IF EXISTS `shop`": DROP_DATABASE,
+            "INSERT INTO line SELECT 1": ROWS, "UPDATE line SET a = 1": ROWS, "DELETE FROM line": ROWS, "TRUNCATE Line": TRUNCATE,
+        }.items():
+            for only in ("", "line,tag"):
+                effect = Statement("f", 4, "shop", text).effect(Wanted("shop", only))
+                self.assertEqual((effect.what, effect.brings, effect.is_exact), (what, False, not (only and "Line" in text)), text)
+        for text in ("RENAME TABLE d.x TO shop.line", "ALTER TABLE d.x RENAME shop.line, ADD y INT", "RENAME TABLE d.a TO d.b, d.x TO line"):
+            self.assertEqual(Statement("f", 4, "shop", text).effect(Wanted("shop")), Effect(RENAME, ("line",), True), text)
+        for text in (
+            "BEGIN", "COMMIT", "CREATE TABLE line (a INT)", "TRUNCATE other.line", "DROP DATABASE other", "DROP TEMPORARY TABLE line", "SAVEPOINT `line`",
+            "/*!40000 ALTER TABLE `line` DISABLE KEYS */", "ALTER TABLE d.x RENAME COLUMN a TO line", "ALTER TABLE d.x COMMENT 'RENAME TO shop.line'",
+        ):
+            self.assertIsNone(Statement("f", 4, "shop", text).effect(Wanted("shop")), text)
+        self.assertIsNone(Statement("f", 4, "other", "TRUNCATE line").effect(Wanted("shop")))
+        self.assertEqual(Statement("f", 4, "other", "TRUNCATE shop.line").effect(Wanted("shop")), Effect(TRUNCATE, ("line",)))
+        for text in ("TRUNCATE line", "DELETE FROM line"):
+            self.assertIsNone(Statement("f", 4, "shop", text).effect(Wanted("shop", "tag")), text)
 
 
 class Told(FolderTest):
     """What the replica says."""
 
     def test_replica_names_them(self):
-        """A TRUNCATE is named with its place; where nothing is new it isn't named again."""
+        """A statement that changes rows is named with its place; where nothing is new it isn't named again."""
         files = SqliteFiles()
         self.addCleanup(files.stop)
         # Without the STOP at its end.
@@ -93,10 +119,10 @@ class Told(FolderTest):
             at += length
         position = len(last) + 19 + len(gtid) + 4
         last += event(GTID, gtid, len(last))
-        self.put(SHOP[-1].name, last + event(QUERY, query("TRUNCATE TABLE line"), position))
+        self.put(SHOP[-1].name, last + event(QUERY, query("DELETE FROM line"), position))
         target = files.new_target("shop")
         logs = f"{self.folder}/binlog.0*"
-        line = f"replica: this has no rows in the log and isn't carried over: TRUNCATE TABLE line ({SHOP[-1].name}, position {position})\n"
+        line = f"replica: this has no rows in the log and isn't carried over: DELETE FROM line ({SHOP[-1].name}, position {position})\n"
         self.assertEqual(ended(target, "shop", logs=logs), (0, line))
         self.assertEqual(files.rows_of(target), rows_wanted("shop"))
         self.assertEqual(ended(files.new_target("shop"), "shop", "--begin", "now", logs=logs), (0, ""))
