@@ -39,7 +39,7 @@ def stop_at(statement: Statement, effect: Effect, orders: Orders) -> StatementEr
     hints = [f"{step}, and start again with --done {statement.token} ({PAGE})"]
     if effect.what == TRUNCATE and not orders.truncate:
         hints.append(OBEYED)
-    line = f"the server did this at {statement.token}, and no line tells of its rows: {statement.shown(MOST_SHOWN)}"
+    line = f"the statement at {statement.token} has no rows in the log, and isn't carried over: {statement.shown(MOST_SHOWN)}"
     error = StatementError(line)
     error.hinted(*hints)
     return error

@@ -96,7 +96,7 @@ class Stops(Statements):
             for _ in range(2):
                 status, (line, first, *others) = self.ended(target, *options)
                 self.assertEqual(status, 7)
-                self.assertEqual(line, f"replica: the server did this at {token}, and no line tells of its rows: {text}")
+                self.assertEqual(line, f"replica: the statement at {token} has no rows in the log, and isn't carried over: {text}")
                 self.assertTrue(first.startswith(f"hint: {step}, and start again with --done {token} ("), first)
                 obeyed = ["hint: or start again with --truncate"] * text.lower().startswith("truncate")
                 self.assertEqual([hint.split(",")[0] for hint in others], obeyed)
@@ -121,7 +121,7 @@ class Stops(Statements):
         self.check(self.new_target(), [1])
         target, begin = self.files.made(f"{TABLE}; INSERT INTO t VALUES (1, 'old')"), token_behind(*head[:2])
         status, lines = self.ended(target, "--begin", begin)
-        self.assertEqual((status, lines[0].split(", ")[0]), (7, f"replica: the server did this at {begin}"))
+        self.assertEqual((status, f"at {begin} " in lines[0]), (7, True))
         self.assertEqual(self.files.rows_of(target, "binlogfeed_place"), "")
         self.assertEqual(self.ended(target, "--begin", begin, "--truncate"), (0, []))
         self.assertEqual(self.files.asked(target, "SELECT v FROM t"), [{"v": b"a"}])
@@ -134,7 +134,7 @@ class Stops(Statements):
         for option, token in (([], first), (["--done", second], first), (["--done", first], second), (["--done", first], second)):
             status, lines = self.ended(target, *option)
             self.assertEqual(status, 7)
-            self.assertIn(f"at {token},", lines[0])
+            self.assertIn(f"at {token} ", lines[0])
         self.check(target, [1, 2], "--done", second)
 
     def test_the_last_of_a_log(self):
@@ -150,7 +150,7 @@ class Stops(Statements):
         self.put_log(rows(3, 1), file="binlog.000002")
         last = token_behind(rows(1, 1), statement("TRUNCATE t"), rows(2, 2, 3))
         status, lines = self.ended(target)
-        self.assertEqual((status, f"at {last}," in lines[0]), (7, True))
+        self.assertEqual((status, f"at {last} " in lines[0]), (7, True))
         self.check(target, [1, 2, 3], "--done", last)
 
     def test_logs_before_it_may_be_purged(self):
@@ -289,7 +289,7 @@ class Postgres(Statements):
         for options in ((), ("--commit-every", "100")):
             target = self.server.made(self.TABLE)
             status, lines = self.ended(target, *options)
-            self.assertEqual((status, f"at {token}," in lines[0], self.keys(target)), (7, True, [1, 2]))
+            self.assertEqual((status, f"at {token} " in lines[0], self.keys(target)), (7, True, [1, 2]))
             self.check(target, [2], "--truncate", *options)
 
     def test_it_is_refused(self):
