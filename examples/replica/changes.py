@@ -11,7 +11,7 @@ from binlogfeed import JSON_NULL, BinlogfeedError, Place
 from binlogfeed.begin import FIRST, place_of
 from binlogfeed.columns import Tables
 from binlogfeed.lag import last_place
-from binlogfeed.lines import Change, reader_of_lines
+from binlogfeed.lines import Change, not_full, reader_of_lines
 from binlogfeed.program import Run
 from binlogfeed.statements import Statement, Statements, Wanted
 from binlogfeed.summary.changes import Changes as Counted
@@ -121,7 +121,10 @@ class Changes:
             place = self._watch.place if self._watch.place.file else place_of(self._source.begin)
             self._statements = Statements(place.file, token_parts(place.resume).position if place.resume else 0, self._is_behind)
         for block in self._watch.look():
-            last = last_place(block)
+            try:
+                last = last_place(block)
+            except (ValueError, KeyError):
+                raise not_full() from None
             statements = self._found(last.file, last.position)
             for line in block.split(b"\n")[:-1]:
                 if statements or not self._may_have_rows:

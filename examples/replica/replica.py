@@ -156,7 +156,8 @@ class Replica:
         if not self._is_of_target(effect):
             return
         is_done = statement.token == self._orders.done
-        if not is_done and not self._orders.obeys(effect):
+        obeys = self._orders.obeys(effect) and all(self._target.shape(table).types for table in effect.tables)
+        if not is_done and not obeys:
             if self._is_known and self._place.file != statement.file:
                 # The logs before it aren't needed any more.
                 self._keep(self._changes.in_log(statement.file, self._place))

@@ -105,6 +105,8 @@ class Statement(NamedTuple):
 
     def effect(self, wanted: Wanted) -> Effect | None:
         """What it does to the rows or columns of these tables; None where that is nothing."""
+        if self.text == "BEGIN":
+            return None
         text = NO_WORDS.sub(lambda found: found[1] or " ", self.text).strip()
         if found := OF_TABLE.match(text):
             what = found["what"].split()[0].upper()

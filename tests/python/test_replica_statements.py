@@ -292,6 +292,13 @@ class Postgres(Statements):
             self.assertEqual((status, f"at {token} " in lines[0], self.keys(target)), (7, True, [1, 2]))
             self.check(target, [2], "--truncate", *options)
 
+    def test_a_name_in_other_letters(self):
+        """PostgreSQL hasn't the table by that name."""
+        self.put_log(*Obeys.UNITS[:2], statement("TRUNCATE T"))
+        target = self.server.made(self.TABLE)
+        status, lines = self.ended(target, "--truncate")
+        self.assertEqual((status, len(lines), self.keys(target)), (7, 2, [1, 2]))
+
     def test_it_is_refused(self):
         """Rows that others point to can't be taken away: that is the target's word, and nothing is kept of it."""
         self.put_log(*Obeys.UNITS[:4])
