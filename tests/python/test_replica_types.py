@@ -238,7 +238,7 @@ class Columns(LinesTest):
         lines, table, wanted = self.all_lines()
         target = self.server.made(table)
         options = {"profile": "server", "columns": None, "follow": False, "commit_every": 9, "unfit": "error", "begin": "first", "lag": 0.0}
-        options |= {"only_tables": "", "create": False, "server": None, "defaults_file": None}
+        options |= {"only_tables": "", "create": False, "server": None, "defaults_file": None, "truncate": False, "done": None}
         given = argparse.Namespace(target=target, schema="made", **self.told(lines), **options)
         with mock.patch.object(postgres.Postgres, "rollback", side_effect=AssertionError):
             replica.keep_up(given)
