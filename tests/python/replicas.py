@@ -10,6 +10,7 @@ import sys
 import tempfile
 import threading
 import time
+import unittest
 from pathlib import Path
 
 import psql
@@ -354,6 +355,19 @@ class PostgresServer:
         query = "SELECT row_to_json(t) FROM (SELECT * FROM {}) AS t"
         rows = {table: self.asked(target, query.format(table)) for table in names & KEYS.keys()}
         return in_order({table: [json.loads(text) for text in rows[table]] for table in rows})
+
+
+class OnPostgres(unittest.TestCase):
+    """Tests that share a PostgreSQL server. They are skipped where there is none."""
+
+    @classmethod
+    def setUpClass(cls):
+        """Starts the server."""
+        super().setUpClass()
+        if not HAS_POSTGRES:
+            raise unittest.SkipTest("there is no PostgreSQL: postgres, initdb, pg_ctl and psql")
+        cls.server = PostgresServer()
+        cls.addClassCleanup(cls.server.stop)
 
 
 def python_with_psycopg():

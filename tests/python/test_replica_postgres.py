@@ -7,11 +7,10 @@ import postgres
 import psql
 import targets
 from replicas import (
-    HAS_POSTGRES,
     SHOP_ROWS,
     Kills,
     LinesTest,
-    PostgresServer,
+    OnPostgres,
     ended,
     full_line,
     in_order,
@@ -26,15 +25,13 @@ TYPES = {"id": "int", "v": "varchar utf8mb4"}
 TABLE = "CREATE TABLE t (id integer PRIMARY KEY, v text)"
 
 
-@unittest.skipUnless(HAS_POSTGRES, "there is no PostgreSQL: postgres, initdb, pg_ctl and psql")
-class Postgres(LinesTest):
+class Postgres(OnPostgres, LinesTest):
     """The replica in PostgreSQL."""
 
     @classmethod
     def setUpClass(cls):
-        """Starts a server."""
-        cls.server = PostgresServer()
-        cls.addClassCleanup(cls.server.stop)
+        """Starts the server, and looks for the clients."""
+        super().setUpClass()
         cls.clients = {"psql": sys.executable}
         python = python_with_psycopg()
         if python:

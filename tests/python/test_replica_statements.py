@@ -3,11 +3,10 @@ import json
 import os
 import signal
 import time
-import unittest
 
 import replica
 from logs import GTID_HEAD, GTID_TAIL, log_of, parts, query, rotate, transaction
-from replicas import HAS_POSTGRES, LinesTest, PostgresServer, SqliteFiles, ended, ended_with_hints, started
+from replicas import LinesTest, OnPostgres, SqliteFiles, ended, ended_with_hints, started
 from support import PROGRAM, without_beginning
 
 TABLE = "CREATE TABLE t (id INTEGER PRIMARY KEY, v TEXT)"
@@ -267,15 +266,8 @@ class Obeys(Statements):
         opened.close()
 
 
-@unittest.skipUnless(HAS_POSTGRES, "there is no PostgreSQL: postgres, initdb, pg_ctl and psql")
-class Postgres(Statements):
+class Postgres(OnPostgres, Statements):
     """The same in PostgreSQL, by psql."""
-
-    @classmethod
-    def setUpClass(cls):
-        """Starts a server."""
-        cls.server = PostgresServer()
-        cls.addClassCleanup(cls.server.stop)
 
     TABLE = "CREATE TABLE t (id integer PRIMARY KEY, v bytea)"
 

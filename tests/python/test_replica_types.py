@@ -16,7 +16,7 @@ import postgres
 import replica
 from binlogfeed import JSON_NULL
 from built.truth import TRUTH, declared_types, server_truth
-from replicas import HAS_POSTGRES, LinesTest, PostgresServer, SqliteFiles, ended, full_line, python_with_psycopg
+from replicas import HAS_POSTGRES, LinesTest, OnPostgres, PostgresServer, SqliteFiles, ended, full_line, python_with_psycopg
 
 LOGS = f"{TRUTH}/binlog.0*"
 # PostgreSQL's types for the kinds of columns, where the kind alone says it.
@@ -190,16 +190,8 @@ class Truth(LinesTest):
         self.check(rows_of, of_postgres, expected_of_postgres)
 
 
-class Columns(LinesTest):
+class Columns(OnPostgres, LinesTest):
     """Columns of PostgreSQL, and values that they can't hold."""
-
-    @classmethod
-    def setUpClass(cls):
-        """Starts a server."""
-        if not HAS_POSTGRES:
-            raise unittest.SkipTest("there is no PostgreSQL")
-        cls.server = PostgresServer()
-        cls.addClassCleanup(cls.server.stop)
 
     def rows(self, target):
         """The rows of the table."""
