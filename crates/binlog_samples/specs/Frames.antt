@@ -33,13 +33,13 @@ NoWindows =
     (Needs first_log (standing 0 Start) 121 → ⊥) × (Needs first_log (standing 126 (Later 0)) 122 → ⊥) × (Needs (0xfd ∷ drop 1 first_log) (standing 0 Start) 122 → ⊥)
     × (Needs (take 125 first_log) (standing 0 Start) 122 → ⊥) × (Needs (take 145 first_log) (standing 126 (Later 4)) 19 → ⊥)
 
--- QUERY, ROTATE, XID, GTID and ANONYMOUS_GTID have simple bodies
+-- QUERY, ROTATE, XID, EXECUTE_LOAD_QUERY, GTID and ANONYMOUS_GTID have simple bodies
 abbrev pub SimpleBodies : Type 0
 SimpleBodies =
-    (covers Simple 2 ≡ true) × (covers Simple 4 ≡ true) × (covers Simple 16 ≡ true) × (covers Simple 33 ≡ true) × (covers Simple 34 ≡ true)
+    (covers Simple 2 ≡ true) × (covers Simple 4 ≡ true) × (covers Simple 16 ≡ true) × (covers Simple 18 ≡ true) × (covers Simple 33 ≡ true) × (covers Simple 34 ≡ true)
 
--- STOP, FORMAT_DESCRIPTION, TABLE_MAP, ROWS_QUERY, the rows events and PREVIOUS_GTIDS have none; all bodies are theirs, too
+-- STOP, FORMAT_DESCRIPTION, BEGIN_LOAD_QUERY, TABLE_MAP, ROWS_QUERY, the rows events and PREVIOUS_GTIDS have none; all bodies are theirs, too
 abbrev pub OtherBodies : Type 0
 OtherBodies =
-    (covers Simple 3 ≡ false) × (covers Simple 15 ≡ false) × (covers Simple 19 ≡ false) × (covers Simple 29 ≡ false) × (covers Simple 30 ≡ false)
+    (covers Simple 3 ≡ false) × (covers Simple 15 ≡ false) × (covers Simple 17 ≡ false) × (covers Simple 19 ≡ false) × (covers Simple 29 ≡ false) × (covers Simple 30 ≡ false)
     × (covers Simple 31 ≡ false) × (covers Simple 32 ≡ false) × (covers Simple 35 ≡ false) × (covers All 19 ≡ true) × (covers All 30 ≡ true)

@@ -13,6 +13,7 @@ pub mod Tokens
 pub mod Continuations
 pub mod FileLaws
 pub mod Profiles
+pub mod Loads
 pub mod Following
 pub mod LastFiles
 pub mod OtherTurns

@@ -27,7 +27,7 @@ returns-clause-reads_named c law map e = law (body_of first_map) map e (ap own (
 pub returns-clause-agrees_on_both : goal.returns-clause-agrees_on_both
 unfolding on_bytes
 returns-clause-agrees_on_both c law =
-    let both = law (alone named_and_unnamed) in
-    let one = law (alone one_row) in
+    let both = law (alone named_and_unnamed) ((λ e. e, (λ e. e, (λ e. e, (λ e. e, (λ e. e, (λ e. e, (λ e. e, (λ e. e, (λ e. e, (λ e. e, (λ e. e, tt))))))))))), tt) in
+    let one = law (alone one_row) ((λ e. e, (λ e. e, (λ e. e, (λ e. e, (λ e. e, (λ e. e, tt)))))), tt) in
     let ended = one.2 refl in
     ((both.0, both.1), one.1 ∙ ap (λ (l : List RowChange). changes (read_by Strict (alone one_row)) ++ l) ended.0 ∙ append-nil _, ended.1)
