@@ -170,10 +170,6 @@ abbrev pub nulls_listed : List ℕ → RowImage → List ℕ → List (List ℕ)
 nulls_listed side image [] = []
 nulls_listed side image (column ∷ columns) = null_name side image column ++ nulls_listed side image columns
 
-pub past_columns : (image : RowImage) (column : ℕ) → length image.cells ≤ column → is_json_null image column ≡ false
-past_columns image column past =
-    ap (λ (value : Content). is_json (type_in image.table column).code && is_null_document value) (get_or_past image.cells column cell.absent past) ∙ no_null (is_json (type_in image.table column).code)
-
 turned : (b : Bool) (one two : Members) → cond b one two ≡ cond (not b) two one
 turned true one two = refl
 turned false one two = refl
