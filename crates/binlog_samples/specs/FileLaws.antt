@@ -4,8 +4,10 @@ use Rattle.std.specs.Prelude.{◌≡◌, ℕ, List, [], ◌∷◌, ◌++◌, Opt
 use Rattle.binlog_select.specs.declared.token.Token.{Token}
 use Rattle.binlog_feed.specs.Changes.{RowChange}
 use Rattle.binlog_feed.specs.Continues.{has_file, in_files}
-use Rattle.binlog_feed.specs.FeedLaws.{ChangesAreFound, ChangesStandAtTheirPlaces, PlacesRise, FeedsResume, FilesAreApart, UnitsAreApart, changes_read_apart, units_read_apart}
+use Rattle.binlog_feed.specs.FeedLaws.{ChangesAreFound, ChangesStandAtTheirPlaces, FeedsResume}
 use Rattle.binlog_feed.specs.Feeds.{feed, end_from}
+use Rattle.feed_laws.specs.Apart.{FilesAreApart, UnitsAreApart, changes_read_apart, units_read_apart}
+use Rattle.feed_laws.specs.Order.{PlacesRise}
 use Rattle.binlog_units.specs.Parsing.{LogFile}
 use Rattle.binlog_feed.specs.Tokens.{Judgement, change_at, judge, judge_change, token_of, is_after, rest}
 use Rattle.binlog_feed.specs.Tokens.Judgement.{NoFile, Fits, NoChange, NoTransaction}

@@ -15,7 +15,7 @@ use Rattle.binlog_feed.specs.Changes.{RowChange}
 use Rattle.binlog_feed.specs.Contents.{map_with}
 use Rattle.binlog_feed.specs.Feeds.{changes, end_of_changes}
 use Rattle.binlog_units.specs.Parsing.{LogFile}
-use Rattle.binlog_feed.specs.ProfileLaws.{StrictMaps, ProfilesAgree, named_map_with, read_by}
+use Rattle.feed_laws.specs.ProfileLaws.{StrictMaps, ProfilesAgree, named_map_with, read_by}
 use Rattle.binlog_units.specs.declared.what.What.TheVariants as faults
 use Rattle.binlog_samples.specs.Hex.{hex}
 use Rattle.binlog_samples.specs.Files.{xid_event, front, alone, fault_at}

@@ -5,7 +5,7 @@ use Rattle.binlog_select.specs.declared.token.Token.{Token}
 use Rattle.binlog_feed.specs.AtEnd.{judge_end, up_to_file}
 use Rattle.binlog_units.specs.Parsing.{LogFile}
 use Rattle.binlog_feed.specs.Changes.{RowChange}
-use Rattle.binlog_feed.specs.FeedLaws.{changes_read_apart}
+use Rattle.feed_laws.specs.Apart.{changes_read_apart}
 use Rattle.binlog_feed.specs.Tokens.{Judgement, judge, rest, end_after}
 use Rattle.binlog_feed.specs.Tokens.Judgement.{NoFile, Fits, NoChange, Faulty, NoTransaction}
 use Rattle.binlog_units.specs.declared.fault.LogFault.{LogFault}

@@ -1,7 +1,7 @@
 use Rattle.std.proofs.Common.{List, [], ◌∷◌, subst, refl}
 use Rattle.binlog_feed.specs.Changes.{RowChange}
 use Rattle.binlog_feed.specs.Continues.{Distinct}
-use Rattle.binlog_feed.specs.FeedLaws.{ComesAfter, EachPair}
+use Rattle.feed_laws.specs.Order.{ComesAfter, EachPair}
 use Rattle.binlog_samples.specs.Continuations.{cut_file, grown_file, other_end}
 use Rattle.binlog_samples.specs.FileLaws.{every}
 use Rattle.binlog_samples.specs.Tokens.{two_files}

@@ -5,7 +5,7 @@ use Rattle.binlog_table.specs.Map.{Map, has_own_names}
 use Rattle.binlog_table.specs.declared.fault.MapFault.{MapFault}
 use Rattle.binlog_feed.specs.Changes.{RowChange}
 use Rattle.binlog_feed.specs.Feeds.{changes}
-use Rattle.binlog_feed.specs.ProfileLaws.{read_by}
+use Rattle.feed_laws.specs.ProfileLaws.{read_by}
 use Rattle.binlog_samples.specs.Changes.{first_map, one_row}
 use Rattle.binlog_samples.specs.Files.{alone}
 use Rattle.binlog_samples.specs.Profiles.{body_of, event_with, named_and_unnamed}

@@ -1,0 +1,5 @@
+pub mod RisingPlaces
+pub mod Extending
+pub mod GoneFiles
+mod Apart
+mod ProfileLaws
