@@ -1,7 +1,9 @@
 use Rattle.std.proofs.Common.{List, [], ◌∷◌, subst, refl}
 use Rattle.binlog_feed.specs.Changes.{RowChange}
 use Rattle.binlog_feed.specs.Continues.{Distinct}
-use Rattle.feed_laws.specs.Order.{ComesAfter, EachPair}
+use Rattle.binlog_feed.specs.Listings.{EachPair}
+use Rattle.binlog_feed.specs.Tokens.{token_of}
+use Rattle.feed_laws.specs.Order.{ComesAfter}
 use Rattle.binlog_samples.specs.Continuations.{cut_file, grown_file, other_end}
 use Rattle.binlog_samples.specs.FileLaws.{every}
 use Rattle.binlog_samples.specs.Tokens.{two_files}
@@ -19,7 +21,7 @@ returns-clause-found_of_two c law token = law two_files token both_differ
 
 pub returns-clause-rises_in_two : goal.returns-clause-rises_in_two
 returns-clause-rises_in_two c law first second e =
-    (subst (λ (list : List RowChange). EachPair (ComesAfter two_files) list) e (law two_files every both_differ)).0.0.place
+    (subst (λ (list : List RowChange). EachPair (λ one other. ComesAfter two_files (token_of one) (token_of other)) list) e (law two_files every both_differ)).0.0.place
 
 pub returns-clause-resumes_grown : goal.returns-clause-resumes_grown
 unfolding on_bytes
