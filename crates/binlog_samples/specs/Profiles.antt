@@ -6,7 +6,7 @@ use Rattle.binlog_profile.specs.declared.profile.Profile.TheVariants.{Strict, Se
 use Rattle.binlog_table.specs.Map.{Map, map_at, map_at_by}
 use Rattle.binlog_table.specs.Names.{number_names}
 use Rattle.binlog_table.specs.ProfileMaps.{NamedIsStrict}
-use Rattle.binlog_table.specs.declared.column.Layout.TheVariants.{Integer, Text, Enum, Set}
+use Rattle.binlog_table.specs.declared.column.Layout.TheVariants.{Integer, Text, Raw, Enum, Set}
 use Rattle.binlog_table.specs.declared.column.Column.{Column}
 use Rattle.binlog_table.specs.declared.fault.MapFault.{MapFault}
 use Rattle.binlog_table.specs.declared.fault.MapFault.TheVariants.{BadMap, TypeOutOfProfile, NoColumnNames}
@@ -67,6 +67,35 @@ ServerRefuses =
     × (server_map (hex "02 03 0f 03 50 00 00 02 01 01 00") ≡ Err BadMap) × (server_map (hex "02 03 0c 02 50 00 02 01 01 00") ≡ Err (TypeOutOfProfile 12))
     × (of_two "" ≡ Err NoColumnNames) × (of_two "08 01 00" ≡ Err NoColumnNames)
     × (strict_map (hex "02 03 0f 03 50 00 00 02 01 01 00") ≡ Err BadMap) × (strict_map (hex "02 03 0c 02 50 00 02 01 01 00") ≡ Err (TypeOutOfProfile 12))
+
+-- a LONG and a column of a type, in the map of both
+abbrev pub beside : String → String → List ℕ
+beside type metadata = hex "02 03" ++ hex type ++ hex metadata ++ hex "02 01 01 00 04 05 02 69 64 01 76"
+
+abbrev pub raw_behind : ℕ → Map
+raw_behind width = table_of (signed (Integer 4) ∷ signed (Raw width) ∷ []) (codes "id" ∷ codes "v" ∷ []) [] (nones 2)
+
+-- A VECTOR has a length of one byte to four, as its metadata says. The type behind it isn't read, and the strict profile doesn't read it.
+abbrev pub Vectors : Type 0
+Vectors =
+    (server_map (beside "f2" "01 04") ≡ Ok (raw_behind 4)) × (server_map (beside "f2" "01 01") ≡ Ok (raw_behind 1))
+    × (server_map (beside "f2" "01 00") ≡ Err BadMap) × (server_map (beside "f2" "01 05") ≡ Err BadMap) × (server_map (beside "f2" "00") ≡ Err BadMap)
+    × (server_map (beside "f2" "02 04 04") ≡ Err BadMap) × (server_map (beside "f3" "01 04") ≡ Err (TypeOutOfProfile 243))
+    × (strict_map (beside "f2" "01 04") ≡ Err (TypeOutOfProfile 242)) × (strict_map (beside "f2" "00") ≡ Err (TypeOutOfProfile 242))
+    × (strict_map (hex "02 f2 0c 01 05 02") ≡ Err (TypeOutOfProfile 242)) × (server_map (hex "02 f2 0c 01 05 02") ≡ Err BadMap)
+
+-- what a map has in the field of dimensions
+abbrev pub dimensions_said : Result Map MapFault → Option (List ℕ)
+dimensions_said (Err fault) = None
+dimensions_said (Ok map) = map.sections.fields.dimensions
+
+-- A server's map of an INT, a VECTOR(3) and a VECTOR(5). Of two fields of dimensions the last is read, and none is refused.
+abbrev pub Dimensions : Type 0
+Dimensions =
+    let map = hex "6a 00 00 00 00 00 01 00 01 64 00 01 74 00 03 03 f2 f2 02 04 04 06 01 01 00 02 01 3f 0d 02 03 05 04 07 02 69 64 01 76 01 77 08 01 00 0c 01 e0" in
+    (dimensions_said (map_at_by Server map) ≡ Some (hex "03 05")) × (map_at map ≡ Err (TypeOutOfProfile 242))
+    × (dimensions_said (map_at_by Server (map ++ hex "0d 03 fc 01 02")) ≡ Some (hex "fc 01 02"))
+    × (dimensions_said (map_at_by Server (map ++ hex "0d 00")) ≡ Some []) × (map_at_by Server (map ++ hex "0d 01") ≡ Err BadMap)
 
 -- ENUM and SET, with the names of their values and without them
 abbrev pub server_values : String → Result Map MapFault

@@ -1,6 +1,7 @@
 -- Bodies of rows events, and the rows that they say.
 use Prim.Native.String.{String}
 use Rattle.std.specs.Prelude.{◌≡◌, ℕ, pos, negsuc, List, [], ◌∷◌, ◌++◌, map, replicate, Option, Some, None, Result, Ok, Err}
+use Rattle.binlog_profile.specs.declared.profile.Profile.TheVariants.{Strict}
 use Rattle.binlog_table.specs.Columns.{columns_at}
 use Rattle.binlog_table.specs.Rows.{Row, rows_of}
 use Rattle.binlog_table.specs.Value.{Content}
@@ -29,7 +30,7 @@ under kind (Ok read) body = rows_of kind read.0 body
 -- what a body says under columns of these types, metadata and signs: a table id, flags and no extra data, then the text
 abbrev pub rows_by : ℕ → List ℕ → String → String → String → Option (List Row)
 rows_by kind types metadata signs text =
-    under kind (columns_at types (hex metadata) (hex signs) 0) (hex "64 00 00 00 00 00 01 00 02 00" ++ hex text)
+    under kind (columns_at Strict types (hex metadata) (hex signs) 0) (hex "64 00 00 00 00 00 01 00 02 00" ++ hex text)
 
 -- under so many columns of TINY UNSIGNED
 abbrev pub of_tiny : ℕ → ℕ → String → Option (List Row)
@@ -103,8 +104,8 @@ NoColumns = HasRows (of_tiny write 9 "09 00 00") [] × HasNone (of_tiny write 9 
 -- extra data, whose length counts its own two bytes
 abbrev pub ExtraData : Type 0
 ExtraData =
-    HasRows (under write (columns_at (types.tiny ∷ []) [] (hex "80") 0) (hex "64 00 00 00 00 00 01 00 05 00 aa bb cc 01 ff 00 07")) (new (uint 7 ∷ []) ∷ [])
-    × HasNone (under write (columns_at (types.tiny ∷ []) [] (hex "80") 0) (hex "64 00 00 00 00 00 01 00 01 00 01 ff 00 07"))
+    HasRows (under write (columns_at Strict (types.tiny ∷ []) [] (hex "80") 0) (hex "64 00 00 00 00 00 01 00 05 00 aa bb cc 01 ff 00 07")) (new (uint 7 ∷ []) ∷ [])
+    × HasNone (under write (columns_at Strict (types.tiny ∷ []) [] (hex "80") 0) (hex "64 00 00 00 00 00 01 00 01 00 01 ff 00 07"))
 
 -- ---- signedness
 

@@ -1,6 +1,7 @@
 -- Values of columns, alone, and what their bytes say.
 use Prim.Native.String.{String}
 use Rattle.std.specs.Prelude.{◌≡◌, ℕ, ◌-◌, pos, negsuc, true, false, List, [], ◌∷◌, ◌++◌, length, take, map, Option, Some, None, Result, Ok, Err, codes}
+use Rattle.binlog_profile.specs.declared.profile.Profile.TheVariants.{Strict}
 use Rattle.binlog_table.specs.Columns.{columns_at}
 use Rattle.binlog_table.specs.Image.{value_at}
 use Rattle.binlog_table.specs.Value.{Content}
@@ -21,7 +22,7 @@ by_columns (Ok read) bytes = by_first read.0 bytes
 
 -- what a column of this type, metadata and signedness reads from the front of the bytes, and how many of them it takes
 abbrev pub read_by : ℕ → String → List ℕ → List ℕ → Option (Content × ℕ)
-read_by type metadata signs bytes = by_columns (columns_at (type ∷ []) (hex metadata) signs 0) bytes
+read_by type metadata signs bytes = by_columns (columns_at Strict (type ∷ []) (hex metadata) signs 0) bytes
 
 -- these bytes are the value, whatever stands behind them, and with one byte less they are none
 abbrev pub Reads : ℕ → String → List ℕ → List ℕ → Content → Type 0

@@ -29,6 +29,7 @@ pub mod AllRows
 pub mod CellCounts
 pub mod Cursor
 pub mod DecimalDigitLists
+pub mod Vectors
 pub mod MapSteps
 pub mod ProfileMaps
 pub mod MapListReadings

@@ -1,6 +1,6 @@
 -- What the two profiles make of one table map.
-use Rattle.std.proofs.Common.{◌≡◌, ℕ, zero, suc, ◌+◌, ◌*◌, ◌++◌, ◌⊎◌, inl, inr, Bool, true, false, cond, not, ◌&&◌, leb, ltb, eqb, List, [], ◌∷◌, length, drop, Option, Some, None, Result, Ok, Err, refl, ap, sym, ◌∙◌, subst}
-use Rattle.std.specs.Prelude.{is_some, unwrap_or}
+use Rattle.std.proofs.Common.{◌≡◌, ℕ, zero, suc, ◌*◌, ◌++◌, ◌⊎◌, inl, inr, Bool, true, false, cond, not, ◌&&◌, ltb, eqb, List, [], ◌∷◌, length, drop, Option, Some, None, Result, Ok, Err, refl, ap, sym, ◌∙◌, subst}
+use Rattle.std.specs.Prelude.{unwrap_or}
 use Rattle.std.specs.List.{list_any}
 use Rattle.binlog_profile.specs.declared.profile.Profile.TheVariants.{Strict, Server}
 use Rattle.binlog_table.specs.declared.fault.MapFault.{MapFault}
@@ -8,42 +8,64 @@ use Rattle.binlog_table.specs.declared.fault.MapFault.TheVariants.{BadMap, TypeO
 use Rattle.binlog_table.specs.declared.column.Column.{Column}
 use Rattle.binlog_table.specs.declared.column.Layout.{Layout}
 use Rattle.binlog_table.specs.declared.column.Layout.TheVariants.{Enum, Set}
+use Rattle.binlog_table.specs.TypeCodes.{vector}
 use Rattle.binlog_table.specs.MapResult.{◌>>=◌}
-use Rattle.binlog_table.specs.Columns.{or_bad, plain_layout, has_byte, has_pair, byte_layout, bits_layout, decimal_layout, byte_at, pair_at, some_if, string_layout, real_type, string_len, pair_layout, metadata_layout, plain_or, layout_at, next_numeric, columns_at}
+use Rattle.binlog_table.specs.Columns.{or_bad, plain_layout, has_byte, has_pair, byte_layout, bits_layout, decimal_layout, byte_at, pair_at, string_layout, real_type, string_len, pair_layout, metadata_layout, plain_or, layout_at, stored_as, next_numeric, columns_at}
 use Rattle.binlog_table.specs.Fields.{is_utf8, text_of, number_at, string_at}
 use Rattle.binlog_table.specs.Names.{used_up, names_at, are_distinct, distinct_names, column_names, named, index_at, new_index, key_from, key_in, strings_at, list_in, value_names_of, value_names_at, value_names}
-use Rattle.binlog_table.specs.Map.{Sections, Map, signed_enough, sections_at, map_of_by, map_at_by, has_own_names}
+use Rattle.binlog_table.specs.Map.{Sections, Map, signed_enough, sections_at, map_of_by, map_at_by, is_strict}
 use Rattle.binlog_table.proofs.OnlyBadMap.{OnlyBad, then_bad, either_bad, or_bad-bad, number-bad, string-bad, sections-bad}
-use Rattle.binlog_table.proofs.FirstFaults.{bind_then}
-use Rattle.binlog_table.proofs.MapSteps.{same_by_names, strict_has_names, sections_kept}
+use Rattle.binlog_table.proofs.FirstFaults.{bind_then, ok_same}
+use Rattle.binlog_table.proofs.Vectors.{columns_alike}
+use Rattle.binlog_table.proofs.MapSteps.{strict_sections, sections_kept}
 
--- ---- the strict profile refuses a map for its missing names, or reads it as the server's does
+-- ---- the strict profile refuses a map for its missing names or a VECTOR, or reads it as the server's does
 
 abbrev AsStrict : {A : Type 0} → Result A MapFault → Result A MapFault → Type 0
-AsStrict strict server = (strict ≡ Err NoColumnNames) ⊎ (strict ≡ server)
+AsStrict strict server = (strict ≡ Err NoColumnNames) ⊎ ((strict ≡ Err (TypeOutOfProfile vector)) ⊎ (strict ≡ server))
 
 then_alike : {A B : Type 0} (r : Result A MapFault) (f g : A → Result B MapFault) → ((x : A) → AsStrict (f x) (g x)) → AsStrict (r >>= f) (r >>= g)
 then_alike (Ok x) f g h = h x
-then_alike (Err e) f g h = inr refl
+then_alike (Err e) f g h = inr (inr refl)
+
+columns_then : {B : Type 0} (types metadata signs : List ℕ) (f g : List Column × (List ℕ × ℕ) → Result B MapFault) → ((c : List Column × (List ℕ × ℕ)) → AsStrict (f c) (g c))
+    → AsStrict (columns_at Strict types metadata signs 0 >>= f) (columns_at Server types metadata signs 0 >>= g)
+columns_then {B = B} types metadata signs f g h = by_columns (columns_alike types metadata signs 0)
+  where
+    by_columns : (columns_at Strict types metadata signs 0 ≡ Err (TypeOutOfProfile vector)) ⊎ (columns_at Strict types metadata signs 0 ≡ columns_at Server types metadata signs 0)
+        → AsStrict (columns_at Strict types metadata signs 0 >>= f) (columns_at Server types metadata signs 0 >>= g)
+    by_columns (inl e) = inr (inl (rw e refl))
+    by_columns (inr e) = rw e (then_alike (columns_at Server types metadata signs 0) f g h)
+
+-- names that a map has are the same by both profiles
+named_alike : (count : ℕ) (field : List ℕ) (names : Option (List (List ℕ))) → column_names count (Some field) ≡ Ok names → named Strict count names ≡ named Server count names
+unfolding column_names
+named_alike count field names e =
+    bind_then (names_at count field) _ names e (λ r e1 k1. bind_then (used_up r.1) _ names k1 (λ u e2 k2. bind_then (distinct_names r.0) _ names k2 (λ known e3 k3. rw (← ok_same (Some known) names k3) refl)))
+
+then_known : {A B : Type 0} (r : Result A MapFault) (f g : A → Result B MapFault) → ((x : A) → r ≡ Ok x → AsStrict (f x) (g x)) → AsStrict (r >>= f) (r >>= g)
+then_known (Ok x) f g h = h x refl
+then_known (Err e) f g h = inr (inr refl)
 
 sections_alike : (s : Sections) → AsStrict (map_of_by Strict s) (map_of_by Server s)
 unfolding map_of_by column_names
 sections_alike s = by_field s.fields.names refl
   where
     by_field : (field : Option (List ℕ)) → s.fields.names ≡ field → AsStrict (map_of_by Strict s) (map_of_by Server s)
-    by_field (Some field) e = inr (sym (same_by_names s (ap is_some e)))
-    by_field None e = rw e (then_alike (key_in (length s.types) s.fields.key s.fields.prefix_key) _ _ (λ key. then_alike (columns_at s.types s.metadata (unwrap_or s.fields.signs []) 0) _ _ (λ c. then_alike (used_up c.1.0) _ _ (λ u. inl refl))))
+    by_field (Some field) e = rw e (then_known (column_names (length s.types) (Some field)) _ _ (λ names is. then_alike (key_in (length s.types) s.fields.key s.fields.prefix_key) _ _ (λ key.
+        columns_then s.types s.metadata (unwrap_or s.fields.signs []) _ _ (λ c. inr (inr (rw (named_alike (length s.types) field names is) refl))))))
+    by_field None e = rw e (then_alike (key_in (length s.types) s.fields.key s.fields.prefix_key) _ _ (λ key. columns_then s.types s.metadata (unwrap_or s.fields.signs []) _ _ (λ c. then_alike (used_up c.1.0) _ _ (λ u. inl refl))))
 
-pub alike : (body : List ℕ) → (map_at_by Strict body ≡ Err NoColumnNames) ⊎ (map_at_by Strict body ≡ map_at_by Server body)
+pub alike : (body : List ℕ) → AsStrict (map_at_by Strict body) (map_at_by Server body)
 unfolding map_at_by
 alike body = then_alike (sections_at body) (map_of_by Strict) (map_of_by Server) sections_alike
 
--- ---- the strict profile's maps have names
+-- ---- the strict profile's maps have names, and no VECTOR
 
-pub strict_is_named : (body : List ℕ) (map : Map) → map_at_by Strict body ≡ Ok map → has_own_names map ≡ true
+pub strict_is_named : (body : List ℕ) (map : Map) → map_at_by Strict body ≡ Ok map → is_strict map.sections ≡ true
 unfolding map_at_by
 strict_is_named body map e =
-    bind_then (sections_at body) (map_of_by Strict) map e (λ s e1 k1. ap (λ (t : Sections). is_some t.fields.names) (sections_kept Strict s map k1) ∙ strict_has_names s map k1)
+    bind_then (sections_at body) (map_of_by Strict) map e (λ s e1 k1. ap is_strict (sections_kept Strict s map k1) ∙ strict_sections s map k1)
 
 -- ---- the server's profile refuses none for its missing names
 
@@ -162,11 +184,11 @@ layout_other t metadata = by_plain (plain_layout t)
     by_plain (Some layout) = tt
     by_plain None = metadata_other t metadata
 
-columns_other : (types metadata signs : List ℕ) (j : ℕ) → Another (columns_at types metadata signs j)
+columns_other : (types metadata signs : List ℕ) (j : ℕ) → Another (columns_at Server types metadata signs j)
 unfolding columns_at
 columns_other [] metadata signs j = tt
 columns_other (t ∷ ts) metadata signs j =
-    then_other (layout_at t metadata) _ (layout_other t metadata) (λ l. then_other (columns_at ts (drop l.1 metadata) signs (next_numeric t j)) _ (columns_other ts (drop l.1 metadata) signs (next_numeric t j)) (λ r. tt))
+    then_other (layout_at (stored_as Server t) metadata) _ (layout_other (stored_as Server t) metadata) (λ l. then_other (columns_at Server ts (drop l.1 metadata) signs (next_numeric t j)) _ (columns_other ts (drop l.1 metadata) signs (next_numeric t j)) (λ r. tt))
 
 server_named : (count : ℕ) (names : Option (List (List ℕ))) → Another (named Server count names)
 server_named count None = tt
@@ -177,7 +199,7 @@ unfolding map_of_by
 server_of_other s =
     then_other (column_names (length s.types) s.fields.names) _ (bad_other _ (column_names_bad (length s.types) s.fields.names)) (λ names.
     then_other (key_in (length s.types) s.fields.key s.fields.prefix_key) _ (bad_other _ (key_bad (length s.types) s.fields.key s.fields.prefix_key)) (λ key.
-    then_other (columns_at s.types s.metadata (unwrap_or s.fields.signs []) 0) _ (columns_other s.types s.metadata (unwrap_or s.fields.signs []) 0) (λ c.
+    then_other (columns_at Server s.types s.metadata (unwrap_or s.fields.signs []) 0) _ (columns_other s.types s.metadata (unwrap_or s.fields.signs []) 0) (λ c.
     then_other (used_up c.1.0) _ (bad_other _ (used_up_bad c.1.0)) (λ left.
     then_other (named Server (length s.types) names) _ (server_named (length s.types) names) (λ known.
     then_other (signed_enough c.1.1 s.fields.signs) _ (bad_other _ (either_bad (ltb (8 * length (unwrap_or s.fields.signs [])) c.1.1) (Err BadMap) (Ok c.1.1) refl tt)) (λ signs.

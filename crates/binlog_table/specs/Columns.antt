@@ -1,13 +1,15 @@
 -- The columns of a table map: types, metadata, signedness (Table_map_event, "Table_table_map_event column types").
 use Rattle.std.specs.Prelude.{ℕ, ◌+◌, ◌*◌, ◌/◌, ◌%◌, ◌^◌, ◌-◌, Bool, ◌&&◌, ◌||◌, List, [], ◌∷◌, drop, slice_index, Option, Some, None, Result, Ok, Err, nat_le, ◌==◌, if◌then◌else◌}
 use Rattle.std.specs.Int.RustNames.{bit_and, bit_or, bit_xor}
+use Rattle.binlog_profile.specs.declared.profile.Profile.{Profile}
+use Rattle.binlog_profile.specs.declared.profile.Profile.TheVariants.{Strict, Server}
 use Rattle.binlog_table.specs.declared.fault.MapFault.{MapFault}
 use Rattle.binlog_table.specs.declared.fault.MapFault.TheVariants.{BadMap, TypeOutOfProfile}
 use Rattle.binlog_table.specs.declared.column.Column.{Column}
 use Rattle.binlog_table.specs.declared.column.Layout.{Layout}
 use Rattle.binlog_table.specs.declared.column.Layout.TheVariants.{Integer, Year, Date, Text, Raw, Float, Bits, Timestamp, DateTime, Time, Decimal, Enum, Set}
 use Rattle.binlog_table.specs.MapResult.{◌>>=◌}
-use Rattle.binlog_table.specs.TypeCodes.{tiny, short, long, float, double, longlong, int24, date, year, varchar, bit_type, timestamp2, datetime2, time2, json, newdecimal, enum, set, blob, var_string, string, geometry}
+use Rattle.binlog_table.specs.TypeCodes.{tiny, short, long, float, double, longlong, int24, date, year, varchar, bit_type, timestamp2, datetime2, time2, json, newdecimal, enum, set, blob, var_string, string, geometry, vector}
 
 -- ---- the layout of a type, by its metadata
 
@@ -98,6 +100,12 @@ plain_or None other = other
 unfoldable pub layout_at : ℕ → List ℕ → Result (Layout × ℕ) MapFault
 layout_at t metadata = plain_or (plain_layout t) (metadata_layout t metadata)
 
+-- By the server's profile a VECTOR stands in a row as a GEOMETRY does: bytes behind a length whose width is the metadata. The strict
+-- profile doesn't read the type.
+abbrev pub stored_as : Profile → ℕ → ℕ
+stored_as Strict t = t
+stored_as Server t = if t == vector then geometry else t
+
 -- ---- signedness
 
 -- The types that have a bit of signedness: TINY, SHORT, LONG, FLOAT, DOUBLE, LONGLONG, INT24 and NEWDECIMAL.
@@ -113,8 +121,8 @@ abbrev pub next_numeric : ℕ → ℕ → ℕ
 next_numeric t j = if is_numeric t then j + 1 else j
 
 -- the columns of these types, where j numeric ones stand in front of them; the metadata that is left, and how many are numeric
-unfoldable pub columns_at : List ℕ → List ℕ → List ℕ → ℕ → Result (List Column × (List ℕ × ℕ)) MapFault
-columns_at [] metadata signs j = Ok ([], (metadata, j))
-columns_at (t ∷ ts) metadata signs j =
-    layout_at t metadata >>= λ l. columns_at ts (drop l.1 metadata) signs (next_numeric t j) >>= λ r.
+unfoldable pub columns_at : Profile → List ℕ → List ℕ → List ℕ → ℕ → Result (List Column × (List ℕ × ℕ)) MapFault
+columns_at profile [] metadata signs j = Ok ([], (metadata, j))
+columns_at profile (t ∷ ts) metadata signs j =
+    layout_at (stored_as profile t) metadata >>= λ l. columns_at profile ts (drop l.1 metadata) signs (next_numeric t j) >>= λ r.
     Ok (record { layout = l.0; unsigned = is_numeric t && high_bit signs j } ∷ r.0, r.1)

@@ -37,7 +37,7 @@ name_at (n ∷ bytes) =
 
 -- The values of the fields that are read: 1 SIGNEDNESS, 4 COLUMN_NAME, 5 SET_STR_VALUE, 6 ENUM_STR_VALUE,
 -- 8 SIMPLE_PRIMARY_KEY, 9 PRIMARY_KEY_WITH_PREFIX; and of those of character sets, which no map is refused for: 2 DEFAULT_CHARSET,
--- 3 COLUMN_CHARSET, 10 ENUM_AND_SET_DEFAULT_CHARSET, 11 ENUM_AND_SET_COLUMN_CHARSET.
+-- 3 COLUMN_CHARSET, 10 ENUM_AND_SET_DEFAULT_CHARSET, 11 ENUM_AND_SET_COLUMN_CHARSET; nor for 13 VECTOR_DIMENSIONALITY.
 pub record Fields : Type 0 where
   pub signs : Option (List ℕ)
   pub names : Option (List ℕ)
@@ -49,6 +49,7 @@ pub record Fields : Type 0 where
   pub column_charset : Option (List ℕ)
   pub default_name_charset : Option (List ℕ)
   pub column_name_charset : Option (List ℕ)
+  pub dimensions : Option (List ℕ)
 
 abbrev pub no_fields : Fields
 no_fields = record {
@@ -62,19 +63,21 @@ no_fields = record {
   column_charset = None;
   default_name_charset = None;
   column_name_charset = None;
+  dimensions = None;
 }
 
--- a field of these types stands at most once, and only one of the two keys; of two of a character set the last is read
+-- a field of these types stands at most once, and only one of the two keys; of two of the others the last is read
 abbrev pub once : Option (List ℕ) → Fields → Result Fields MapFault
 once None fields = Ok fields
 once (Some value) fields = Err BadMap
 
-abbrev pub with_charset : Fields → ℕ → List ℕ → Fields
-with_charset f t value =
+abbrev pub with_other : Fields → ℕ → List ℕ → Fields
+with_other f t value =
     if t == 2 then record f { default_charset = Some value } else
     (if t == 3 then record f { column_charset = Some value } else
     (if t == 10 then record f { default_name_charset = Some value } else
-    (if t == 11 then record f { column_name_charset = Some value } else f)))
+    (if t == 11 then record f { column_name_charset = Some value } else
+    (if t == 13 then record f { dimensions = Some value } else f))))
 
 abbrev pub with_field : Fields → ℕ → List ℕ → Result Fields MapFault
 with_field f t value =
@@ -83,7 +86,7 @@ with_field f t value =
     (if t == 5 then once f.set_names (record f { set_names = Some value }) else
     (if t == 6 then once f.enum_names (record f { enum_names = Some value }) else
     (if t == 8 then (once f.prefix_key f >>= λ g. once f.key (record f { key = Some value })) else
-    (if t == 9 then (once f.key f >>= λ g. once f.prefix_key (record f { prefix_key = Some value })) else Ok (with_charset f t value))))))
+    (if t == 9 then (once f.key f >>= λ g. once f.prefix_key (record f { prefix_key = Some value })) else Ok (with_other f t value))))))
 
 -- Whether a field of a type can't be added.
 abbrev pub is_refused : Fields → ℕ → Bool

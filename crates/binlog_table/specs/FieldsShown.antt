@@ -15,4 +15,5 @@ fields_view f = record {
   column_charset = option_map (λ x. x.now) f.column_charset;
   default_name_charset = option_map (λ x. x.now) f.default_name_charset;
   column_name_charset = option_map (λ x. x.now) f.column_name_charset;
+  dimensions = option_map (λ x. x.now) f.dimensions;
 }

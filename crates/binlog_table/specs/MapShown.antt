@@ -3,7 +3,7 @@ use Rattle.std.specs.Prelude.{◌≡◌, map, Ok}
 use Rattle.binlog_profile.specs.declared.profile.Profile.TheVariants.{Server}
 use Rattle.std.specs.String.{string_bytes}
 use Rattle.binlog_table.specs.declared.table_map.TableMap.TheInside.{Inside}
-use Rattle.binlog_table.specs.Map.{Map, map_at_by, sections_at, sections_or, has_own_names}
+use Rattle.binlog_table.specs.Map.{Map, map_at_by, sections_at, sections_or, has_own_names, is_strict}
 use Rattle.binlog_table.specs.ListsShown.{AreFit}
 use Rattle.binlog_table.specs.ValueNamesShown.{names_view}
 
@@ -19,7 +19,9 @@ map_view m = record {
   sections = sections_or (sections_at m.body.items);
 }
 
--- The lists fit one another, and the body that is kept spells the map by the server's profile, and by the strict one, too, where it has
--- the names of its columns.
+-- The lists fit one another, and the body that is kept spells the map by the server's profile, and by the strict one, too, where that
+-- takes it in.
 abbrev pub IsKept : Inside → Type 0
-IsKept m = AreFit m.lists × (map_at_by Server m.body.items ≡ Ok (map_view m)) × (m.named ≡ has_own_names (map_view m))
+IsKept m =
+    AreFit m.lists × (map_at_by Server m.body.items ≡ Ok (map_view m)) × (m.named ≡ has_own_names (map_view m))
+    × (m.strict ≡ is_strict (map_view m).sections)

@@ -57,6 +57,10 @@ datetime2 = 18
 abbrev pub time2 : ℕ
 time2 = 19
 
+-- VECTOR, of servers from 9.0 on
+abbrev pub vector : ℕ
+vector = 242
+
 -- JSON
 abbrev pub json : ℕ
 json = 245

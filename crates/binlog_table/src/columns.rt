@@ -2,7 +2,7 @@
 ghost use Rattle.std.specs.Prelude.{◌≡◌, ◌≤◌, ◌<◌, ◌^◌, ◌&&◌, ◌+◌, length, vec_len, option_map, is_some, true, IfOk};
 ghost use Rattle.binlog_table.specs.MapReads.{bytes_if};
 ghost use Rattle.binlog_table.specs.MapResult.{Gives, GivesExactly};
-ghost use Rattle.binlog_table.specs.Columns.{is_numeric, high_bit, next_numeric, columns_at};
+ghost use Rattle.binlog_table.specs.Columns.{is_numeric, high_bit, next_numeric, columns_at, stored_as};
 ghost use Rattle.binlog_table.specs.Map.{are_named, columns_in, columns_stand};
 ghost use Rattle.binlog_table.specs.SectionsShown.{sections_view};
 
@@ -10,7 +10,9 @@ use crate::column::Column;
 use crate::fault::{MapFault, given};
 use crate::layout::layout_at;
 use crate::sections::Sections;
-use crate::type_code::{DOUBLE, FLOAT, INT24, LONG, LONGLONG, NEWDECIMAL, SHORT, TINY};
+use crate::type_code::{
+    DOUBLE, FLOAT, GEOMETRY, INT24, LONG, LONGLONG, NEWDECIMAL, SHORT, TINY, VECTOR,
+};
 use binlog_profile::Profile;
 use std::alloc::Global;
 
@@ -54,21 +56,32 @@ fn next_numeric(code: u8, numeric: usize) -> usize
     }
 }
 
+/// The type as which one stands in a row by a profile.
+fn stored_as(profile: Profile, code: u8) -> u8
+    ensures { result ≡ stored_as profile code }
+{
+    match profile {
+        Profile::Server if code == VECTOR => GEOMETRY,
+        Profile::Strict | Profile::Server => code,
+    }
+}
+
 /// The columns of these types, the metadata that is left, and how many are numeric.
 pub(crate) fn columns_of<'a>(
     alloc: Global,
+    profile: Profile,
     types: &[u8],
     metadata: &'a [u8],
     signs: &[u8],
 ) -> Result<(Vec<Column>, &'a [u8], usize), MapFault>
-    ensures columns { Gives (λ x. (x.0.items, (x.1.now, x.2))) result (columns_at types.now metadata.now signs.now 0) }
+    ensures columns { Gives (λ x. (x.0.items, (x.1.now, x.2))) result (columns_at profile types.now metadata.now signs.now 0) }
     ensures count { IfOk result (λ x. vec_len x.0 ≡ length types.now) }
 {
     let mut columns = Vec::with_capacity(alloc, types.len())?;
     let mut rest = metadata;
     let mut numeric = 0;
     for code in types {
-        let (layout, len) = given!(layout_at(*code, rest));
+        let (layout, len) = given!(layout_at(stored_as(profile, *code), rest));
         let unsigned = is_unsigned(*code, signs, numeric);
         columns.push(Column { layout, unsigned })?;
         numeric = next_numeric(*code, numeric);
@@ -114,6 +127,7 @@ pub(crate) fn columns_in(
     let signs = fields.signs.unwrap_or(&[]);
     let (columns, left, numeric) = given!(columns_of(
         alloc,
+        profile,
         sections.types,
         sections.metadata,
         signs

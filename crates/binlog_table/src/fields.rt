@@ -30,6 +30,8 @@ pub struct Fields<'a> {
     pub default_name_charset: Option<&'a [u8]>,
     /// The collation of the names of values in each ENUM and SET column.
     pub column_name_charset: Option<&'a [u8]>,
+    /// The dimensions of VECTOR columns.
+    pub dimensions: Option<&'a [u8]>,
 }
 
 /// So many bytes, and those after them.
@@ -120,6 +122,7 @@ fn with_field<'a>(fields: Fields<'a>, kind: u8, value: &'a [u8]) -> Result<Field
         3 => fields.column_charset = Some(value),
         10 => fields.default_name_charset = Some(value),
         11 => fields.column_name_charset = Some(value),
+        13 => fields.dimensions = Some(value),
         _ => {}
     }
     Ok(fields)
@@ -140,6 +143,7 @@ pub(crate) fn fields_of(bytes: &[u8]) -> Result<Fields<'_>, MapFault>
         column_charset: None,
         default_name_charset: None,
         column_name_charset: None,
+        dimensions: None,
     };
     let mut rest = bytes;
     while let [kind, after @ ..] = rest {

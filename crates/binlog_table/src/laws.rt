@@ -78,8 +78,8 @@ pub fn value_names_are_read()
         AreNameLists lists value → AreNameLists others value → lists ≡ others }
 {}
 
-/// The strict profile refuses the table maps that lack the names of their columns, and reads all others as the server's does. The server's
-/// refuses none for that.
+/// The strict profile refuses the table maps that lack the names of their columns, and those with a VECTOR, and reads all others as the
+/// server's does. The server's refuses none for missing names.
 pub fn profiles_read_maps()
     ensures alike { StrictOrAlike }
     ensures named { StrictIsNamed }

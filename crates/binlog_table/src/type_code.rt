@@ -42,6 +42,9 @@ pub const DATETIME2: u8 = 18;
 /// TIME with a fraction of a second.
 pub const TIME2: u8 = 19;
 
+/// VECTOR, of servers from 9.0 on.
+pub const VECTOR: u8 = 242;
+
 /// JSON.
 pub const JSON: u8 = 245;
 

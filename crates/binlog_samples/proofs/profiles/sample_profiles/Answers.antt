@@ -1,7 +1,7 @@
 use Rattle.std.proofs.Common.{refl, ap, sym, ◌∙◌, List, ◌++◌, Bool, true, Result, Ok, Err}
 use Rattle.std.proofs.lemmas.List.{append-nil}
 use Rattle.binlog_profile.specs.declared.profile.Profile.TheVariants.{Strict}
-use Rattle.binlog_table.specs.Map.{Map, has_own_names}
+use Rattle.binlog_table.specs.Map.{Map, is_strict}
 use Rattle.binlog_table.specs.declared.fault.MapFault.{MapFault}
 use Rattle.binlog_feed.specs.Changes.{RowChange}
 use Rattle.binlog_feed.specs.Feeds.{changes}
@@ -21,7 +21,7 @@ unfolding on_bytes
 returns-clause-reads_named c law map e = law (body_of first_map) map e (ap own (sym e))
   where
     own : Result Map MapFault → Bool
-    own (Ok map) = has_own_names map
+    own (Ok map) = is_strict map.sections
     own (Err fault) = true
 
 pub returns-clause-agrees_on_both : goal.returns-clause-agrees_on_both

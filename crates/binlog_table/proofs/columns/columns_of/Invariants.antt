@@ -7,5 +7,5 @@ abbrev pub invariant-loop-code : goal.invariant-loop-code
 invariant-loop-code l = record {
   count : vec_len l.columns ≡ l.code-index;
   numeric : l.numeric ≤ l.code-index;
-  read : prepended l.columns.items (columns_at (drop l.code-index l.types) l.rest l.signs l.numeric) ≡ columns_at l.types l.metadata l.signs 0;
+  read : prepended l.columns.items (columns_at l.profile (drop l.code-index l.types) l.rest l.signs l.numeric) ≡ columns_at l.profile l.types l.metadata l.signs 0;
 }
