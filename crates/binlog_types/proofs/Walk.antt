@@ -1,12 +1,12 @@
 -- The loop over a table's columns.
-use Rattle.std.proofs.Common.{◌≡◌, ℕ, ◌+◌, ◌<◌, Bool, ◌&&◌, cond, Bor, List, [], length, map, get_or, take, drop, count_by, Option, Some, None, option_map, unwrap_or, sym, ap, ap₂, ◌∙◌, arith}
+use Rattle.std.proofs.Common.{◌≡◌, ℕ, ◌+◌, ◌<◌, Bool, ◌&&◌, cond, Bor, List, [], length, map, get_or, take, drop, count_by, Option, Some, None, option_map, unwrap_or, refl, sym, ap, ap₂, ◌∙◌, arith}
 use Rattle.std.proofs.lemmas.List.{drop-drop}
 use Rattle.std.proofs.lemmas.List.FromFn.{get_or-map-range_with_len, length-map-range_with_len, sum_by-map-range_with_len_more}
 use Rattle.std.proofs.lemmas.List.Sums.{count_by-le-length, sum_by_more}
 use Rattle.std.specs.List.{range_with_len}
 use Rattle.binlog_table.specs.Columns.{high_bit}
 use Rattle.binlog_table.specs.Map.{Sections}
-use Rattle.binlog_types.specs.ColumnTypes.{Collations, metadata_len, has_sign, is_text, is_named, column_type, metadata_at, code_at, collation_at, collations_of, text_collations, name_collations, collation_of, type_at}
+use Rattle.binlog_types.specs.ColumnTypes.{Collations, metadata_len, has_sign, is_text, is_named, is_vector, column_type, metadata_at, dimensions_in, dimensions_of, code_at, collation_at, collations_of, text_collations, name_collations, collation_of, type_at}
 use Rattle.binlog_types.specs.Found.{listed_collation}
 use Rattle.binlog_types.specs.declared.types.Seen.{Seen}
 
@@ -15,9 +15,9 @@ pub unwrapped : (o : Option (Bor (List ℕ))) (none r : Bor (List ℕ)) (s : Opt
 unwrapped None none r s empty r_is s_is = ap (λ (b : Bor (List ℕ)). b.now) r_is ∙ (empty ∙ ap (λ (t : Option (List ℕ)). unwrap_or t []) s_is)
 unwrapped (Some b) none r s empty r_is s_is = ap (λ (b : Bor (List ℕ)). b.now) r_is ∙ ap (λ (t : Option (List ℕ)). unwrap_or t []) s_is
 
-pub signs_more : (s : Sections) (i code n : ℕ) → i < length s.types → code ≡ get_or s.types i 0 → n ≡ count_by has_sign (take i s.types)
-    → n + cond (has_sign code) 1 0 ≡ count_by has_sign (take (i + 1) s.types)
-signs_more s i code n below code_is n_is = rw (code_is, n_is) (sym (sum_by_more (λ (x : ℕ). cond (has_sign x) 1 0) s.types i 0 below))
+pub taken_more : (p : ℕ → Bool) (s : Sections) (i code n : ℕ) → i < length s.types → code ≡ get_or s.types i 0 → n ≡ count_by p (take i s.types)
+    → n + cond (p code) 1 0 ≡ count_by p (take (i + 1) s.types)
+taken_more p s i code n below code_is n_is = rw (code_is, n_is) (sym (sum_by_more (λ (x : ℕ). cond (p x) 1 0) s.types i 0 below))
 
 pub count_more : (p : ℕ → Bool) (s : Sections) (i real n : ℕ) → real ≡ code_at s i → n ≡ count_by p (map (code_at s) (range_with_len 0 i))
     → n + cond (p real) 1 0 ≡ count_by p (map (code_at s) (range_with_len 0 (i + 1)))
@@ -56,7 +56,12 @@ collations_listed each usual e u list count n list_is each_is usual_is count_is 
     list_is ∙ (ap₂ (λ (a b : List ℕ). map (collation_at (collations_of a b)) (range_with_len 0 count)) each_is usual_is ∙ ap (λ (k : ℕ). map (collation_at (collations_of (unwrap_or e []) (unwrap_or u []))) (range_with_len 0 k)) count_is)
 
 -- the type of a column, by what its parts are
-pub type_found : (s : Sections) (i code : ℕ) (rest signs : List ℕ) (n : ℕ) (collation : Option ℕ) → code ≡ get_or s.types i 0 → rest ≡ metadata_at s i → signs ≡ unwrap_or s.fields.signs []
-    → n ≡ count_by has_sign (take i s.types) → collation ≡ collation_of s i
-    → column_type code rest (has_sign code && high_bit signs n) collation ≡ type_at s i
-type_found s i code rest signs n collation code_is rest_is signs_are n_is collation_is = rw (code_is, rest_is, signs_are, n_is, collation_is)
+pub type_found : (s : Sections) (i code : ℕ) (rest signs : List ℕ) (n dimensions : ℕ) (collation : Option ℕ) → code ≡ get_or s.types i 0 → rest ≡ metadata_at s i → signs ≡ unwrap_or s.fields.signs []
+    → n ≡ count_by has_sign (take i s.types) → dimensions ≡ dimensions_of s i → collation ≡ collation_of s i
+    → column_type code rest dimensions (has_sign code && high_bit signs n) collation ≡ type_at s i
+type_found s i code rest signs n dimensions collation code_is rest_is signs_are n_is dimensions_are collation_is = rw (code_is, rest_is, signs_are, n_is, dimensions_are, collation_is)
+
+-- a field is the one of the sections
+pub dimensions_found : (s : Sections) (field : Option (List ℕ)) (numbers : List ℕ) (i n number : ℕ) → numbers ≡ dimensions_in field → field ≡ s.fields.dimensions → n ≡ count_by is_vector (take i s.types)
+    → number ≡ get_or numbers n 0 → number ≡ dimensions_of s i
+dimensions_found s field numbers i n number numbers_are field_is n_is number_is = number_is ∙ rw (numbers_are, field_is, n_is) refl

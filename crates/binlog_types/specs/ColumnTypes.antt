@@ -1,13 +1,13 @@
 -- The types of a table's columns as a server declares them, by the sections of the body of its table map. Which field has what:
 -- `Optional_metadata_field_type` in MySQL's `Table_map_event`; how a server writes them: `sql/log_event.cc`.
-use Rattle.std.specs.Prelude.{ℕ, zero, suc, ◌+◌, ◌*◌, Bool, ◌&&◌, ◌||◌, List, [], ◌∷◌, length, drop, take, map, count_by, sum_by, slice_get, slice_index, Option, Some, None, option_map, option_and_then, unwrap_or, ◌==◌, if◌then◌else◌}
+use Rattle.std.specs.Prelude.{ℕ, zero, suc, ◌+◌, ◌*◌, Bool, ◌&&◌, ◌||◌, List, [], ◌∷◌, length, drop, take, map, count_by, sum_by, slice_get, slice_index, Option, Some, None, option_map, option_and_then, unwrap_or, nat_lt, ◌==◌, if◌then◌else◌}
 use Rattle.std.specs.List.{range_with_len}
 use Rattle.std.specs.Option.{option_or}
 use Rattle.binlog_table.specs.Packed.{packed_at}
 use Rattle.binlog_table.specs.Columns.{has_byte, has_pair, is_numeric, high_bit, real_type, string_len}
 use Rattle.binlog_table.specs.Fields.{Fields}
 use Rattle.binlog_table.specs.Map.{Sections}
-use Rattle.binlog_table.specs.TypeCodes.{year, varchar, bit_type, newdecimal, enum, set, blob, var_string, string}
+use Rattle.binlog_table.specs.TypeCodes.{year, varchar, bit_type, newdecimal, enum, set, blob, var_string, string, vector}
 use Rattle.binlog_types.specs.Charsets.{charset_of}
 use Rattle.binlog_types.specs.declared.column_type.ColumnType.{ColumnType}
 
@@ -49,17 +49,20 @@ name_collations fields = collations_of (unwrap_or fields.column_name_charset [])
 
 -- ---- what a type and its metadata say
 
+abbrev pub is_vector : ℕ → Bool
+is_vector t = t == vector
+
 -- how many bytes of metadata a type has
 abbrev pub metadata_len : ℕ → ℕ
-metadata_len t = if has_byte t then 1 else (if has_pair t then 2 else 0)
+metadata_len t = if has_byte t || is_vector t then 1 else (if has_pair t then 2 else 0)
 
 -- Real servers give a bit of signedness to the numeric types and to YEAR.
 abbrev pub has_sign : ℕ → Bool
 has_sign t = is_numeric t || t == year
 
--- VARCHAR, VAR_STRING, BLOB and STRING have a character set, and ENUM and SET have theirs
+-- VARCHAR, VAR_STRING, BLOB and STRING have a character set, and so has a VECTOR, whose one is binary; ENUM and SET have theirs
 abbrev pub is_text : ℕ → Bool
-is_text real = real == varchar || (real == var_string || (real == blob || real == string))
+is_text real = real == varchar || (real == var_string || (real == blob || (real == string || is_vector real)))
 
 abbrev pub is_named : ℕ → Bool
 is_named real = real == enum || real == set
@@ -83,10 +86,14 @@ size_of t metadata =
 abbrev pub scale_of : ℕ → List ℕ → ℕ
 scale_of t metadata = if t == newdecimal then slice_index metadata 1 else 0
 
-abbrev pub column_type : ℕ → List ℕ → Bool → Option ℕ → ColumnType
-column_type t metadata unsigned collation = record {
+-- how many numbers a VECTOR has; 0 says that this isn't known
+abbrev pub in_two_bytes : ℕ → ℕ
+in_two_bytes dimensions = if nat_lt dimensions 65536 then dimensions else 0
+
+abbrev pub column_type : ℕ → List ℕ → ℕ → Bool → Option ℕ → ColumnType
+column_type t metadata dimensions unsigned collation = record {
   code = code_of t metadata;
-  size = size_of t metadata;
+  size = if is_vector t then in_two_bytes dimensions else size_of t metadata;
   scale = scale_of t metadata;
   unsigned = unsigned;
   charset = option_and_then charset_of collation;
@@ -113,8 +120,15 @@ collation_of s n =
     if is_text (code_at s n) then collation_at (text_collations s.fields) (count_by is_text front) else
     (if is_named (code_at s n) then collation_at (name_collations s.fields) (count_by is_named front) else None)
 
+-- The field of dimensions has a number for each VECTOR, in order.
+abbrev pub dimensions_in : Option (List ℕ) → List ℕ
+dimensions_in field = numbers_in (unwrap_or field [])
+
+abbrev pub dimensions_of : Sections → ℕ → ℕ
+dimensions_of s n = slice_index (dimensions_in s.fields.dimensions) (count_by is_vector (take n s.types))
+
 abbrev pub type_at : Sections → ℕ → ColumnType
-type_at s n = column_type (slice_index s.types n) (metadata_at s n) (is_unsigned s n) (collation_of s n)
+type_at s n = column_type (slice_index s.types n) (metadata_at s n) (dimensions_of s n) (is_unsigned s n) (collation_of s n)
 
 -- the types of all columns
 unfoldable pub types_of : Sections → List ColumnType

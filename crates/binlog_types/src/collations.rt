@@ -7,7 +7,7 @@ use binlog_table::packed_at;
 use std::alloc::{AllocError, Global};
 
 /// The packed numbers that stand one after another, and no more than so many.
-fn numbers_from(alloc: Global, most: usize, bytes: &[u8]) -> Result<Vec<u64>, AllocError>
+pub(crate) fn numbers_from(alloc: Global, most: usize, bytes: &[u8]) -> Result<Vec<u64>, AllocError>
     ensures { IfOk result (λ v. v.items ≡ numbers_from most bytes.now) }
 {
     let mut numbers = Vec::new(alloc);

@@ -8,7 +8,7 @@ pub struct ColumnType {
     /// The type's number, for CHAR, BINARY, ENUM and SET the real one.
     pub code: u8,
     /// The greatest length of CHAR, BINARY and VARCHAR in bytes, the bits of BIT, the digits of DECIMAL, those of a fraction of a
-    /// second, the bytes of the length of a BLOB. Of other types it is what the metadata has there, or 0.
+    /// second, the bytes of the length of a BLOB, the numbers of a VECTOR. Of other types it is what the metadata has there, or 0.
     pub size: u16,
     /// The digits of DECIMAL behind the point.
     pub scale: u8,

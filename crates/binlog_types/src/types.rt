@@ -1,17 +1,18 @@
 //! The types of a table's columns, from the left.
 ghost use Rattle.std.specs.Prelude.{◌≡◌, ◌+◌, ◌<◌, ◌^◌, ◌&&◌, None, slice_index, slice_index_or, IfOk, if◌then◌else◌};
 ghost use Rattle.binlog_table.specs.Columns.{has_byte, has_pair, high_bit};
-ghost use Rattle.binlog_types.specs.ColumnTypes.{metadata_len, has_sign, is_text, is_named, code_of, size_of, scale_of, column_type, types_of};
+ghost use Rattle.binlog_table.specs.MapReads.{bytes_if};
+ghost use Rattle.binlog_types.specs.ColumnTypes.{metadata_len, has_sign, is_text, is_named, is_vector, code_of, size_of, scale_of, in_two_bytes, dimensions_in, column_type, types_of};
 ghost use Rattle.binlog_types.specs.Found.{listed_collation};
 
 use crate::charsets::charset_of;
-use crate::collations::collations_of;
+use crate::collations::{collations_of, numbers_from};
 use crate::column_type::ColumnType;
-use binlog_table::TableMap;
 use binlog_table::type_code::{
     BIT, BLOB, DATETIME2, DOUBLE, ENUM, FLOAT, GEOMETRY, INT24, JSON, LONG, LONGLONG, NEWDECIMAL,
-    SET, SHORT, STRING, TIME2, TIMESTAMP2, TINY, VAR_STRING, VARCHAR, YEAR,
+    SET, SHORT, STRING, TIME2, TIMESTAMP2, TINY, VAR_STRING, VARCHAR, VECTOR, YEAR,
 };
+use binlog_table::{Fields, TableMap};
 use std::alloc::{AllocError, Global};
 
 fn has_byte(code: u8) -> bool
@@ -42,7 +43,7 @@ fn has_sign(code: u8) -> bool
 fn is_text(code: u8) -> bool
     ensures { result ≡ is_text code }
 {
-    matches!(code, VARCHAR | VAR_STRING | BLOB | STRING)
+    matches!(code, VARCHAR | VAR_STRING | BLOB | STRING | VECTOR)
 }
 
 fn is_named(code: u8) -> bool
@@ -51,11 +52,17 @@ fn is_named(code: u8) -> bool
     matches!(code, ENUM | SET)
 }
 
+fn is_vector(code: u8) -> bool
+    ensures { result ≡ is_vector code }
+{
+    code == VECTOR
+}
+
 /// How many bytes of metadata a type has.
 fn metadata_len(code: u8) -> usize
     ensures { result ≡ metadata_len code }
 {
-    if has_byte(code) {
+    if has_byte(code) || is_vector(code) {
         1
     } else if has_pair(code) {
         2
@@ -100,10 +107,10 @@ fn size_of(code: u8, metadata: &[u8]) -> u16
         VARCHAR | VAR_STRING => u16::from(first) + 256 * u16::from(second),
         BIT => u16::from(first) + 8 * u16::from(second),
         _ => {
-            if metadata_len(code) == 0 {
-                0
-            } else {
+            if has_byte(code) || has_pair(code) {
                 u16::from(first)
+            } else {
+                0
             }
         }
     }
@@ -136,13 +143,34 @@ fn is_unsigned(code: u8, signs: &[u8], place: usize) -> bool
     has_sign(code) && high_bit(signs, place)
 }
 
-/// A column's type, by its type and metadata in the map, its sign and its collation.
-fn column_type(code: u8, metadata: &[u8], unsigned: bool, collation: Option<u64>) -> ColumnType
-    ensures { result ≡ column_type code metadata.now unsigned collation }
+/// A number of dimensions, or 0 where it takes more than two bytes.
+fn in_two_bytes(dimensions: u64) -> u16
+    ensures { result ≡ in_two_bytes dimensions }
+{
+    if dimensions < 65_536 {
+        dimensions as u16
+    } else {
+        0
+    }
+}
+
+/// A column's type, by its type and metadata in the map, its dimensions, its sign and its collation.
+fn column_type(
+    code: u8,
+    metadata: &[u8],
+    dimensions: u64,
+    unsigned: bool,
+    collation: Option<u64>,
+) -> ColumnType
+    ensures { result ≡ column_type code metadata.now dimensions unsigned collation }
 {
     ColumnType {
         code: code_of(code, metadata),
-        size: size_of(code, metadata),
+        size: if is_vector(code) {
+            in_two_bytes(dimensions)
+        } else {
+            size_of(code, metadata)
+        },
         scale: scale_of(code, metadata),
         unsigned,
         charset: match collation {
@@ -152,12 +180,26 @@ fn column_type(code: u8, metadata: &[u8], unsigned: bool, collation: Option<u64>
     }
 }
 
-/// How many columns were seen that have a bit of signedness, a character set, names of values.
+/// How many columns were seen that have a bit of signedness, a character set, names of values, dimensions.
 #[derive(Clone, Copy)]
 struct Seen {
     signs: usize,
     texts: usize,
     names: usize,
+    vectors: usize,
+}
+
+impl Seen {
+    fn none() -> Seen
+        ensures { result ≡ record { signs = 0; texts = 0; names = 0; vectors = 0 } }
+    {
+        Seen {
+            signs: 0,
+            texts: 0,
+            names: 0,
+            vectors: 0,
+        }
+    }
 }
 
 fn listed(collations: &[Option<u64>], index: usize) -> Option<u64>
@@ -189,10 +231,12 @@ fn listed_collation(
 
 /// How many were seen behind one more column, of which its type in the map and the real one are given.
 fn behind(code: u8, real: u8, seen: Seen) -> Seen
-    requires { (seen.signs + 1 < 2 ^ 64) × (seen.texts + 1 < 2 ^ 64) × (seen.names + 1 < 2 ^ 64) }
+    requires texts { (seen.signs + 1 < 2 ^ 64) × (seen.texts + 1 < 2 ^ 64) × (seen.names + 1 < 2 ^ 64) }
+    requires vectors { seen.vectors + 1 < 2 ^ 64 }
     ensures signs { result.signs ≡ seen.signs + (if has_sign code then 1 else 0) }
     ensures texts { result.texts ≡ seen.texts + (if is_text real then 1 else 0) }
     ensures names { result.names ≡ seen.names + (if is_named real then 1 else 0) }
+    ensures vectors { result.vectors ≡ seen.vectors + (if is_vector code then 1 else 0) }
 {
     Seen {
         signs: if has_sign(code) {
@@ -210,6 +254,29 @@ fn behind(code: u8, real: u8, seen: Seen) -> Seen
         } else {
             seen.names
         },
+        vectors: if is_vector(code) {
+            seen.vectors + 1
+        } else {
+            seen.vectors
+        },
+    }
+}
+
+/// The numbers of dimensions, in the order of the VECTORs.
+fn dimensions_in(alloc: Global, fields: &Fields<'_>) -> Result<Vec<u64>, AllocError>
+    ensures { IfOk result (λ v. v.items ≡ dimensions_in (bytes_if fields.now.dimensions)) }
+{
+    let bytes = fields.dimensions.unwrap_or(&[]);
+    numbers_from(alloc, bytes.len(), bytes)
+}
+
+/// A number of a list, or 0.
+fn number_at(numbers: &[u64], place: usize) -> u64
+    ensures { result ≡ slice_index numbers.now place }
+{
+    match numbers.get(place) {
+        Some(number) => *number,
+        None => 0,
     }
 }
 
@@ -233,18 +300,16 @@ pub fn types_of(alloc: Global, map: &TableMap) -> Result<Vec<ColumnType>, AllocE
         fields.column_name_charset.unwrap_or(&[]),
         fields.default_name_charset.unwrap_or(&[]),
     )?;
+    let dimensions = dimensions_in(alloc, fields)?;
     let mut columns = Vec::with_capacity(alloc, count)?;
     let mut rest = sections.metadata;
-    let mut seen = Seen {
-        signs: 0,
-        texts: 0,
-        names: 0,
-    };
+    let mut seen = Seen::none();
     for code in sections.types {
         let real = code_of(*code, rest);
         let unsigned = is_unsigned(*code, signs, seen.signs);
         let collation = listed_collation(real, &texts, &names, seen);
-        columns.push(column_type(*code, rest, unsigned, collation))?;
+        let own = number_at(&dimensions, seen.vectors);
+        columns.push(column_type(*code, rest, own, unsigned, collation))?;
         seen = behind(*code, real, seen);
         rest = &rest[metadata_len(*code).min(rest.len())..];
     }

@@ -4,8 +4,8 @@ use Rattle.std.proofs.lemmas.List.FromFn.{map-range_with_len_more}
 use Rattle.std.specs.List.{range_with_len}
 use Rattle.binlog_table.specs.Map.{Sections}
 use Rattle.binlog_types.specs.declared.column_type.ColumnType.{ColumnType}
-use Rattle.binlog_types.specs.ColumnTypes.{is_text, is_named, code_of, column_type, code_at, collation_of, type_at, types_of}
-use Rattle.binlog_types.proofs.Walk.{unwrapped, signs_more, count_more, metadata_more, collations_listed, collation_listed, type_found}
+use Rattle.binlog_types.specs.ColumnTypes.{has_sign, is_text, is_named, is_vector, code_of, column_type, code_at, collation_of, type_at, types_of}
+use Rattle.binlog_types.proofs.Walk.{unwrapped, taken_more, dimensions_found, count_more, metadata_more, collations_listed, collation_listed, type_found}
 use Rattle.binlog_types.proofs.types.types_of.Goals as goal
 
 pub loop-code-preserved : goal.loop-code-preserved
@@ -29,13 +29,16 @@ loop-code-preserved c =
     let signs = unwrapped fields.signs _ _ s.fields.signs refl c.unwrap_or-signs.ensures (ap (λ (x : Sections). x.fields.signs) is) in
     let collation : c.listed_collation-collation.result ≡ collation_of s i =
     c.listed_collation-collation.ensures ∙ collation_listed s _ _ i c.code_of-real.result c.loop-code.seen below real (c.deref.ensures.value ∙ texts) (c.deref-in-loop-code.ensures.value ∙ names) so_far.texts so_far.names in
+    let own = dimensions_found s _ c.in_ok-dimensions.dimensions.items i c.loop-code.seen.vectors c.number_at-own.result c.in_ok-dimensions.ensures
+    (ap (λ (x : Sections). x.fields.dimensions) is) so_far.vectors (rw c.deref-in-loop-code-2.ensures.value at c.number_at-own.ensures) in
     let found : c.column_type.result ≡ type_at s i =
-    c.column_type.ensures ∙ (ap (λ (u : Bool). column_type (get_or c.sections-sections.result.types.now i 0) c.loop-code.rest.now u c.listed_collation-collation.result) c.is_unsigned-unsigned.ensures
-    ∙ type_found s i _ c.loop-code.rest.now _ c.loop-code.seen.signs c.listed_collation-collation.result code so_far.rest signs so_far.signs collation) in
+    c.column_type.ensures ∙ (ap (λ (u : Bool). column_type (get_or c.sections-sections.result.types.now i 0) c.loop-code.rest.now c.number_at-own.result u c.listed_collation-collation.result) c.is_unsigned-unsigned.ensures
+    ∙ type_found s i _ c.loop-code.rest.now _ c.loop-code.seen.signs c.number_at-own.result c.listed_collation-collation.result code so_far.rest signs so_far.signs own collation) in
     record {
-      signs = c.behind-seen.ensures.signs ∙ signs_more s i _ c.loop-code.seen.signs below code so_far.signs;
+      signs = c.behind-seen.ensures.signs ∙ taken_more has_sign s i _ c.loop-code.seen.signs below code so_far.signs;
       texts = c.behind-seen.ensures.texts ∙ count_more is_text s i c.code_of-real.result c.loop-code.seen.texts real so_far.texts;
       names = c.behind-seen.ensures.names ∙ count_more is_named s i c.code_of-real.result c.loop-code.seen.names real so_far.names;
+      vectors = c.behind-seen.ensures.vectors ∙ taken_more is_vector s i _ c.loop-code.seen.vectors below code so_far.vectors;
       rest = rw (take_rest c.loop-code.rest.now c.min.result, c.min.ensures, c.metadata_len.ensures, drop_min _ c.loop-code.rest.now) (metadata_more s i _ c.loop-code.rest.now below code so_far.rest);
       read = c.in_ok-push.ensures.items ∙ (ap₂ (λ (l : List ColumnType) (t : ColumnType). l ++ t ∷ []) so_far.read found ∙ sym (map-range_with_len_more (type_at s) 0 i i (omega arith)));
     }
