@@ -24,4 +24,5 @@ pub mod FullLines
 pub mod Charsets
 pub mod TypeLists
 pub mod RawTexts
+pub mod FloatLists
 pub mod JsonNulls

@@ -1,9 +1,10 @@
 -- What a column's value is in a full line: by the type that the server declared, with the sign and the character set.
-use Rattle.std.specs.Prelude.{ℕ, ◌-◌, ◌/◌, ℤ, pos, negsuc, Bool, List, [], ◌∷◌, ◌++◌, length, replicate, slice_index_or, ◌||◌, Option, Some, None, nat_le, ◌==◌, codes, if◌then◌else◌}
+use Rattle.std.specs.Prelude.{ℕ, ◌-◌, ◌/◌, ℤ, pos, negsuc, Bool, List, [], ◌∷◌, ◌++◌, length, replicate, slice_index_or, ◌||◌, Option, Some, None, option_map, option_and_then, nat_le, ◌==◌, codes, if◌then◌else◌}
 use Rattle.base64.specs.Engines.{standard}
 use Rattle.base64.specs.GeneralPurpose.{encode_of}
 use Rattle.binlog_json.specs.Json.{Data, number, written, string, object, member, no_members}
 use Rattle.serde_json.specs.Find.{of_integer}
+use Rattle.serde_json.specs.Written.{comma_if}
 use Rattle.binlog_table.specs.Map.{Map}
 use Rattle.binlog_table.specs.MapWords.{value_names_in}
 use Rattle.binlog_table.specs.RowImage.{RowImage}
@@ -99,7 +100,7 @@ members_text None members = in_base64 (joined_by (44 ∷ []) members)
 members_text (Some charset) members =
     if is_binary (encoding_of charset) then in_base64 (joined_by (44 ∷ []) members) else members_as charset members
 
--- ---- FLOAT, DOUBLE and JSON
+-- ---- FLOAT, DOUBLE, JSON and VECTOR
 
 abbrev pub is_float : ℕ → Bool
 is_float code = code == type_code.float || code == type_code.double
@@ -107,10 +108,26 @@ is_float code = code == type_code.float || code == type_code.double
 abbrev pub is_json : ℕ → Bool
 is_json code = code == type_code.json
 
--- The text of a value of JSON that the bytes say: of a FLOAT or DOUBLE the shortest number that reads back, of a JSON column the document.
--- NaN and the infinities have none, nor have bytes that are no document, nor has a value of another type.
+abbrev pub is_vector : ℕ → Bool
+is_vector code = code == type_code.vector
+
+-- The texts of FLOATs that stand one behind another, with a comma in front of each but the first, and the closing bracket; none where a
+-- FLOAT has none, or bytes are left.
+unfoldable pub floats_text : Bool → List ℕ → Option (List ℕ)
+floats_text later [] = Some (93 ∷ [])
+floats_text later (a ∷ (b ∷ (c ∷ (d ∷ bytes)))) =
+    option_and_then (λ text. option_map (λ more. comma_if later ++ (text ++ more)) (floats_text Bool.true bytes)) (stored_text (a ∷ b ∷ c ∷ d ∷ []))
+floats_text later other = None
+
+abbrev pub vector_text : List ℕ → Option (List ℕ)
+vector_text bytes = option_map (λ text. 91 ∷ text) (floats_text Bool.false bytes)
+
+-- The text of a value of JSON that the bytes say: of a FLOAT or DOUBLE the shortest number that reads back, of a JSON column the document,
+-- of a VECTOR the array of its FLOATs. NaN and the infinities have none, nor have bytes that are no document or are left behind the last
+-- FLOAT, nor has a value of another type.
 abbrev pub raw_text : ℕ → List ℕ → Option (List ℕ)
-raw_text code bytes = if is_float code then stored_text bytes else (if is_json code then value_text bytes else None)
+raw_text code bytes =
+    if is_float code then stored_text bytes else (if is_json code then value_text bytes else (if is_vector code then vector_text bytes else None))
 
 -- what has no such text is its bytes
 abbrev pub written_or_raw : List ℕ → Option (List ℕ) → Data

@@ -20,8 +20,9 @@ charset_text (Some charset) = 32 ∷ charset_name charset
 abbrev pub size_text : ℕ → List ℕ
 size_text n = 40 ∷ (decimal n ++ 41 ∷ [])
 
-abbrev pub fraction_size : ℕ → List ℕ
-fraction_size n = if n == 0 then [] else size_text n
+-- 0 is no size: no digits of a fraction, or dimensions that aren't known
+abbrev pub size_if_any : ℕ → List ℕ
+size_if_any n = if n == 0 then [] else size_text n
 
 abbrev pub sign_of : Bool → List ℕ
 sign_of unsigned = if unsigned then codes " unsigned" else []
@@ -42,8 +43,9 @@ abbrev pub other_name : ColumnType → List ℕ
 other_name t =
     if t.code == type_code.date then codes "date" else (if t.code == type_code.year then codes "year" else (if t.code == type_code.json then codes "json" else
     (if t.code == type_code.geometry then codes "geometry" else (if t.code == type_code.bit_type then codes "bit" ++ size_text t.size else
-    (if t.code == type_code.timestamp2 then codes "timestamp" ++ fraction_size t.size else (if t.code == type_code.datetime2 then codes "datetime" ++ fraction_size t.size else
-    (if t.code == type_code.time2 then codes "time" ++ fraction_size t.size else codes "unknown")))))))
+    (if t.code == type_code.timestamp2 then codes "timestamp" ++ size_if_any t.size else (if t.code == type_code.datetime2 then codes "datetime" ++ size_if_any t.size else
+    (if t.code == type_code.time2 then codes "time" ++ size_if_any t.size else
+    (if t.code == type_code.vector then codes "vector" ++ size_if_any t.size else codes "unknown"))))))))
 
 abbrev pub bytes_name : ColumnType → List ℕ
 bytes_name t =

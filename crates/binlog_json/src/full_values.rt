@@ -3,9 +3,9 @@ ghost use Rattle.std.specs.Prelude.{◌≡◌, ◌<◌, ◌≤◌, length, repli
 ghost use Rattle.std.specs.Str.{IsUtf8};
 ghost use Rattle.json.specs.Print.{quoted};
 ghost use Rattle.binlog_types.specs.Charsets.{encoding_of};
-ghost use Rattle.binlog_json.specs.FullValues.{greatest_of, as_unsigned, int_data, uint_data, in_charset, is_binary, whole_bytes, text_data, is_float, is_json, raw_text, raw_data, data_in, in_base64};
-ghost use Rattle.binlog_documents.specs.Appended.{AppendsText};
+ghost use Rattle.binlog_json.specs.FullValues.{greatest_of, as_unsigned, int_data, uint_data, in_charset, is_binary, whole_bytes, text_data, is_float, is_json, is_vector, raw_text, raw_data, data_in, in_base64};
 ghost use Rattle.binlog_json.specs.Growth.{Gathers, Prints};
+ghost use Rattle.binlog_json.specs.Reading.{IsRead};
 ghost use Rattle.binlog_json.specs.NamedValues.{full_enum, full_set, in_full};
 
 use crate::append::{Quoter, append_integer, append_number, append_plain};
@@ -14,6 +14,7 @@ use crate::lines::Line;
 use crate::names::{enum_name, is_named, members_of};
 use crate::room::Room;
 use crate::values::{append_base64, append_encoded, append_raw, append_value};
+use crate::vectors::append_vector;
 use binlog_documents::{DocumentWriter, is_plain};
 use binlog_table::{Cell, RowView, type_code};
 use binlog_types::{Charset, ColumnType, Encoding, charset_name, encoding_of};
@@ -235,8 +236,15 @@ pub(crate) fn is_json(code: u8) -> bool
     code == type_code::JSON
 }
 
-/// Appends the number that a FLOAT or a DOUBLE is, or the document that a value of JSON is. False, and nothing is appended, where the
-/// bytes are none, and for other types.
+/// Whether it is the number of VECTOR.
+fn is_vector(code: u8) -> bool
+    ensures { result ≡ is_vector code }
+{
+    code == type_code::VECTOR
+}
+
+/// Appends the number that a FLOAT or a DOUBLE is, the document that a value of JSON is, or the array that a VECTOR is. False where the
+/// bytes are none, and for other types; then a part may have been appended.
 #[inline(never)]
 fn append_raw_text(
     out: &mut Vec<u8>,
@@ -244,7 +252,7 @@ fn append_raw_text(
     code: u8,
     bytes: &[u8],
 ) -> Result<bool, AllocError>
-    ensures text { IfOk result (AppendsText out.old.items out.new.items (raw_text code bytes.now)) }
+    ensures text { IfOk result (IsRead out.old.items out.new.items (raw_text code bytes.now)) }
     ensures utf8 { IfOk result (λ _. out.old.items ≡ [] → IsUtf8 out.new.items) }
 {
     if is_float(code) {
@@ -253,10 +261,13 @@ fn append_raw_text(
     if is_json(code) {
         return documents.append(out, bytes);
     }
+    if is_vector(code) {
+        return append_vector(out, bytes);
+    }
     Ok(false)
 }
 
-/// The number or the document that the bytes are. Where they are none, and for other types, the bytes.
+/// The number, the document or the array that the bytes are. Where they are none, and for other types, the bytes.
 #[inline(never)]
 fn append_full_raw(
     out: &mut Line,

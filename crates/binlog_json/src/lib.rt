@@ -26,6 +26,7 @@ mod style;
 mod texts;
 mod type_texts;
 mod values;
+mod vectors;
 mod visit;
 mod writer;
 

@@ -2,7 +2,7 @@
 ghost use Rattle.std.specs.Prelude.{◌≡◌, ◌++◌, ◌∷◌, [], OnOk};
 ghost use Rattle.std.specs.Option.{option_or};
 ghost use Rattle.binlog_types.specs.ColumnTypes.{is_named};
-ghost use Rattle.binlog_json.specs.TypeTexts.{is_bytes, size_text, fraction_size, sign_of, lob_size, number_name, is_number, other_name, bytes_name, text_name, has_charset, charset_type, type_text};
+ghost use Rattle.binlog_json.specs.TypeTexts.{is_bytes, size_text, size_if_any, sign_of, lob_size, number_name, is_number, other_name, bytes_name, text_name, has_charset, charset_type, type_text};
 ghost use Rattle.binlog_json.specs.Growth.{Gains};
 ghost use Rattle.binlog_table.specs.TypeCodes as type_code;
 
@@ -21,8 +21,8 @@ fn append_size(out: &mut Line, size: u16) -> Result<(), AllocError>
     out.push_str(")")
 }
 
-fn append_fraction(out: &mut Line, size: u16) -> Result<(), AllocError>
-    ensures { OnOk result (Gains out.old out.new (fraction_size size)) }
+fn append_size_if_any(out: &mut Line, size: u16) -> Result<(), AllocError>
+    ensures { OnOk result (Gains out.old out.new (size_if_any size)) }
 {
     if size == 0 {
         return Ok(());
@@ -97,11 +97,11 @@ fn append_sized(out: &mut Line, name: &str, size: u16) -> Result<(), AllocError>
     append_size(out, size)
 }
 
-fn append_fractional(out: &mut Line, name: &str, size: u16) -> Result<(), AllocError>
-    ensures { OnOk result (Gains out.old out.new (name.now ++ fraction_size size)) }
+fn append_sized_if_any(out: &mut Line, name: &str, size: u16) -> Result<(), AllocError>
+    ensures { OnOk result (Gains out.old out.new (name.now ++ size_if_any size)) }
 {
     out.push_str(name)?;
-    append_fraction(out, size)
+    append_size_if_any(out, size)
 }
 
 fn append_other(out: &mut Line, column_type: &ColumnType) -> Result<(), AllocError>
@@ -114,9 +114,10 @@ fn append_other(out: &mut Line, column_type: &ColumnType) -> Result<(), AllocErr
         type_code::JSON => out.push_str("json"),
         type_code::GEOMETRY => out.push_str("geometry"),
         type_code::BIT => append_sized(out, "bit", size),
-        type_code::TIMESTAMP2 => append_fractional(out, "timestamp", size),
-        type_code::DATETIME2 => append_fractional(out, "datetime", size),
-        type_code::TIME2 => append_fractional(out, "time", size),
+        type_code::TIMESTAMP2 => append_sized_if_any(out, "timestamp", size),
+        type_code::DATETIME2 => append_sized_if_any(out, "datetime", size),
+        type_code::TIME2 => append_sized_if_any(out, "time", size),
+        type_code::VECTOR => append_sized_if_any(out, "vector", size),
         _ => out.push_str("unknown"),
     }
 }

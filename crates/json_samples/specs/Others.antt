@@ -1,4 +1,4 @@
--- FLOAT and DOUBLE in full lines, and values that full lines have as plain lines do.
+-- FLOAT, DOUBLE, JSON and VECTOR in full lines, and values that full lines have as plain lines do.
 use Prim.Native.String.{String}
 use Rattle.std.specs.Prelude.{◌≡◌, ℕ, ◌-◌, true, false, List, [], map, None, codes}
 use Rattle.binlog_json.specs.Json.{compact_text}
@@ -69,6 +69,20 @@ abbrev pub NoDocuments : Type 0
 NoDocuments =
     Both 245 (cell.raw (hex "05 01")) "{\"raw\":\"BQE=\"}" × Both 245 (cell.raw (hex "04 03")) "{\"raw\":\"BAM=\"}"
     × Both 245 (cell.raw (hex "00 01 00 0c 00 0b 00 01 00 0c 04 00 61")) "{\"raw\":\"AAEADAALAAEADAQAYQ==\"}"
+
+-- Three FLOATs, as a server stored them; both zeros; one number, and none
+abbrev pub Vectors : Type 0
+Vectors =
+    Each 242 (cell.raw (hex "00 00 80 3f 00 00 20 40 00 00 40 c0")) "[1.0,2.5,-3.0]" "{\"raw\":\"AACAPwAAIEAAAEDA\"}"
+    × Each 242 (cell.raw (hex "00 00 00 00 00 00 00 80")) "[0.0,-0.0]" "{\"raw\":\"AAAAAAAAAIA=\"}"
+    × Each 242 (cell.raw (hex "cd cc cc 3d")) "[0.1]" "{\"raw\":\"zczMPQ==\"}" × Each 242 (cell.raw []) "[]" "{\"raw\":\"\"}"
+
+-- a byte more than a FLOAT has, and one less; an infinity behind a number, and a NaN in front of one
+abbrev pub NoVectors : Type 0
+NoVectors =
+    Both 242 (cell.raw (hex "00 00 80 3f 00")) "{\"raw\":\"AACAPwA=\"}" × Both 242 (cell.raw (hex "00 00 80")) "{\"raw\":\"AACA\"}"
+    × Both 242 (cell.raw (hex "00 00 80 3f 00 00 80 7f")) "{\"raw\":\"AACAPwAAgH8=\"}"
+    × Both 242 (cell.raw (hex "00 00 c0 7f 00 00 80 3f")) "{\"raw\":\"AADAfwAAgD8=\"}"
 
 -- BIT(9), the bytes of {"a":1} in a GEOMETRY, and null
 abbrev pub RawValues : Type 0

@@ -1,7 +1,8 @@
 -- The types of columns that table maps declare, as the server's own statements name them.
 use Prim.Native.String.{String}
 use Rattle.std.specs.Prelude.{◌≡◌, ℕ, false, List, [], ◌∷◌, ◌++◌, map, replicate, Some, Result, Ok, Err, codes}
-use Rattle.binlog_table.specs.Map.{Map, map_at}
+use Rattle.binlog_profile.specs.declared.profile.Profile.TheVariants.{Server}
+use Rattle.binlog_table.specs.Map.{Map, map_at, map_at_by}
 use Rattle.binlog_table.specs.declared.fault.MapFault.{MapFault}
 use Rattle.binlog_types.specs.declared.charsets.Charset.TheVariants as charsets
 use Rattle.binlog_types.specs.declared.column_type.ColumnType.{ColumnType}
@@ -16,6 +17,10 @@ types_in (Ok map) = types_of map.sections
 -- the columns of a map that has this body have these types
 abbrev pub Declares : List ℕ → List String → Type 0
 Declares body texts = map type_text (types_in (map_at body)) ≡ map codes texts
+
+-- the same by the server's profile
+abbrev pub ServerDeclares : List ℕ → List String → Type 0
+ServerDeclares body texts = map type_text (types_in (map_at_by Server body)) ≡ map codes texts
 
 -- ---- maps that a MySQL 9.7.4 wrote
 
@@ -49,6 +54,13 @@ Sizes =
     Declares
     (hex "71 00 00 00 00 00 01 00 04 66 75 6c 6c 00 01 66 00 09 04 05 f6 12 13 11 f5 10 0a 0a 04 08 0a 02 03 00 06 04 01 01 ff 01 01 01 00 04 18 01 66 01 64 02 64 63 02 64 74 02 74 6d 02 74 73 01 6a 02 62 74 02 64 61 0c 02 ff 80")
     ("float" ∷ "double" ∷ "decimal(10,2)" ∷ "datetime(3)" ∷ "time" ∷ "timestamp(6)" ∷ "json" ∷ "bit(9)" ∷ "date" ∷ [])
+
+-- two VECTORs, which have one usual collation, and the dimensions of each
+abbrev pub ServerVectors : Type 0
+ServerVectors =
+    ServerDeclares
+    (hex "6a 00 00 00 00 00 01 00 01 64 00 01 74 00 03 03 f2 f2 02 04 04 06 01 01 00 02 01 3f 0d 02 03 05 04 07 02 69 64 01 76 01 77 08 01 00 0c 01 e0")
+    ("int" ∷ "vector(3)" ∷ "vector(5)" ∷ [])
 
 -- ---- maps by hand
 
@@ -140,6 +152,22 @@ OtherTypes =
     (body_with "0d 0a 0f 10 11 12 13 f5 fc fe ff fe fe 01 10 50 00 01 00 00 03 06 04 03 fe 14 04 f7 01 f8 01 ff 1f 01 01 80 03 03 21 3f 1c 0b 02 08 36 04 1a 01 61 01 62 01 63 01 64 01 65 01 66 01 67 01 68 01 69 01 6a 01 6b 01 6c 01 6d")
     ("date" ∷ "varchar utf8mb3" ∷ "bit(1)" ∷ "timestamp" ∷ "datetime(3)" ∷ "time(6)" ∷ "json" ∷ "mediumblob" ∷ "char gbk" ∷ "geometry" ∷ "enum latin1"
     ∷ "set utf16" ∷ "tinyint unsigned" ∷ [])
+
+-- VECTOR, VARCHAR(80), VECTOR and TINYINT, with a collation for each but the last
+abbrev pub Dimensions : String → List String → Type 0
+Dimensions fields = ServerDeclares (body_with "04 f2 0f f2 01 04 04 50 00 04 0f 01 01 80 03 03 3f 08 3f 04 08 01 61 01 62 01 63 01 64" ++ hex fields)
+
+-- Each has its own dimensions, of which the greatest take two bytes: 16384 and 5; 65535 and 65536; one number, a cut one, and none; one
+-- too many; of two fields the last.
+abbrev pub VectorDimensions : Type 0
+VectorDimensions =
+    Dimensions "0d 04 fc 00 40 05" ("vector(16384)" ∷ "varchar latin1" ∷ "vector(5)" ∷ "tinyint unsigned" ∷ [])
+    × Dimensions "0d 07 fc ff ff fd 00 00 01" ("vector(65535)" ∷ "varchar latin1" ∷ "vector" ∷ "tinyint unsigned" ∷ [])
+    × Dimensions "0d 01 07" ("vector(7)" ∷ "varchar latin1" ∷ "vector" ∷ "tinyint unsigned" ∷ [])
+    × Dimensions "0d 03 07 fc 08" ("vector(7)" ∷ "varchar latin1" ∷ "vector" ∷ "tinyint unsigned" ∷ [])
+    × Dimensions "" ("vector" ∷ "varchar latin1" ∷ "vector" ∷ "tinyint unsigned" ∷ [])
+    × Dimensions "0d 03 01 02 03" ("vector(1)" ∷ "varchar latin1" ∷ "vector(2)" ∷ "tinyint unsigned" ∷ [])
+    × Dimensions "0d 02 01 02 0d 02 03 04" ("vector(3)" ∷ "varchar latin1" ∷ "vector(4)" ∷ "tinyint unsigned" ∷ [])
 
 -- ---- sizes
 

@@ -2,10 +2,10 @@
 ghost use Rattle.json_samples.specs.Integers.{Tiny, Small, Medium, Long, LongLong};
 ghost use Rattle.json_samples.specs.Texts.{Latin1Texts, Windows1252, OneByteTexts, NoOneByteTexts, Utf8Texts, NoUtf8, Utf16Texts, NoUtf16, Utf32Texts, NoUtf32, OtherCharsets, Binaries, NoCharset};
 ghost use Rattle.json_samples.specs.Names.{Unnamed, Enums, EnumBytes, Sets, WideSets, MalformedSets, SetBytes};
-ghost use Rattle.json_samples.specs.Others.{Times, Decimals, Floats, NoNumbers, Documents, NoDocuments, RawValues};
+ghost use Rattle.json_samples.specs.Others.{Times, Decimals, Floats, NoNumbers, Documents, NoDocuments, Vectors, NoVectors, RawValues};
 
-/// Integers by the server's sign, texts by their character sets, values of ENUM and SET, FLOAT and DOUBLE, and those that plain lines have,
-/// too.
+/// Integers by the server's sign, texts by their character sets, values of ENUM and SET, FLOAT, DOUBLE, JSON and VECTOR, and those that plain
+/// lines have, too.
 pub fn sample_full_values()
     ensures tiny { Tiny }
     ensures small { Small }
@@ -38,5 +38,7 @@ pub fn sample_full_values()
     ensures no_numbers { NoNumbers }
     ensures documents { Documents }
     ensures no_documents { NoDocuments }
+    ensures vectors { Vectors }
+    ensures no_vectors { NoVectors }
     ensures raw_values { RawValues }
 {}
