@@ -20,7 +20,7 @@ POSTGRES = {
     **dict.fromkeys(("smallint unsigned", "mediumint", "mediumint unsigned", "int"), "integer"),
     **dict.fromkeys(("int unsigned", "bigint"), "bigint"),
     **dict.fromkeys(("binary", "varbinary", "tinyblob", "blob", "mediumblob", "longblob", "geometry"), "bytea"),
-    **{"bigint unsigned": "numeric(20)", "float": "real", "double": "double precision", "json": "json", "date": "date"},
+    **{"bigint unsigned": "numeric(20)", "float": "real", "double": "double precision", "json": "json", "date": "date", "vector": "text"},
 }
 # Those that keep the size of the log's type.
 SIZED = {"bit": "bit", "decimal": "numeric", "time": "interval", "datetime": "timestamp", "timestamp": "timestamptz"}

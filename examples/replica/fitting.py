@@ -54,8 +54,8 @@ def for_postgres(log: str, target: str) -> Converter:
         return bits(log, target) if kind == "bit" else truth if target == "boolean" else str
     if kind in ("float", "double"):
         return real if kind == "float" else double
-    if kind == "json":
-        return json_text
+    if kind in ("json", "vector"):
+        return json_text if kind == "json" else numbers
     if kind in ("date", "datetime"):
         return day if target in MOMENTS else None
     if kind == "timestamp":
@@ -130,6 +130,13 @@ def real(raw: bytes | float) -> str:
 def double(raw: bytes | float) -> str:
     """A DOUBLE."""
     return repr(floats.from_raw(raw))
+
+
+def numbers(value: list[float] | bytes) -> str:
+    """A VECTOR, with the digits of a line."""
+    if isinstance(value, bytes):
+        raise UnfitError
+    return f"[{','.join(map(repr, value))}]"
 
 
 def day(value: str) -> str:
@@ -249,4 +256,5 @@ OTHERS: dict[str, Converter] = {
     "float": floats.shortest,
     "json": json_text,
     "timestamp": moment,
+    "vector": numbers,
 }

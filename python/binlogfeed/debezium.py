@@ -242,9 +242,9 @@ def _text(value: Any) -> Any:
 
 
 def _number(value: Any) -> Any:
-    """A FLOAT or a DOUBLE. NaN and the infinities, which a server doesn't store, have no number in JSON."""
+    """A FLOAT, a DOUBLE, or the numbers of a VECTOR. NaN and the infinities, which a server doesn't store, have no number in JSON."""
     return None if type(value) is dict else value
 
 
 # Those whose values need nothing but their word.
-CONVERTS: dict[str, Convert] = {"time": _microseconds_of_time, "year": int, "float": _number, "double": _number}
+CONVERTS: dict[str, Convert] = {"time": _microseconds_of_time, "year": int, "float": _number, "double": _number, "vector": _number}

@@ -20,7 +20,7 @@ TYPE = re.compile(r"(\w+)(?:\((\d+)(?:,\d+)?\))?(?: (\w+))?")
 BINARY = {"binary", "varbinary", "tinyblob", "blob", "mediumblob", "longblob", "geometry"}
 TEXTS = {"char", "varchar", "tinytext", "text", "mediumtext", "longtext", "enum"}
 # Types whose values a line may have as bytes in another form than text.
-RAW = {"float", "double", "geometry", "set"}
+RAW = {"float", "double", "vector", "geometry", "set"}
 
 
 class Column(NamedTuple):
@@ -158,6 +158,14 @@ def _float_of(code: str) -> Convert:
     return to_float
 
 
+def _to_vector(value: Any) -> Any:
+    """The numbers that a VECTOR holds, exactly. They stay bytes where a line has them as bytes."""
+    if type(value) is dict:
+        return plain(value)
+    form = struct.Struct(f"<{len(value)}f")
+    return list(form.unpack(form.pack(*value)))
+
+
 DATES = {"date", "datetime", "timestamp", "time", "year"}
 # Those whose values need nothing but their word.
 CONVERTS: dict[str, Convert] = {
@@ -166,5 +174,6 @@ CONVERTS: dict[str, Convert] = {
     "double": _float_of("<d"),
     "float": _float_of("<f"),
     "time": times.to_time,
+    "vector": _to_vector,
     "year": times.to_year,
 }

@@ -166,6 +166,8 @@ class ByHand(unittest.TestCase):
             ("datetime", "2018-06-20 06:37:03", 1529476623000),
             ("time(6)", "-00:00:00.000001", -1),
             ("double", {"raw": "AAAAAAAA8H8="}, None),
+            ("vector(3)", [1.0, 2.5, -3.0], [1.0, 2.5, -3.0]),
+            ("vector(1)", {"raw": "AACAfw=="}, None),
             ("varchar gbk", {"base64": in_base64("d6d0"), "charset": "gbk"}, "中"),
             ("varchar gbk", {"base64": in_base64("ff"), "charset": "gbk"}, "\ufffd"),
             ("varchar utf8mb4", {"base64": in_base64("61ff62"), "charset": "utf8mb4"}, "a\ufffdb"),

@@ -334,6 +334,13 @@ class Fitting(LinesTest):
         self.assertEqual(row[3:], ("-0.0", "0.1"))
         self.assertEqual(fitting.for_sqlite("double", "TEXT")(struct.pack("<d", 0.1 + 0.2)), "0.30000000000000004")
 
+    def test_vectors(self):
+        """A text of the numbers, in both. Bytes that are none don't fit."""
+        for converter in (fitting.for_sqlite("vector(3)", "TEXT"), fitting.for_postgres("vector(3)", "text")):
+            self.assertEqual(converter([1.0, 2.5, -0.0, 1e-07]), "[1.0,2.5,-0.0,1e-07]")
+            with self.assertRaises(fitting.UnfitError):
+                converter(b"\0")
+
     def test_json(self):
         for document, text in (
             ("abc", '"abc"'), ([True, -2, 1.5, None], "[true, -2, 1.5, null]"), ({"é": {}}, '{"é": {}}'),

@@ -17,9 +17,9 @@ from binlogfeed.floats import text_of_float
 from binlogfeed.follow import read_state, write_state
 from binlogfeed.snapshot import server, texts
 from binlogfeed.snapshot.documents import document
-from binlogfeed.snapshot.rows import WHOLE, Lines, Range, parts_of
+from binlogfeed.snapshot.rows import WHOLE, Lines, Range, Reading, parts_of, reading_of
 from binlogfeed.snapshot.server import Moment, ServerFault, row_of
-from binlogfeed.snapshot.tables import Table, Told, tables_of
+from binlogfeed.snapshot.tables import Table, Told, tables_of, told_column
 from support import PROGRAM, SECONDS, TOP, FolderTest
 
 RECORDED = TOP / "tests/snapshot/answers.jsonl"
@@ -505,6 +505,17 @@ class Parts(TestCase):
         for value, wanted in exactly:
             self.assertEqual(text_of_float(value), wanted)
 
+    def test_vectors(self):
+        """A server gives the bytes of a VECTOR. Those that are no numbers stay bytes."""
+        for raw, wanted in (
+            ("0000803f00002040000040c0", b"[1.0,2.5,-3.0]"), ("cdcccc3d00000080", b"[0.1,-0.0]"), ("", b"[]"),
+            ("0000803f00", b'{"raw":"AACAPwA="}'), ("0000803f0000807f", b'{"raw":"AACAPwAAgH8="}'),
+        ):  # fmt: skip
+            self.assertEqual(texts.vector(bytes.fromhex(raw)), wanted)
+        column = told_column("s.t", (b"s", b"t", b"v", b"vector", b"vector(3)", b"12", None, None, None, None))
+        self.assertEqual(column, Told("v", "vector", "vector(3)"))
+        self.assertEqual(reading_of(column, {}), Reading("`v`", texts.vector))
+
     def test_rows_of_packets(self):
         class Packet:
             """A packet of a row."""
@@ -546,8 +557,8 @@ class Parts(TestCase):
         self.assertEqual(texts.text("utf8mb4", {})(b'"\x1f\n\\\x7f'), b'"\\"\\u001f\\n\\\\\x7f"')
 
     def test_types_that_are_not_read(self):
-        row = [b"s", b"t", b"v", b"vector", b"vector(3)", b"12", None, None, None, None]
+        row = [b"s", b"t", b"v", b"xml", b"xml(3)", b"12", None, None, None, None]
         connection = mock.Mock()
         connection.ask.side_effect = [[(b"s",)], [(b"t", b"InnoDB", b"0")], [row], []]
-        with self.assertRaisesRegex(BinlogfeedError, r"s\.t\.v has the type vector\(3\), which isn't read"):
+        with self.assertRaisesRegex(BinlogfeedError, r"s\.t\.v has the type xml\(3\), which isn't read"):
             tables_of(connection, ["s"])

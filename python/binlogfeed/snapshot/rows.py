@@ -52,6 +52,8 @@ def reading_of(column: Told, characters: Characters) -> Reading:
         return Reading(name, texts.json_document)
     if word == "geometry":
         return Reading(name, texts.in_raw)
+    if word == "vector":
+        return Reading(name, texts.vector)
     if word in BINARY:
         return Reading(name, texts.in_base64)
     return Reading(name, (texts.names if word == "set" else texts.text)(column.charset, characters))

@@ -106,6 +106,8 @@ def told_column(table: str, row: Row) -> Told:
         return Told(name, word, f"bit({precision})")
     if word in ("year", "date", "json", "geometry"):
         return Told(name, word, word)
+    if word == "vector":
+        return Told(name, word, type_)
     if word in TIMES:
         return Told(name, word, f"{word}({fraction})" if fraction not in ("", "0") else word)
     if word in BINARY:

@@ -2,7 +2,9 @@
 from __future__ import annotations
 
 import codecs
+import math
 import re
+import struct
 from binascii import b2a_base64
 from collections.abc import Callable, Mapping
 from json import JSONEncoder
@@ -12,6 +14,7 @@ from binlogfeed.floats import text_of_double, text_of_float
 from binlogfeed.snapshot.documents import document
 
 Convert = Callable[[bytes], bytes]
+FLOAT = struct.Struct("<f")
 # What needs another spelling in JSON.
 ESCAPED = re.compile(rb'[\x00-\x1f"\\]').search
 # The JSON of a text.
@@ -56,6 +59,14 @@ def real(raw: bytes) -> bytes:
 def double(raw: bytes) -> bytes:
     """A DOUBLE."""
     return text_of_double(float(raw)).encode()
+
+
+def vector(raw: bytes) -> bytes:
+    """A VECTOR: the array of its FLOATs, or its bytes where it is none."""
+    numbers = [] if len(raw) % 4 else [number for (number,) in FLOAT.iter_unpack(raw)]
+    if len(raw) % 4 or not all(map(math.isfinite, numbers)):
+        return in_raw(raw)
+    return b"[%b]" % ",".join(map(text_of_float, numbers)).encode()
 
 
 def json_document(raw: bytes) -> bytes:
