@@ -90,7 +90,7 @@ A line is one JSON object. This one is cut in three to fit here:
                  the number of the change in the transaction, from 1, and the file
 
 Integers are numbers; DECIMAL, dates and times are strings. Text that isn't UTF-8 is
-{\"base64\":\"..\"}; FLOAT, DOUBLE, JSON and GEOMETRY are {\"raw\":\"..\"}, their bytes in base64.
+{\"base64\":\"..\"}; FLOAT, DOUBLE, JSON, GEOMETRY and VECTOR are {\"raw\":\"..\"}, in base64.
 
 With --full a value is what the server means by it: an integer has its sign behind a YEAR
 column, too, text is read by its character set, and BINARY and BLOB are {\"base64\":\"..\"}; text
