@@ -15,7 +15,7 @@ use Rattle.binlog_units.specs.declared.fault.LogFault.{LogFault}
 use Rattle.binlog_units.specs.declared.unit.Unit.{Unit as UnitSummary}
 use Rattle.binlog_units.specs.declared.unit.UnitEnding.TheVariants.{Xid, Statement}
 use Rattle.binlog_units.specs.declared.what.What.TheVariants.{BadBody, EventAfterEnd, KindOutOfProfile}
-use Rattle.binlog_feed.specs.ProfileLaws.{AreAlike, IsAlike, read_by, strict_class, strict_lacks, strict_symbol}
+use Rattle.feed_laws.specs.ProfileLaws.{AreAlike, IsAlike, read_by, strict_class, strict_lacks, strict_symbol}
 use Rattle.binlog_select.specs.declared.kind.ChangeKind.TheVariants.{Insert}
 use Rattle.binlog_samples.specs.Changes.{Has, cells, change_at, first_change, first_map, image, inserted}
 use Rattle.binlog_samples.specs.Files.{Tells, alone, event_of, fault_at, first_log, front, gtid_event, query_event, transaction, unit_at, xid_event, zeros}
