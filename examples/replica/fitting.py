@@ -55,7 +55,8 @@ def for_postgres(log: str, target: str) -> Converter:
     if kind in ("float", "double"):
         return real if kind == "float" else double
     if kind in ("json", "vector"):
-        return json_text if kind == "json" else numbers
+        # PostgreSQL would take the text of a VECTOR as bytes.
+        return json_text if kind == "json" else no_text if target == "bytea" else numbers
     if kind in ("date", "datetime"):
         return day if target in MOMENTS else None
     if kind == "timestamp":
@@ -187,8 +188,8 @@ def uuid(value: bytes) -> str:
     return value.hex()
 
 
-def no_text(value: bytes) -> str:
-    """Bytes for a column that takes none."""
+def no_text(value: object) -> str:
+    """A value for a column that takes none of its kind."""
     raise UnfitError
 
 

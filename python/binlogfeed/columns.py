@@ -164,7 +164,8 @@ def is_type(log: str, given: str) -> bool:
         given_word = "geometry"
     if word != given_word:
         return not rest and BYTES_OF_TEXTS.get(word) == given_word
-    if word in SIZED and size != given_size:
+    # A log may not tell how many numbers a VECTOR has.
+    if (word in SIZED or (word == "vector" and size != "0")) and size != given_size:
         return False
     return word not in SIGNED or ("unsigned" in rest.split()) == ("unsigned" in given_rest.split())
 

@@ -34,7 +34,8 @@ TYPES = {
     "enum": (["enum('a','b')", "enum(') unsigned')"], ["set('a','b')", "varchar(1)"]),
     "set utf8mb4": (["set('a','b')"], ["enum('a')"]),
     "json": (["json"], ["longtext"]),
-    "vector(3)": (["vector(3)"], ["blob", "varbinary(3)"]),
+    "vector(3)": (["vector(3)"], ["vector(4)", "blob", "varbinary(3)"]),
+    "vector": (["vector(3)", "vector(4)"], ["blob"]),
     "geometry": (["geometry", "point", "linestring", "polygon", "multipoint", "geomcollection", "geometrycollection"], ["blob"]),
 }
 

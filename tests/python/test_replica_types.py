@@ -340,6 +340,8 @@ class Fitting(LinesTest):
             self.assertEqual(converter([1.0, 2.5, -0.0, 1e-07]), "[1.0,2.5,-0.0,1e-07]")
             with self.assertRaises(fitting.UnfitError):
                 converter(b"\0")
+        with self.assertRaises(fitting.UnfitError):
+            fitting.for_postgres("vector(3)", "bytea")([1.0])
 
     def test_json(self):
         for document, text in (
