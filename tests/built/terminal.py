@@ -305,7 +305,7 @@ LOGS = (
         "253: TypeOutOfProfile(7)",
         "a date or a time of a table that was made before MySQL 5.6.4 isn't read: ALTER TABLE .. FORCE makes the column new\n",
     ),
-    ("type242", "253: TypeOutOfProfile(242)", "VECTOR columns aren't read by the strict profile: read it with --profile server\n"),
+    ("type242", "253: TypeOutOfProfile(242)", "VECTOR columns aren't read by the strict profile: read the log with --profile server\n"),
     ("type200", "253: TypeOutOfProfile(200)", "columns of this type aren't read\n"),
 )
 

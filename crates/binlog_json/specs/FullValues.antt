@@ -111,16 +111,15 @@ is_json code = code == type_code.json
 abbrev pub is_vector : ℕ → Bool
 is_vector code = code == type_code.vector
 
--- The texts of FLOATs that stand one behind another, with a comma in front of each but the first, and the closing bracket; none where a
--- FLOAT has none, or bytes are left.
-unfoldable pub floats_text : Bool → List ℕ → Option (List ℕ)
-floats_text later [] = Some (93 ∷ [])
-floats_text later (a ∷ (b ∷ (c ∷ (d ∷ bytes)))) =
-    option_and_then (λ text. option_map (λ more. comma_if later ++ (text ++ more)) (floats_text Bool.true bytes)) (stored_text (a ∷ b ∷ c ∷ d ∷ []))
-floats_text later other = None
+-- the texts of FLOATs that stand one behind another; none where a FLOAT has none, or bytes are left
+unfoldable pub float_texts : List ℕ → Option (List (List ℕ))
+float_texts [] = Some []
+float_texts (a ∷ (b ∷ (c ∷ (d ∷ bytes)))) =
+    option_and_then (λ text. option_map (λ more. text ∷ more) (float_texts bytes)) (stored_text (a ∷ b ∷ c ∷ d ∷ []))
+float_texts other = None
 
 abbrev pub vector_text : List ℕ → Option (List ℕ)
-vector_text bytes = option_map (λ text. 91 ∷ text) (floats_text Bool.false bytes)
+vector_text bytes = option_map (λ texts. 91 ∷ (joined_by (44 ∷ []) texts ++ 93 ∷ [])) (float_texts bytes)
 
 -- The text of a value of JSON that the bytes say: of a FLOAT or DOUBLE the shortest number that reads back, of a JSON column the document,
 -- of a VECTOR the array of its FLOATs. NaN and the infinities have none, nor have bytes that are no document or are left behind the last

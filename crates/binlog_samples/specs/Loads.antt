@@ -2,7 +2,7 @@
 use Rattle.std.specs.Prelude.{◌≡◌, ℕ, List, [], ◌∷◌, ◌++◌, length, take, Option, Some, None, true, false, codes}
 use Rattle.binlog_frame.specs.Bodies.{LoadReads}
 use Rattle.binlog_frame.specs.Cutting.{Event}
-use Rattle.binlog_frame.specs.Kinds.{class_by, takes_in, tells}
+use Rattle.binlog_frame.specs.Kinds.{class_by, server_kinds, takes_in, takes_server_kinds}
 use Rattle.binlog_frame.specs.declared.kind.Class.TheVariants.{Transaction, End, Skipped, OutOfProfile}
 use Rattle.binlog_profile.specs.declared.profile.Profile.{Profile}
 use Rattle.binlog_profile.specs.declared.profile.Profile.TheVariants.{Strict, Server}
@@ -61,7 +61,7 @@ ClassesBy =
 
 abbrev pub TakenIn : Type 0
 TakenIn =
-    (tells Strict ≡ false) × (tells Server ≡ true) × (takes_in Strict 18 ≡ false) × (takes_in Server 18 ≡ true) × (takes_in Strict 17 ≡ true)
+    (server_kinds ≡ 18 ∷ []) × (takes_server_kinds Strict ≡ false) × (takes_server_kinds Server ≡ true) × (takes_in Strict 18 ≡ false) × (takes_in Server 18 ≡ true) × (takes_in Strict 17 ≡ true)
     × (takes_in Strict 2 ≡ true) × (takes_in Server 2 ≡ true)
 
 abbrev pub made_of : ℕ → List ℕ → Event

@@ -103,7 +103,8 @@ that can't be read is {\"base64\":\"..\",\"charset\":\"..\"}. These members are 
 
 With --profile server a log is taken in as servers write it by default: where a table has no
 column names in the log (binlog_row_metadata=MINIMAL), its columns are @1, @2 and so on, it
-has no key, and ENUM and SET are numbers. Without it such a table ends the run.
+has no key, and ENUM and SET are numbers. Tables with a VECTOR column are read, too. Without
+it such a table ends the run.
 
 The changes stand in the order of the log. Those of a transaction that was rolled back, or
 that isn't whole at the end of its file, are left out.

@@ -169,6 +169,12 @@ VectorDimensions =
     × Dimensions "0d 03 01 02 03" ("vector(1)" ∷ "varchar latin1" ∷ "vector(2)" ∷ "tinyint unsigned" ∷ [])
     × Dimensions "0d 02 01 02 0d 02 03 04" ("vector(3)" ∷ "varchar latin1" ∷ "vector(4)" ∷ "tinyint unsigned" ∷ [])
 
+-- A DECIMAL(8,2) behind a VECTOR: a VECTOR has one byte of metadata, and no bit among the signs.
+abbrev pub BehindVector : Type 0
+BehindVector =
+    ServerDeclares (body_with "02 f2 f6 03 04 08 02 03 01 01 80 0d 01 03") ("vector(3)" ∷ "decimal(8,2) unsigned" ∷ [])
+    × ServerDeclares (body_with "02 f2 f6 03 04 08 02 03 01 01 40 0d 01 03") ("vector(3)" ∷ "decimal(8,2)" ∷ [])
+
 -- ---- sizes
 
 -- BLOBs by the width of their lengths, and TEXTs; VAR_STRING is a VARCHAR

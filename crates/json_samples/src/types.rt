@@ -1,5 +1,5 @@
 //! The definitions of the types that table maps declare, and of the character sets of collations.
-ghost use Rattle.json_samples.specs.Types.{BehindYear, CharsetsOfEach, CharsetsOfNames, Sizes, ServerVectors, VectorDimensions, NoCharsets, FieldsOfTexts, FieldsOfNames, UnknownCollations, TwoFields, ShortFields, Exceptions, SignBits, LastSign, OtherTypes, Widths, Digits, LongChar, UntoldSizes, MixedColumns};
+ghost use Rattle.json_samples.specs.Types.{BehindYear, CharsetsOfEach, CharsetsOfNames, Sizes, ServerVectors, VectorDimensions, BehindVector, NoCharsets, FieldsOfTexts, FieldsOfNames, UnknownCollations, TwoFields, ShortFields, Exceptions, SignBits, LastSign, OtherTypes, Widths, Digits, LongChar, UntoldSizes, MixedColumns};
 ghost use Rattle.json_samples.specs.Collations.{Unicode, WesternLetters, OtherLetters, EastAsian, Unknown};
 
 /// What the maps of real servers and maps by hand declare, and the character set of each collation.
@@ -10,6 +10,7 @@ pub fn sample_types()
     ensures sizes { Sizes }
     ensures server_vectors { ServerVectors }
     ensures vector_dimensions { VectorDimensions }
+    ensures behind_vector { BehindVector }
     ensures no_charsets { NoCharsets }
     ensures fields_of_texts { FieldsOfTexts }
     ensures fields_of_names { FieldsOfNames }

@@ -1,6 +1,5 @@
 use Rattle.std.proofs.Common.{◌≡◌, false, length, IsAscii}
-use Rattle.binlog_json.specs.FullValues.{floats_text}
-use Rattle.binlog_json.proofs.FloatLists.{behind}
+use Rattle.binlog_json.proofs.FloatLists.{behind, floats_text}
 use Rattle.binlog_json.proofs.vectors.append_vector.Given as goal
 
 abbrev pub invariant-loop-rest : goal.invariant-loop-rest
