@@ -10,6 +10,7 @@ from typing import Any, NamedTuple, Union
 from binlogfeed import JSON_NULL, BinlogfeedError, Place
 from binlogfeed.begin import FIRST, place_of
 from binlogfeed.columns import Tables
+from binlogfeed.filters import ROWS
 from binlogfeed.lag import last_place
 from binlogfeed.lines import Change, not_full, reader_of_lines
 from binlogfeed.program import Run
@@ -97,7 +98,7 @@ class Changes:
         `is_first` says that none was taken before, `again` that they were begun before, and `is_behind` that the place is behind the
         statement that has its token.
         """
-        options = [f"--profile={source.profile}", f"--only-schemas={source.schema}"]
+        options = [f"--profile={source.profile}", ROWS, f"--only-schemas={source.schema}"]
         options += [f"--only-tables={source.only_tables}"] if source.only_tables else []
         self._watch = Watch(source.logs, [source.program, "read", "--follow", "--full", *options], place, source.begin, "the target", source.lag)
         self._watch.begun = again
@@ -180,7 +181,7 @@ class Changes:
         names: set[str] = set()
         size = 0
         paths = [log.path for log in self._watch.told]
-        run = Run([self._source.program, "read", f"--profile={self._source.profile}", "--", *paths])
+        run = Run([self._source.program, "read", f"--profile={self._source.profile}", ROWS, "--", *paths])
         try:
             for block in run.blocks() if paths else ():
                 counted = Counted()

@@ -17,7 +17,7 @@ from binlogfeed.begin import FIRST
 from binlogfeed.copy.command import add_copy
 from binlogfeed.debezium import NAME, lines_of
 from binlogfeed.faults import BinlogfeedError
-from binlogfeed.filters import add_filters, add_profile, filter_words
+from binlogfeed.filters import add_filters, add_profile, by_default_rows, filter_words, rows_alone
 from binlogfeed.follow import Follower
 from binlogfeed.options import LAG_HELP, add_command, lag_seconds, only_one, seconds
 from binlogfeed.snapshot.command import add_snapshot
@@ -72,7 +72,8 @@ def add_follow(commands: Any) -> None:
 
 def follow(given: argparse.Namespace) -> None:
     """Prints lines until something ends it, or the logs end."""
-    words = [*([] if given.format == PLAIN else ["--full"]), f"--profile={given.profile}", *filter_words(given)]
+    filters = (rows_alone if given.format == DEBEZIUM else by_default_rows)(filter_words(given))
+    words = [*([] if given.format == PLAIN else ["--full"]), f"--profile={given.profile}", *filters]
     begin.say_on_standard_error("binlogfeed")
     form = partial(lines_of, name=given.name) if given.format == DEBEZIUM else None
     follower = Follower(given.logs, given.state, words, given.program, begin=given.begin, lag=given.lag, form=form)

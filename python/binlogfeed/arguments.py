@@ -73,10 +73,10 @@ def words(
     auto_position: str | None,
 ) -> list[str]:
     """The program's words for what is asked for."""
-    # Where no rows are asked for, their transactions are still.
-    kinds = [kind.kind for kind in ROWS_EVENTS.values() if kind in asked]
+    # Where no rows are asked for, their transactions are still. Statements, which the program gives by the server's profile, have no event here.
+    kinds = [name for name, kind in ROWS_EVENTS.items() if kind in asked] or list(ROWS_EVENTS)
     return [
-        *_list_word("--only-events", kinds if 0 < len(kinds) < len(ROWS) else None),
+        *_list_word("--only-events", kinds),
         *_list_word("--only-tables", only_tables, some=True),
         *_list_word("--ignored-tables", ignored_tables),
         *_list_word("--only-schemas", only_schemas, some=True),

@@ -2,17 +2,23 @@
 from __future__ import annotations
 
 import argparse
+from collections.abc import Sequence
+
+from binlogfeed.faults import WordsRefused
 
 PROFILES = ("strict", "server")
 # As the program's own help says them.
 FILTERS = {
-    "only-events": "only changes of these kinds: insert, update, delete",
+    "only-events": "only changes of these kinds: insert, update, delete, and with --profile server statement",
     "only-tables": "only changes of tables with these names, in any schema",
     "ignored-tables": "no changes of tables with these names, in any schema",
     "only-schemas": "only changes of tables in these schemas",
     "ignored-schemas": "no changes of tables in these schemas",
     "auto-position": "no changes of transactions with these GTIDs",
 }
+EVENTS, STATEMENT = "--only-events", "statement"
+# What the program gives by the strict profile. By the server's it gives statements, too.
+ROWS = f"{EVENTS}=insert,update,delete"
 
 
 def add_filters(parser: argparse.ArgumentParser) -> None:
@@ -32,3 +38,17 @@ def filter_words(given: argparse.Namespace) -> list[str]:
     """The program's words for the filters that are given."""
     chosen = ((name, getattr(given, name.replace("-", "_"))) for name in FILTERS)
     return [f"--{name}={value}" for name, value in chosen if value is not None]
+
+
+def by_default_rows(words: Sequence[str]) -> list[str]:
+    """Words for `read`, by which changes of rows alone are given where the words don't say which."""
+    return [*words] if any(word.partition("=")[0] == EVENTS for word in words) else [*words, ROWS]
+
+
+def rows_alone(words: Sequence[str]) -> list[str]:
+    """Words for `read`, by which changes of rows alone are given. A word that asks for statements is refused, as by the strict profile."""
+    for word in words:
+        name, _, kinds = word.partition("=")
+        if name == EVENTS and STATEMENT in kinds.split(","):
+            raise WordsRefused(f"binlogfeed: bad {EVENTS}: {STATEMENT}")
+    return by_default_rows(words)

@@ -219,7 +219,7 @@ WORDS = (
         ["read", "--only-events", "insert,drop", "log"],
         2,
         "bad --only-events: drop",
-        "hint: --only-events takes insert, update and delete, parted by commas and without blanks: insert,update\n" + TRY_READ,
+        "hint: --only-events takes insert, update and delete, with --profile server also statement, parted by commas and without blanks: insert,update\n" + TRY_READ,
     ),
     Case(
         ["read", "--auto-position", "x", "log"],

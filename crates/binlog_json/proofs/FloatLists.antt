@@ -36,7 +36,7 @@ first_float later (a ∷ (b ∷ (c ∷ (d ∷ bytes)))) h = by_texts (stored_tex
   where
     by_texts : (first : Option (List ℕ)) (others : Option (List (List ℕ)))
         → option_map (ending later) (option_and_then (λ text. option_map (λ more. text ∷ more) others) first)
-            ≡ option_and_then (λ text. option_map (λ more. comma_if later ++ (text ++ more)) (option_map (ending true) others)) first
+        ≡ option_and_then (λ text. option_map (λ more. comma_if later ++ (text ++ more)) (option_map (ending true) others)) first
     by_texts None others = refl
     by_texts (Some text) None = refl
     by_texts (Some text) (Some more) = refl
@@ -84,9 +84,11 @@ is_read old front after bytes front_is read = by_texts (float_texts bytes) read
   where
     by_texts : (o : Option (List (List ℕ))) → behind front (option_map (ending false) o) ≡ Some after → IsRead old after (option_map (λ texts. 91 ∷ (joined_by (44 ∷ []) texts ++ 93 ∷ [])) o) true
     by_texts None e = absurd cc
-    by_texts (Some texts) e =
-        (refl, (let same : after ≡ front ++ ending false texts = cc in same) ∙ ap (λ (l : List ℕ). l ++ ending false texts) front_is ∙ append_assoc old (91 ∷ []) (ending false texts)
-            ∙ ap (λ (l : List ℕ). old ++ 91 ∷ l) (ending_joins texts))
+    by_texts (Some texts) e = (
+      refl,
+      (let same : after ≡ front ++ ending false texts = cc in same) ∙ ap (λ (l : List ℕ). l ++ ending false texts) front_is ∙ append_assoc old (91 ∷ []) (ending false texts)
+          ∙ ap (λ (l : List ℕ). old ++ 91 ∷ l) (ending_joins texts),
+    )
 
 pub is_none : (old front after : List ℕ) (bytes : List ℕ) → behind front (floats_text false bytes) ≡ None → IsRead old after (vector_text bytes) false
 is_none old front after bytes read = by_texts (float_texts bytes) read

@@ -9,6 +9,7 @@ pub mod ColumnTexts
 pub mod KeyTexts
 pub mod LabelTexts
 pub mod LineParts
+pub mod StatedLines
 pub mod Visiting
 pub mod Pairs
 pub mod SplitTexts

@@ -22,6 +22,7 @@ mod lines;
 mod names;
 mod pieces;
 mod room;
+mod stated;
 mod style;
 mod texts;
 mod type_texts;

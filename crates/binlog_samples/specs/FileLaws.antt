@@ -1,6 +1,6 @@
 -- What stands at tokens of small files, their units as they are read apart, and what the laws say of them. A law is asked by its name for
 -- what it says of these files, so that each of its premises has to hold of them.
-use Rattle.std.specs.Prelude.{◌≡◌, ℕ, List, [], ◌∷◌, ◌++◌, Option, Some, None, option_map, Bool, true, IsSome, ◌↔◌}
+use Rattle.std.specs.Prelude.{◌≡◌, ◌<◌, ℕ, List, [], ◌∷◌, ◌++◌, Option, Some, None, option_map, Bool, true, IsSome, ◌↔◌}
 use Rattle.binlog_select.specs.declared.token.Token.{Token}
 use Rattle.binlog_feed.specs.Changes.{RowChange}
 use Rattle.binlog_feed.specs.Continues.{has_file, in_files}
@@ -28,7 +28,7 @@ use Rattle.binlog_samples.specs.Tokens.{first_name, second_name, third_name, tok
 abbrev pub Stands : List LogFile → Token → Option Brief → Judgement → Type 0
 Stands files token change judgement = (option_map brief (change_at files token) ≡ change) × (judge_change files token ≡ judgement)
 
--- no change has the number 0
+-- no row has the number 0
 abbrev pub ChangesAtTokens : Type 0
 ChangesAtTokens =
     Stands two_files (token 153 1 first_name) (Some first_change) Fits × Stands two_files (token 153 1 second_name) (Some second_change) Fits
@@ -59,15 +59,15 @@ UnitsApart =
 abbrev pub every : RowChange → Bool
 every change = true
 
--- at the place of each change of two files stands that change
+-- at the place of each change of two files stands that change, and the token of one of a row fits
 abbrev pub StandsThere : Type 0
 StandsThere = ChangesStandAtTheirPlaces
     → (before after : List RowChange) (member : RowChange) → feed two_files every ≡ before ++ member ∷ after
-    → (change_at two_files (token_of member) ≡ Some member) × (judge_change two_files (token_of member) ≡ Fits)
+    → (change_at two_files (token_of member) ≡ Some member) × (0 < member.number → judge_change two_files (token_of member) ≡ Fits)
 
 -- each token of two files
 abbrev pub FoundOfTwo : Type 0
-FoundOfTwo = ChangesAreFound → (token : Token) → (judge_change two_files token ≡ Fits) ↔ IsSome (change_at two_files token)
+FoundOfTwo = ChangesAreFound → (token : Token) → (judge_change two_files token ≡ Fits) ↔ (IsSome (change_at two_files token) × (0 < token.count))
 
 -- the second change of two files stands behind the first
 abbrev pub RisesInTwo : Type 0

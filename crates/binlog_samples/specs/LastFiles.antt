@@ -1,5 +1,5 @@
 -- What comes in the files of a look behind the last file of the look before.
-use Rattle.std.specs.Prelude.{◌≡◌, ℕ, List, [], ◌∷◌, ◌++◌, map, Some, None, Ok}
+use Rattle.std.specs.Prelude.{◌≡◌, ℕ, List, [], ◌∷◌, ◌++◌, map, Some, None, Ok, false}
 use Rattle.binlog_select.specs.declared.filter.Filter.{Filter}
 use Rattle.binlog_json.specs.declared.style.Style.{Style}
 use Rattle.binlog_feed.specs.ChangeMachine.{RemainingChanges}
@@ -31,7 +31,7 @@ ComesOnce =
 -- a filter that no change passes
 abbrev pub passing_none : Filter
 passing_none =
-    record { only_events = Some []; only_tables = None; ignored_tables = None; only_schemas = None; ignored_schemas = None; auto_position = None }
+    record { only_events = Some []; only_tables = None; ignored_tables = None; only_schemas = None; ignored_schemas = None; auto_position = None; statements = false }
 
 -- the files of the second look don't continue those of the first, since another one stands in front
 abbrev pub turned_looks : List Look

@@ -8,6 +8,7 @@ pub mod Maps
 pub mod Files
 pub mod Changes
 pub mod Commits
+pub mod Statements
 pub mod Feeds
 pub mod Tokens
 pub mod Continuations

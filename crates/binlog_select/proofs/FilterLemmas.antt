@@ -8,15 +8,16 @@ use Rattle.std.proofs.lemmas.List.Elements.{Decides-contains}
 use Rattle.binlog_select.specs.declared.filter.Filter.{Filter}
 use Rattle.binlog_select.specs.declared.interval.Interval.{Interval}
 use Rattle.binlog_select.specs.declared.kind.ChangeKind.{ChangeKind}
-use Rattle.binlog_select.specs.declared.kind.ChangeKind.TheVariants.{Insert, Update, Delete}
+use Rattle.binlog_select.specs.declared.kind.ChangeKind.TheVariants.{Insert, Update, Delete, Statement}
 use Rattle.binlog_select.specs.Gtid.{HasGtid, source_number}
 use Rattle.binlog_select.specs.Intervals.{Holds, IsMember}
-use Rattle.binlog_select.specs.Filter.{Passes, same_kind, holds, has_gtid, if_given, passes}
+use Rattle.binlog_select.specs.Filter.{Passes, PassesTable, same_kind, holds, has_gtid, if_given, if_statement, passes, passes_kind, passes_table}
 
 same_kind-true : (x y : ChangeKind) → same_kind x y ≡ true → x ≡ y
 same_kind-true Insert Insert e = refl
 same_kind-true Update Update e = refl
 same_kind-true Delete Delete e = refl
+same_kind-true Statement Statement e = refl
 same_kind-true x y e = cc
 
 same_kind_decides : (x y : ChangeKind) → Decides (same_kind x y) (x ≡ y)
@@ -24,7 +25,9 @@ same_kind_decides x y = (same_kind-true x y, λ e. ap (λ (k : ChangeKind). same
   where
     same_kind-self : (k : ChangeKind) → same_kind k k ≡ true
     same_kind-self Insert = refl
-    same_kind-self other = refl
+    same_kind-self Update = refl
+    same_kind-self Delete = refl
+    same_kind-self Statement = refl
 
 has_kind : (kinds : List ChangeKind) (kind : ChangeKind) → Decides (list_any (λ one. same_kind one kind) kinds) (Contains kinds kind)
 has_kind kinds kind =
@@ -48,18 +51,31 @@ is_test b = (λ e. e, λ h. h)
 
 -- ---- all six lists
 
-pub passes_decides : (filter : Filter) (kind : ChangeKind) (schema table : List ℕ) (gtid : Option (List ℕ × ℕ)) → Decides (passes filter kind schema table gtid) (Passes filter kind schema table gtid)
-passes_decides filter kind schema table gtid =
-    let a = given_decides filter.only_events (λ kinds. list_any (λ one. same_kind one kind) kinds) (λ kinds. Contains kinds kind) (λ kinds. has_kind kinds kind) in
+table_decides : (filter : Filter) (schema table : List ℕ) → Decides (passes_table filter schema table) (PassesTable filter schema table)
+table_decides filter schema table =
     let b = given_decides filter.only_tables (λ names. set.contains names table) (λ names. IsTrue (set.contains names table)) (λ names. is_test (set.contains names table)) in
     let c = given_decides filter.ignored_tables (λ names. not (set.contains names table)) (λ names. ¬ (IsTrue (set.contains names table))) (λ names. Decides-not (set.contains names table) (is_test (set.contains names table))) in
     let d = given_decides filter.only_schemas (λ names. set.contains names schema) (λ names. IsTrue (set.contains names schema)) (λ names. is_test (set.contains names schema)) in
     let e = given_decides filter.ignored_schemas (λ names. not (set.contains names schema)) (λ names. ¬ (IsTrue (set.contains names schema))) (λ names. Decides-not (set.contains names schema) (is_test (set.contains names schema))) in
+    let all = Decides-and _ _ b (Decides-and _ _ c (Decides-and _ _ d e)) in (
+      λ t. let p = all.0 t in record { only_tables = p.0; ignored_tables = p.1.0; only_schemas = p.1.1.0; ignored_schemas = p.1.1.1 },
+      λ p. all.1 (p.only_tables, (p.ignored_tables, (p.only_schemas, p.ignored_schemas))),
+    )
+
+kind_decides : (kind : ChangeKind) (told row : Bool) (P Q : Type 0) → Decides told P → Decides row Q → Decides (passes_kind kind told row) (if_statement kind P Q)
+kind_decides Statement told row P Q p q = p
+kind_decides Insert told row P Q p q = q
+kind_decides Update told row P Q p q = q
+kind_decides Delete told row P Q p q = q
+
+pub passes_decides : (filter : Filter) (kind : ChangeKind) (schema table : List ℕ) (gtid : Option (List ℕ × ℕ)) → Decides (passes filter kind schema table gtid) (Passes filter kind schema table gtid)
+passes_decides filter kind schema table gtid =
+    let a = given_decides filter.only_events (λ kinds. list_any (λ one. same_kind one kind) kinds) (λ kinds. Contains kinds kind) (λ kinds. has_kind kinds kind) in
     let f = given_decides filter.auto_position (λ set. if_given gtid (λ g. not (has_gtid set g.0 g.1))) (λ set. IfSome gtid (λ g. ¬ (HasGtid set g.0 g.1)))
     (λ set. given_decides gtid (λ g. not (has_gtid set g.0 g.1)) (λ g. ¬ (HasGtid set g.0 g.1)) (λ g. Decides-not (has_gtid set g.0 g.1) (is_member (source_number g.0) g.1 set))) in
-    let all = Decides-and _ _ a (Decides-and _ _ b (Decides-and _ _ c (Decides-and _ _ d (Decides-and _ _ e f)))) in (
-      λ t. let p = all.0 t in record { only_events = p.0; only_tables = p.1.0; ignored_tables = p.1.1.0; only_schemas = p.1.1.1.0; ignored_schemas = p.1.1.1.1.0; auto_position = p.1.1.1.1.1 },
-      λ p. all.1 (p.only_events, (p.only_tables, (p.ignored_tables, (p.only_schemas, (p.ignored_schemas, p.auto_position))))),
+    let all = Decides-and _ _ a (Decides-and _ _ (kind_decides kind filter.statements (passes_table filter schema table) _ _ (is_test filter.statements) (table_decides filter schema table)) f) in (
+      λ t. let p = all.0 t in record { only_events = p.0; of_kind = p.1.0; auto_position = p.1.1 },
+      λ p. all.1 (p.only_events, (p.of_kind, p.auto_position)),
     )
 
 -- a test of the condition is the test

@@ -4,6 +4,7 @@ pub mod Filter
 pub mod Gtid
 pub mod Intervals
 pub mod Joining
+pub mod Kinds
 pub mod Names
 pub mod Parts
 pub mod SetForm

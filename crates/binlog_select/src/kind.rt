@@ -4,12 +4,14 @@ ghost use Rattle.std.specs.Prelude.{◌≡◌, ◌↔◌, List, IfOk, IsTrue, Co
 use std::alloc::AllocError;
 use std::marker::Model;
 
-/// What a row change does: MySQL's `WRITE_ROWS`, `UPDATE_ROWS` and `DELETE_ROWS` events.
+/// What a change does: MySQL's `WRITE_ROWS`, `UPDATE_ROWS` and `DELETE_ROWS` events change rows, and a `QUERY` event has a statement.
 #[derive(Clone, Copy, Debug, PartialEq, Eq)]
 pub enum ChangeKind {
     Insert,
     Update,
     Delete,
+    /// A statement that the log has as text, such as `TRUNCATE TABLE`. It has no rows.
+    Statement,
 }
 
 /// A list of kinds of change, in its own order.

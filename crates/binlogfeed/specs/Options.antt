@@ -1,5 +1,5 @@
 -- What the values of options name, and how they are refused.
-use Rattle.std.specs.Prelude.{◌≡◌, ◌≢◌, List, ◌∷◌, ◌++◌, map, Option, Some, None, option_map, Result, Ok, Err, codes, string_bytes}
+use Rattle.std.specs.Prelude.{◌≡◌, ◌≢◌, List, ◌∷◌, ◌++◌, All, map, Bool, true, false, Option, Some, None, option_map, Result, Ok, Err, codes, string_bytes}
 use Rattle.std.specs.Ordering.{nat_cmp}
 use Rattle.std.specs.Cmp.Lexicographic.{slice_cmp}
 use Rattle.std.specs.FinSet as set
@@ -9,6 +9,9 @@ use Rattle.binlog_select.specs.Parts.{parts}
 use Rattle.binlog_select.specs.SetText.{comma, elements, IsSetText, IsFirstBad}
 use Rattle.binlog_select.specs.declared.filter.Filter.{Filter}
 use Rattle.binlog_select.specs.declared.kind.ChangeKind.{ChangeKind}
+use Rattle.binlog_select.specs.declared.kind.ChangeKind.TheVariants.{Statement}
+use Rattle.binlog_profile.specs.declared.profile.Profile.{Profile}
+use Rattle.binlog_profile.specs.declared.profile.Profile.TheVariants.{Strict}
 use Rattle.binlog_json.specs.Line.{kind_text}
 use Rattle.binlogfeed.specs.declared.words_fault.WordsFault.{WordsFault}
 use Rattle.binlogfeed.specs.declared.words_fault.WordsFault.TheVariants.{Help, CommandLine, EventName, Set, Token, Key, ProfileName, OutOfMemory}
@@ -29,21 +32,32 @@ rows_given matches = rows_of (found_of matches)
 abbrev pub names_listed : Text → ArgMatches → Option (set.FinSet (slice_cmp nat_cmp))
 names_listed id matches = option_map names_in (first_of id (rows_given matches))
 
--- kinds of change go by the names that they have in lines
-abbrev pub IsKindOf : Text → Option ChangeKind → Type 0
-IsKindOf word (Some kind) = word ≡ kind_text kind
-IsKindOf word None = (kind : ChangeKind) → word ≢ kind_text kind
+-- by the strict profile no statement is given
+abbrev pub gives : Profile → ChangeKind → Bool
+gives Strict Statement = false
+gives profile kind = true
 
--- the words of the list are the names of these kinds, in their order
-abbrev pub NamesKinds : Text → List ChangeKind → Type 0
-NamesKinds list kinds = words_in list ≡ map kind_text kinds
+-- kinds of change that are given go by the names that they have in lines
+abbrev pub IsKindOf : Profile → Text → Option ChangeKind → Type 0
+IsKindOf profile word (Some kind) = (word ≡ kind_text kind) × (gives profile kind ≡ true)
+IsKindOf profile word None = (kind : ChangeKind) → gives profile kind ≡ true → word ≢ kind_text kind
+
+-- these words are the names of these kinds, in their order, and each of them is given
+pub record AreNames (profile : Profile) (words : List Text) (kinds : List ChangeKind) : Type 0 where
+  pub names : words ≡ map kind_text kinds
+  pub given : All (λ kind. gives profile kind ≡ true) kinds
+
+-- so are the words of the list
+abbrev pub NamesKinds : Profile → Text → List ChangeKind → Type 0
+NamesKinds profile list kinds = AreNames profile (words_in list) kinds
 
 -- the first word of the list that is the name of no kind
-pub record IsFirstBadWord (list word : Text) : Type 0 where
+pub record IsFirstBadWord (profile : Profile) (list word : Text) : Type 0 where
   pub kinds : List ChangeKind
   pub behind : List Text
   pub split : words_in list ≡ map kind_text kinds ++ word ∷ behind
-  pub bad : IsKindOf word None
+  pub given : All (λ kind. gives profile kind ≡ true) kinds
+  pub bad : IsKindOf profile word None
 
 -- what an option comes to: nothing where it isn't given, else what its value reads as
 abbrev pub IsGiven : {X : Type 0} → (Text → X → Type 0) → Option Text → Option X → Type 0
@@ -58,25 +72,26 @@ event_names = first_of (codes "only-events")
 abbrev pub set_text : List Row → Option Text
 set_text = first_of (codes "auto-position")
 
--- the filter has what the options name
-pub record IsFilterOf (rows : List Row) (filter : Filter) : Type 0 where
-  pub only_events : IsGiven NamesKinds (event_names rows) filter.only_events
+-- the filter has what the options name, and gives statements where the profile does
+pub record IsFilterOf (profile : Profile) (rows : List Row) (filter : Filter) : Type 0 where
+  pub only_events : IsGiven (NamesKinds profile) (event_names rows) filter.only_events
   pub only_tables : filter.only_tables ≡ option_map names_in (first_of (codes "only-tables") rows)
   pub ignored_tables : filter.ignored_tables ≡ option_map names_in (first_of (codes "ignored-tables") rows)
   pub only_schemas : filter.only_schemas ≡ option_map names_in (first_of (codes "only-schemas") rows)
   pub ignored_schemas : filter.ignored_schemas ≡ option_map names_in (first_of (codes "ignored-schemas") rows)
   pub auto_position : IsGiven IsSetText (set_text rows) filter.auto_position
+  pub statements : filter.statements ≡ gives profile Statement
 
 -- why event names come to nothing; memory may be wanting for any
-abbrev pub IsEventFault : Option Text → WordsFault → Type 0
-IsEventFault given (EventName word) = (list : Text) × (given ≡ Some list) × IsFirstBadWord list (string_bytes word)
-IsEventFault given OutOfMemory = Unit {0}
-IsEventFault given (Set at) = ⊥
-IsEventFault given Token = ⊥
-IsEventFault given Key = ⊥
-IsEventFault given ProfileName = ⊥
-IsEventFault given (CommandLine said) = ⊥
-IsEventFault given (Help error) = ⊥
+abbrev pub IsEventFault : Profile → Option Text → WordsFault → Type 0
+IsEventFault profile given (EventName word) = (list : Text) × (given ≡ Some list) × IsFirstBadWord profile list (string_bytes word)
+IsEventFault profile given OutOfMemory = Unit {0}
+IsEventFault profile given (Set at) = ⊥
+IsEventFault profile given Token = ⊥
+IsEventFault profile given Key = ⊥
+IsEventFault profile given ProfileName = ⊥
+IsEventFault profile given (CommandLine said) = ⊥
+IsEventFault profile given (Help error) = ⊥
 
 -- why a set comes to nothing
 abbrev pub IsSetFault : Option Text → WordsFault → Type 0
@@ -90,17 +105,17 @@ IsSetFault given (CommandLine said) = ⊥
 IsSetFault given (Help error) = ⊥
 
 -- the event names have no fault
-abbrev pub HasKinds : List Row → Type 0
-HasKinds rows = (kinds : Option (List ChangeKind)) × IsGiven NamesKinds (event_names rows) kinds
+abbrev pub HasKinds : Profile → List Row → Type 0
+HasKinds profile rows = (kinds : Option (List ChangeKind)) × IsGiven (NamesKinds profile) (event_names rows) kinds
 
 -- what the options come to: event names are judged first, then the set
-abbrev pub AnswersOptions : List Row → Result Filter WordsFault → Type 0
-AnswersOptions rows (Ok filter) = IsFilterOf rows filter
-AnswersOptions rows (Err (EventName word)) = IsEventFault (event_names rows) (EventName word)
-AnswersOptions rows (Err (Set at)) = HasKinds rows × IsSetFault (set_text rows) (Set at)
-AnswersOptions rows (Err OutOfMemory) = Unit {0}
-AnswersOptions rows (Err Token) = ⊥
-AnswersOptions rows (Err Key) = ⊥
-AnswersOptions rows (Err ProfileName) = ⊥
-AnswersOptions rows (Err (CommandLine said)) = ⊥
-AnswersOptions rows (Err (Help error)) = ⊥
+abbrev pub AnswersOptions : Profile → List Row → Result Filter WordsFault → Type 0
+AnswersOptions profile rows (Ok filter) = IsFilterOf profile rows filter
+AnswersOptions profile rows (Err (EventName word)) = IsEventFault profile (event_names rows) (EventName word)
+AnswersOptions profile rows (Err (Set at)) = HasKinds profile rows × IsSetFault (set_text rows) (Set at)
+AnswersOptions profile rows (Err OutOfMemory) = Unit {0}
+AnswersOptions profile rows (Err Token) = ⊥
+AnswersOptions profile rows (Err Key) = ⊥
+AnswersOptions profile rows (Err ProfileName) = ⊥
+AnswersOptions profile rows (Err (CommandLine said)) = ⊥
+AnswersOptions profile rows (Err (Help error)) = ⊥

@@ -118,10 +118,10 @@ IsOrder (Once Transactions profile files) found =
     (rows : List Row) × (found ≡ Some (codes "transactions", rows)) × (profile_given rows ≡ Some profile) × (texts files.items ≡ files_given rows)
 IsOrder (Once (Read filter start style) profile files) found =
     (rows : List Row) × (found ≡ Some (codes "read", rows)) × (is_followed rows ≡ false)
-    × IsFilterOf rows filter × IsStart (token_text rows) start × (style ≡ style_given rows) × (profile_given rows ≡ Some profile) × (texts files.items ≡ files_given rows) × (texts files.items ≢ [])
+    × IsFilterOf profile rows filter × IsStart (token_text rows) start × (style ≡ style_given rows) × (profile_given rows ≡ Some profile) × (texts files.items ≡ files_given rows) × (texts files.items ≢ [])
 IsOrder (Follow filter start style profile files) found =
     (rows : List Row) × (found ≡ Some (codes "read", rows)) × (is_followed rows ≡ true)
-    × IsFilterOf rows filter × IsStart (token_text rows) start × (style ≡ style_given rows) × (profile_given rows ≡ Some profile) × (texts files.items ≡ files_given rows)
+    × IsFilterOf profile rows filter × IsStart (token_text rows) start × (style ≡ style_given rows) × (profile_given rows ≡ Some profile) × (texts files.items ≡ files_given rows)
 IsOrder (Once (History schema table key style) profile files) found =
     (rows : List Row) × (found ≡ Some (codes "history", rows))
     × (schema.now ≡ value_given (codes "schema") rows) × (table.now ≡ value_given (codes "table") rows)
@@ -140,14 +140,16 @@ LacksFiles found = (rows : List Row) × (found ≡ Some (codes "read", rows)) ×
 abbrev pub NamesNoProfile : Option (Text × List Row) → Type 0
 NamesNoProfile found = (name : Text) × (rows : List Row) × (found ≡ Some (name, rows)) × (profile_given rows ≡ None)
 
--- the words name the subcommand `read`, whose options have this fault
+-- the words name the subcommand `read` and a profile, by which the options have this fault
 abbrev pub HasOptionFault : Option (Text × List Row) → WordsFault → Type 0
-HasOptionFault found fault = (rows : List Row) × (found ≡ Some (codes "read", rows)) × AnswersOptions rows (Err fault)
+HasOptionFault found fault =
+    (rows : List Row) × (profile : Profile) × (found ≡ Some (codes "read", rows)) × (profile_given rows ≡ Some profile) × AnswersOptions profile rows (Err fault)
 
 -- the words name the subcommand `read`, whose other options name a filter, and whose token has this fault
 abbrev pub HasTokenFault : Option (Text × List Row) → WordsFault → Type 0
 HasTokenFault found fault =
-    (rows : List Row) × (found ≡ Some (codes "read", rows)) × ((filter : Filter) × IsFilterOf rows filter) × IsTokenFault (token_text rows) fault
+    (rows : List Row) × (profile : Profile) × (found ≡ Some (codes "read", rows)) × (profile_given rows ≡ Some profile)
+    × ((filter : Filter) × IsFilterOf profile rows filter) × IsTokenFault (token_text rows) fault
 
 -- the words name the subcommand `history`, whose key has this fault
 abbrev pub HasKeyFault : Option (Text × List Row) → WordsFault → Type 0

@@ -106,6 +106,14 @@ column names in the log (binlog_row_metadata=MINIMAL), its columns are @1, @2 an
 has no key, and ENUM and SET are numbers. Tables with a VECTOR column are read, too. Without
 it such a table ends the run.
 
+By that profile each statement that stands by itself in the log, as TRUNCATE or ALTER TABLE,
+has a line, too. Lists of tables and schemas don't apply to it; with --only-events
+insert,update,delete it has none. Its members are gtid, kind, which is statement, and these:
+  statements     an array of objects, one for each statement: the default schema of its
+                 session, which may be empty, its text, and its timestamp
+  timestamp      the time in the header of the first statement, in seconds since 1970
+  token          the place as above, with the number 0
+
 The changes stand in the order of the log. Those of a transaction that was rolled back, or
 that isn't whole at the end of its file, are left out.
 
@@ -139,7 +147,7 @@ const READ_OPTIONS: [OptionWords; 10] = [
     OptionWords {
         name: "only-events",
         value: "LIST",
-        help: "Only changes of these kinds: insert, update, delete",
+        help: "Only changes of these kinds: insert, update, delete, and with --profile server statement",
         is_required: false,
         is_flag: false,
     },

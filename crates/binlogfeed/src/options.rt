@@ -2,19 +2,25 @@
 ghost use Rattle.std.specs.Prelude.{◌≡◌, Some, IfOk, IfErr, option_map};
 ghost use Rattle.clap.specs.Words.{Text, first_of};
 ghost use Rattle.binlog_select.specs.SetText.{IsSetText};
-ghost use Rattle.binlogfeed.specs.Options.{rows_given, words_in, names_in, names_listed, NamesKinds, IsGiven, IsKindOf, IsEventFault, IsFirstBadWord, IsSetFault, AnswersOptions};
+ghost use Rattle.binlog_select.specs.declared.kind.ChangeKind.TheVariants.{Statement};
+ghost use Rattle.binlogfeed.specs.Options.{rows_given, words_in, names_in, names_listed, NamesKinds, IsGiven, gives, IsKindOf, IsEventFault, IsFirstBadWord, IsSetFault, AnswersOptions};
 ghost use Rattle.binlogfeed.specs.Words.{texts};
 
 use crate::words_fault::WordsFault;
+use binlog_profile::Profile;
 use binlog_select::{ChangeKind, Filter, GtidSet, Kinds, Names, SetFault};
 use clap::ArgMatches;
 use std::alloc::{AllocError, Global};
 
-/// The filter that the options' values name. Event names are judged before the GTID set.
-pub(crate) fn filter_given(alloc: Global, matches: &ArgMatches<'_>) -> Result<Filter, WordsFault>
-    ensures { AnswersOptions (rows_given matches.now) result }
+/// The filter that the options' values name, for a profile. Event names are judged before the GTID set.
+pub(crate) fn filter_given(
+    alloc: Global,
+    profile: Profile,
+    matches: &ArgMatches<'_>,
+) -> Result<Filter, WordsFault>
+    ensures { AnswersOptions profile (rows_given matches.now) result }
 {
-    let only_events = kinds_given(alloc, text_given(matches, "only-events"))?;
+    let only_events = kinds_given(alloc, profile, text_given(matches, "only-events"))?;
     let auto_position = set_given(alloc, text_given(matches, "auto-position"))?;
     let tables = lists_given(alloc, matches, "only-tables", "ignored-tables")?;
     let schemas = lists_given(alloc, matches, "only-schemas", "ignored-schemas")?;
@@ -25,7 +31,18 @@ pub(crate) fn filter_given(alloc: Global, matches: &ArgMatches<'_>) -> Result<Fi
         only_schemas: schemas.only,
         ignored_schemas: schemas.ignored,
         auto_position,
+        statements: gives_statements(profile),
     })
+}
+
+/// Whether statements are given by a profile.
+fn gives_statements(profile: Profile) -> bool
+    ensures { result ≡ gives profile Statement }
+{
+    match profile {
+        Profile::Strict => false,
+        Profile::Server => true,
+    }
 }
 
 /// Names that alone are let through, and names that are not.
@@ -58,24 +75,28 @@ pub(crate) fn text_given<'a>(matches: &ArgMatches<'a>, id: &str) -> Option<&'a s
 }
 
 /// The kinds of change that a list names, in its order.
-fn kinds_given(alloc: Global, list: Option<&str>) -> Result<Option<Kinds>, WordsFault>
-    ensures ok { IfOk result (IsGiven NamesKinds (option_map (λ text. text.now) list.entry)) }
-    ensures err { IfErr result (IsEventFault (option_map (λ text. text.now) list.entry)) }
+fn kinds_given(
+    alloc: Global,
+    profile: Profile,
+    list: Option<&str>,
+) -> Result<Option<Kinds>, WordsFault>
+    ensures ok { IfOk result (IsGiven (NamesKinds profile) (option_map (λ text. text.now) list.entry)) }
+    ensures err { IfErr result (IsEventFault profile (option_map (λ text. text.now) list.entry)) }
 {
     match list {
-        Some(list) => Ok(Some(kinds_of(alloc, list)?)),
+        Some(list) => Ok(Some(kinds_of(alloc, profile, list)?)),
         None => Ok(None),
     }
 }
 
-fn kinds_of(alloc: Global, list: &str) -> Result<Kinds, WordsFault>
-    ensures ok { IfOk result (NamesKinds list.now) }
-    ensures err { IfErr result (IsEventFault (Some list.now)) }
+fn kinds_of(alloc: Global, profile: Profile, list: &str) -> Result<Kinds, WordsFault>
+    ensures ok { IfOk result (NamesKinds profile list.now) }
+    ensures err { IfErr result (IsEventFault profile (Some list.now)) }
 {
     let words = words_of(alloc, list)?;
     let mut kinds = Vec::new(alloc);
     'words: for word in &words {
-        match kind_of(word) {
+        match kind_of(profile, word) {
             Some(kind) => kinds.push(kind)?,
             None => return Err(event_fault(alloc, word)),
         }
@@ -85,7 +106,7 @@ fn kinds_of(alloc: Global, list: &str) -> Result<Kinds, WordsFault>
 
 /// The fault of a word that names no kind of change.
 fn event_fault(alloc: Global, word: &str) -> WordsFault
-    ensures { (list : Text) → IsFirstBadWord list word.now → IsEventFault (Some list) result }
+    ensures { (profile : Profile) (list : Text) → IsFirstBadWord profile list word.now → IsEventFault profile (Some list) result }
 {
     match String::from_str(alloc, word) {
         Ok(word) => WordsFault::EventName(word),
@@ -93,14 +114,15 @@ fn event_fault(alloc: Global, word: &str) -> WordsFault
     }
 }
 
-/// The kind of change with a name.
-fn kind_of(name: &str) -> Option<ChangeKind>
-    ensures { IsKindOf name.now result }
+/// The kind of change with a name. Statements are one where the profile gives them.
+fn kind_of(profile: Profile, name: &str) -> Option<ChangeKind>
+    ensures { IsKindOf profile name.now result }
 {
     match name {
         "insert" => Some(ChangeKind::Insert),
         "update" => Some(ChangeKind::Update),
         "delete" => Some(ChangeKind::Delete),
+        "statement" if gives_statements(profile) => Some(ChangeKind::Statement),
         _ => None,
     }
 }

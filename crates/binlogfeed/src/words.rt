@@ -126,7 +126,7 @@ fn read<'a>(alloc: Global, matches: &ArgMatches<'a>) -> Result<Order<'a>, WordsF
     let Some(profile) = profile_given(matches) else {
         return Err(WordsFault::ProfileName);
     };
-    let filter = filter_given(alloc, matches)?;
+    let filter = filter_given(alloc, profile, matches)?;
     let start = start_given(alloc, text_given(matches, "from"))?;
     let style = style_given(matches);
     if is_followed(matches) {

@@ -9,7 +9,7 @@ use Rattle.binlog_json.specs.declared.style.Style.{Style}
 use Rattle.binlog_json.specs.declared.style.Style.TheVariants.{Plain, Full}
 use Rattle.binlog_json.specs.Keys.{key_text_as, has_key}
 use Rattle.json_samples.specs.Bytes.{hex, utf8}
-use Rattle.json_samples.specs.Lines.{keyed_change, keyed_update, year_change, charsets_change}
+use Rattle.json_samples.specs.Lines.{keyed_change, keyed_update, year_change, charsets_change, two_statements}
 
 abbrev pub HasKey : Style → RowChange → Side → String → Type 0
 HasKey style change side key = key_text_as style change side ≡ Some (utf8 key)
@@ -48,3 +48,9 @@ KeysOfUpdate =
     × (has Plain "[{\"base64\":\"6Q==\"},4294967291,{\"base64\":\"AP8=\"},\"2024\"]" keyed_update ≡ true)
     × (has_key Full (codes "full") (codes "t") (utf8 "[2]") charsets_change ≡ true) × (has_key Full (codes "full") (codes "u") (utf8 "[2]") charsets_change ≡ false)
     × (has_key Full (codes "s") (codes "t") (utf8 "[2]") charsets_change ≡ false)
+
+-- statements have no key, and are no change of a table without a name
+abbrev pub StatementsWithoutKey : Type 0
+StatementsWithoutKey =
+    NoKey Full two_statements Before × NoKey Full two_statements After × NoKey Plain two_statements Before × NoKey Plain two_statements After
+    × (has_key Plain [] [] [] two_statements ≡ false) × (has_key Full [] [] (utf8 "[]") two_statements ≡ false)

@@ -45,6 +45,7 @@ numbers tail cells = record {
   timestamp = 1;
   table = table_in (body_with tail);
   row = inserted cells;
+  statements = [];
 }
 
 abbrev pub five_cells : List Content

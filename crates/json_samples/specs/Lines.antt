@@ -1,14 +1,16 @@
 -- Lines of a change, plain and full, and the table maps that they need.
 use Prim.Native.String.{String}
-use Rattle.std.specs.Prelude.{◌≡◌, ℕ, pos, negsuc, List, [], ◌∷◌, Option, Some, None, Result, Ok, Err, codes}
+use Rattle.std.specs.Prelude.{◌≡◌, ℕ, pos, negsuc, List, [], ◌∷◌, ◌++◌, Option, Some, None, Result, Ok, Err, codes}
 use Rattle.binlog_select.specs.declared.kind.ChangeKind.{ChangeKind}
-use Rattle.binlog_select.specs.declared.kind.ChangeKind.TheVariants.{Insert, Update, Delete}
+use Rattle.binlog_select.specs.declared.kind.ChangeKind.TheVariants.{Insert, Update, Delete, Statement}
 use Rattle.binlog_table.specs.Map.{Map, map_at, no_sections}
 use Rattle.binlog_table.specs.Rows.{Row}
 use Rattle.binlog_table.specs.Value.{Content}
 use Rattle.binlog_table.specs.Value.Content.{absent, null, int, uint, year, bytes, raw}
 use Rattle.binlog_table.specs.declared.fault.MapFault.{MapFault}
+use Rattle.binlog_units.specs.Statements.{StatementText}
 use Rattle.binlog_feed.specs.Changes.{RowChange}
+use Rattle.binlog_feed.specs.Subjects.{no_row, no_table}
 use Rattle.binlog_json.specs.declared.style.Style.{Style}
 use Rattle.binlog_json.specs.declared.style.Style.TheVariants.{Plain, Full}
 use Rattle.binlog_json.specs.FullLine.{text_as}
@@ -47,6 +49,7 @@ year_change = record {
   timestamp = 1795695202;
   table = table_in behind_year;
   row = inserted (uint 4000000000 ∷ year 2024 ∷ uint 4000000000 ∷ uint 18446744073709551611 ∷ int (negsuc 55) ∷ []);
+  statements = [];
 }
 
 abbrev pub LineWithYear : Type 0
@@ -72,6 +75,7 @@ charsets_change = record {
   row = inserted
       (uint 2 ∷ bytes (hex "e9 20 80") ∷ bytes (hex "d6 d0") ∷ bytes (hex "00 e9 20 ac") ∷ bytes (hex "f0 9f 98 80 c3 a9") ∷ bytes (hex "c3 a9") ∷ bytes (hex "61")
       ∷ bytes (hex "00 ff") ∷ bytes (hex "00 ff 00") ∷ bytes (hex "c3 a9") ∷ bytes (hex "c3 a9") ∷ []);
+  statements = [];
 }
 
 abbrev pub LineWithCharsets : Type 0
@@ -98,6 +102,7 @@ keyed_change before after = record {
   timestamp = 1;
   table = table_in keyed_body;
   row = record { before = before; after = after };
+  statements = [];
 }
 
 -- From 2024, -5, é, 00 ff 00 00 and 200 to 2025 and null. The plain reading takes the bit of YEAR for v, and that of v for n. The new
@@ -137,6 +142,7 @@ document_change = record {
     before = Some (int (pos 1) ∷ raw (hex "00 01 00 0c 00 0b 00 01 00 05 01 00 61") ∷ []);
     after = Some (int (pos 1) ∷ raw (hex "00 01 00") ∷ []);
   };
+  statements = [];
 }
 
 -- bytes that are no document stand as they do in plain lines
@@ -164,6 +170,7 @@ nulls_change body kind before after = record {
   timestamp = 1;
   table = table_in body;
   row = record { before = before; after = after };
+  statements = [];
 }
 
 abbrev pub row_of : Content → Content → Option (List Content)
@@ -210,3 +217,55 @@ abbrev pub NullsEscaped : Type 0
 NullsEscaped =
     Writes Full (nulls_change (body_with "01 f5 01 04 01 04 03 02 71 22") Insert None (Some (json_null ∷ [])))
     "{\"after\":{\"q\\\"\":null},\"before\":null,\"gtid\":null,\"json_null\":[\"after.q\\\"\"],\"key\":[],\"types\":{\"q\\\"\":\"json\"},\"kind\":\"insert\",\"schema\":\"s\",\"table\":\"t\",\"timestamp\":1,\"token\":\"4.7@binlog.000002\"}"
+
+-- ---- statements
+
+abbrev pub stated_change : Option (List ℕ × ℕ) → List StatementText → RowChange
+stated_change gtid statements = record {
+  file = codes "binlog.000001";
+  position = 154;
+  number = 0;
+  gtid = gtid;
+  committed = Some 1700000000123456;
+  kind = Statement;
+  timestamp = 1700000000;
+  table = no_table;
+  row = no_row;
+  statements = statements;
+}
+
+abbrev pub another_gtid : Option (List ℕ × ℕ)
+another_gtid = Some (hex "3e 11 fa 47 71 ca 11 e1 9e 33 c8 0a a9 42 95 62", 5)
+
+abbrev pub stated : ℕ → List ℕ → List ℕ → StatementText
+stated timestamp schema text = record { timestamp = timestamp; schema = schema; text = text }
+
+-- the line of statements is the same in each style
+abbrev pub WritesBoth : RowChange → String → Type 0
+WritesBoth change line = Writes Plain change line × Writes Full change line
+
+abbrev pub LineWithStatement : Type 0
+LineWithStatement =
+    WritesBoth (stated_change another_gtid (stated 1700000000 (codes "shop") (codes "TRUNCATE TABLE orders") ∷ []))
+    "{\"gtid\":\"3e11fa47-71ca-11e1-9e33-c80aa9429562:5\",\"kind\":\"statement\",\"statements\":[{\"schema\":\"shop\",\"text\":\"TRUNCATE TABLE orders\",\"timestamp\":1700000000}],\"timestamp\":1700000000,\"token\":\"154.0@binlog.000001\"}"
+
+-- no GTID and no schema; the text has quotation marks and a line feed
+abbrev pub LineWithQuotedStatement : Type 0
+LineWithQuotedStatement =
+    WritesBoth (stated_change None (stated 1700000000 [] (codes "ALTER TABLE t COMMENT \"a" ++ 10 ∷ codes "b\"") ∷ []))
+    "{\"gtid\":null,\"kind\":\"statement\",\"statements\":[{\"schema\":\"\",\"text\":\"ALTER TABLE t COMMENT \\\"a\\nb\\\"\",\"timestamp\":1700000000}],\"timestamp\":1700000000,\"token\":\"154.0@binlog.000001\"}"
+
+-- the schema is UTF-8; the text, DROP and é in latin1, isn't
+abbrev pub LineWithStatementInLatin1 : Type 0
+LineWithStatementInLatin1 =
+    WritesBoth (stated_change another_gtid (stated 1700000000 (utf8 "é") (hex "44 52 4f 50 20 e9") ∷ []))
+    "{\"gtid\":\"3e11fa47-71ca-11e1-9e33-c80aa9429562:5\",\"kind\":\"statement\",\"statements\":[{\"schema\":\"é\",\"text\":{\"base64\":\"RFJPUCDp\"},\"timestamp\":1700000000}],\"timestamp\":1700000000,\"token\":\"154.0@binlog.000001\"}"
+
+-- each of two statements has its own time, and the schema of the second isn't UTF-8
+abbrev pub two_statements : RowChange
+two_statements = stated_change None (stated 1700000000 (codes "a") (codes "DROP VIEW v") ∷ stated 1700000001 (hex "ff") (utf8 "DROP VIEW é") ∷ [])
+
+abbrev pub LineWithStatements : Type 0
+LineWithStatements =
+    WritesBoth two_statements
+    "{\"gtid\":null,\"kind\":\"statement\",\"statements\":[{\"schema\":\"a\",\"text\":\"DROP VIEW v\",\"timestamp\":1700000000},{\"schema\":{\"base64\":\"/w==\"},\"text\":\"DROP VIEW é\",\"timestamp\":1700000001}],\"timestamp\":1700000000,\"token\":\"154.0@binlog.000001\"}"

@@ -9,6 +9,6 @@ mod values;
 
 pub use indexes::sample_indexes;
 pub use lengths::sample_lengths;
-pub use lines::{sample_histories, sample_json_nulls, sample_lines};
+pub use lines::{sample_histories, sample_json_nulls, sample_lines, sample_statements};
 pub use types::sample_types;
 pub use values::sample_full_values;

@@ -11,6 +11,7 @@ from pathlib import Path
 from typing import Optional
 
 from binlogfeed.faults import BinlogfeedError, FileFault, LogFault, ProgramMissing, WordsRefused, told
+from binlogfeed.filters import rows_alone
 from binlogfeed.logs import check_without_gap, is_log, listed, none_of
 from binlogfeed.program import Run
 from binlogfeed.summary.beside import Beside, Worker
@@ -97,10 +98,10 @@ def summed_up(
 
     Raises what ended the reading where nothing was read.
     """
-    by = f"--profile={profile}"
+    by, chosen = f"--profile={profile}", rows_alone(filters)
     beside = Beside(lambda: _counted_units(logs, program, by))
     try:
-        changes, fault = _counted_changes(logs, [by, *filters], program)
+        changes, fault = _counted_changes(logs, [by, *chosen], program)
         units, status, line = beside.result()
     finally:
         beside.end()

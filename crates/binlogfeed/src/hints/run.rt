@@ -182,7 +182,8 @@ fn cause_of_type(column_type: u8) -> &'static str {
         7 | 11 | 12 => {
             "a date or a time of a table that was made before MySQL 5.6.4 isn't read: ALTER TABLE .. FORCE makes the column new"
         }
-        242 => "VECTOR columns aren't read by the strict profile: read the log with --profile server",
+        242 =>
+            "VECTOR columns aren't read by the strict profile: read the log with --profile server",
         _ => "columns of this type aren't read",
     }
 }

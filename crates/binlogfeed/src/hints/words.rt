@@ -41,7 +41,8 @@ pub(crate) fn hint_words<R: Runtime + AllocGlobal>(
 fn value_wanted(fault: &WordsFault) -> &'static str {
     match fault {
         WordsFault::EventName(_) => {
-            "--only-events takes insert, update and delete, parted by commas and without blanks: insert,update"
+            "--only-events takes insert, update and delete, with --profile server also statement, parted by commas and \
+            without blanks: insert,update"
         }
         WordsFault::Set(_) => {
             "--auto-position takes GTID sets, parted by commas and counted from 0, each a source and its numbers: \

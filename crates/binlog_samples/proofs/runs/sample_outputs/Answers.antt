@@ -1,5 +1,10 @@
-use Rattle.std.proofs.Common.{◌≡◌, ℕ, List, rules, [], ◌∷◌, ◌++◌, Some, None, refl, ap, subst, inl, inr, arith}
+use Rattle.std.proofs.Common.{◌≡◌, ◌∙◌, ℕ, List, rules, [], ◌∷◌, ◌++◌, Some, None, refl, ap, subst, inl, inr, arith}
 use Rattle.std.specs.Prelude.{get_or}
+use Rattle.binlog_select.specs.declared.kind.ChangeKind.{ChangeKind}
+use Rattle.binlog_select.specs.declared.kind.ChangeKind.TheVariants.{Insert, Update, Delete, Statement}
+use Rattle.binlog_feed.specs.Changes.{RowChange}
+use Rattle.binlog_json.specs.Json.{compact_text}
+use Rattle.binlog_json.specs.Line.{by_kind, change_data, stated_data}
 use Rattle.binlog_json.specs.declared.style.Style.TheVariants.{Plain}
 use Rattle.binlogfeed.specs.Lines.{change_line}
 use Rattle.binlogfeed.specs.Runs.{IsLineAtMost}
@@ -7,9 +12,18 @@ use Rattle.binlog_samples.specs.Runs.{kept, line_a, line_b, row_fault}
 use Rattle.binlog_samples.proofs.runs.sample_outputs.Goals as goal
 
 -- a change's line begins with a brace
+begins : (change : RowChange) → get_or (change_line Plain change) 0 0 ≡ 123
+begins change = by change.kind
+  where
+    by : (kind : ChangeKind) → get_or (compact_text (by_kind kind (stated_data change) (change_data change)) ++ 10 ∷ []) 0 0 ≡ 123
+    by Insert = refl
+    by Update = refl
+    by Delete = refl
+    by Statement = refl
+
 not_a_line : (byte : ℕ) (rest : List ℕ) → (byte ≡ 123 → ⊥) → IsLineAtMost Plain (byte ∷ rest) → ⊥
 not_a_line byte rest other (inl none) = cc
-not_a_line byte rest other (inr (change, is)) = other (ap (λ (text : List ℕ). get_or text 0 0) is)
+not_a_line byte rest other (inr (change, is)) = other (ap (λ (text : List ℕ). get_or text 0 0) is ∙ begins change)
 
 last_one : (front last : List ℕ) → kept ++ line_a ≡ kept ++ front → line_a ++ line_b ≡ front ++ last → last ≡ line_b
 last_one front last written parts = cc
