@@ -18,7 +18,7 @@ sys.dont_write_bytecode = True
 
 from built import (  # noqa: E402
     charsets, collations, costs, faults, floats, following, full_lines, geometry, help_text, json_documents, library_page, lists,
-    rare_paths, refusals, rows, server_documents, server_logs, server_profile, system, terminal, tokens, truth, words, wrapper,
+    rare_paths, refusals, rows, server_documents, server_logs, server_profile, statements, system, terminal, tokens, truth, words, wrapper,
 )  # fmt: skip
 from built.check import Check  # noqa: E402
 from least_counts import lacking  # noqa: E402
@@ -26,7 +26,7 @@ from least_counts import lacking  # noqa: E402
 TOP = Path(__file__).resolve().parent.parent
 PROGRAMS = [TOP / "crates/program/out/program", TOP / "crates/program/out/program.by-rattle"]
 PARTS = (
-    system, rare_paths, rows, words, faults, help_text, terminal, server_logs, server_profile, tokens, truth, geometry, collations,
+    system, rare_paths, rows, words, faults, help_text, terminal, server_logs, server_profile, statements, tokens, truth, geometry, collations,
     charsets, full_lines, floats, json_documents, server_documents, refusals, following, lists, costs,
 )  # fmt: skip
 

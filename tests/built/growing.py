@@ -1,6 +1,7 @@
 """Logs that grow as a server writes them, and a driver of `read --follow` that knows nothing of the package."""
 from __future__ import annotations
 
+import json
 import os
 import select
 import subprocess
@@ -9,7 +10,7 @@ from collections.abc import Iterable
 from pathlib import Path
 from random import Random
 
-from built.check import SECONDS, command
+from built.check import SECONDS, Outcome, Wanted, command, differs, run
 
 # In its format event, a server's flag says that the log is in use. It is cleared when the log is closed.
 FLAGS = slice(21, 23)
@@ -134,3 +135,27 @@ class Driver:
         """Ends its input. Answers its status, and what else it wrote."""
         out, said = self.process.communicate(timeout=SECONDS)
         return self.process.returncode, out, said
+
+
+def judge_from_each_token(words: tuple[str, ...], path: str, program: Path, folder: Path) -> list[str]:
+    """Behind each token of a run over a log stand the lines behind it."""
+    lines = run(program, ["read", *words, path], folder).stdout.splitlines(keepends=True)
+    reasons = [] if lines else ["there are no lines"]
+    for number, line in enumerate(lines, 1):
+        token = json.loads(line)["token"]
+        came = run(program, ["read", *words, "--from", token, path], folder)
+        reasons += [f"from {token}: {reason}" for reason in differs(came, Wanted(0, b"".join(lines[number:])))]
+    return reasons
+
+
+def judge_followed(words: tuple[str, ...], path: str, count: int, program: Path, folder: Path) -> list[str]:
+    """A run that follows a log while it grows gives at each look what is new, which is what a run over so much of it gives: so many lines."""
+    content, log = Path(path).read_bytes(), folder / Path(path).name
+    driver, came, reasons = Driver(program, *words), b"", []
+    for length in [*range(0, len(content), 97), len(content)]:
+        log.write_bytes(content[:length])
+        came += driver.look(log)
+        wanted = run(program, ["read", *words, str(log)], folder)
+        reasons += [f"cut to {length}: {reason}" for reason in differs(wanted, Wanted(0, came))]
+    reasons += differs(Outcome(*driver.ended()), Wanted(0))
+    return reasons + ([] if came.count(b"\n") == count else [f"the lines are {came!r}"])

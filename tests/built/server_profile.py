@@ -7,13 +7,14 @@ import re
 from functools import partial
 from pathlib import Path
 
-from built.check import Check, Outcome, Wanted, differs, run, said
-from built.growing import Driver
+from built.check import Check, Wanted, differs, run, said
+from built.growing import judge_followed, judge_from_each_token
 from built.server_logs import BANK, SHOP, logs_of
 
 MINIMAL = Path(__file__).resolve().parents[1] / "minimal"
 [LOG] = logs_of(MINIMAL)
 SERVER = ("--profile", "server")
+ROWS = ("--only-events", "insert,update,delete")
 # Where its first table map stands, and its first transaction with rows.
 FIRST_MAP, FIRST_CHANGE = 797, 654
 
@@ -88,7 +89,7 @@ def unlike(line: dict, change: dict, full: bool) -> list[str]:
 
 def judge_values(words: tuple[str, ...], program: Path, folder: Path) -> list[str]:
     """Each change is as mysqlbinlog printed it, column by column."""
-    came = run(program, ["read", *words, *SERVER, LOG], folder)
+    came = run(program, ["read", *words, *SERVER, *ROWS, LOG], folder)
     lines, wanted = [json.loads(line) for line in came.stdout.splitlines()], told_lines("expected.jsonl")
     reasons = differs(came, Wanted(0, None))
     if len(lines) != len(wanted):
@@ -113,7 +114,7 @@ def judge_state(program: Path, folder: Path) -> list[str]:
     """Applied one after the other, the changes make the tables that the server told of."""
     tables: dict[str, list[dict]] = {table["table"]: [] for table in told_lines("state.jsonl")}
     reasons = []
-    for line in run(program, ["read", "--full", *SERVER, LOG], folder).stdout.splitlines():
+    for line in run(program, ["read", "--full", *SERVER, *ROWS, LOG], folder).stdout.splitlines():
         change = json.loads(line)
         rows = tables[change["table"]]
         if change["before"] is not None and change["before"] not in rows:
@@ -129,7 +130,7 @@ def judge_state(program: Path, folder: Path) -> list[str]:
 def judge_types(program: Path, folder: Path) -> list[str]:
     """The types of full lines are those that the server declared, as far as the maps say it."""
     reasons = []
-    for line in run(program, ["read", "--full", *SERVER, LOG], folder).stdout.splitlines():
+    for line in run(program, ["read", "--full", *SERVER, *ROWS, LOG], folder).stdout.splitlines():
         change = json.loads(line)
         for (table, number), column in columns().items():
             if table == change["table"]:
@@ -141,28 +142,11 @@ def judge_types(program: Path, folder: Path) -> list[str]:
     return reasons
 
 
-def judge_going_on(words: tuple[str, ...], program: Path, folder: Path) -> list[str]:
-    """Behind each token stand the lines behind it; behind that of no change, all."""
-    lines = run(program, ["read", *words, *SERVER, LOG], folder).stdout.splitlines(keepends=True)
-    tokens = [json.loads(line)["token"] for line in lines]
-    reasons = [] if lines else ["there are no lines"]
-    for number, token in enumerate([f"{FIRST_CHANGE}.0@binlog.000001", *tokens]):
-        came = run(program, ["read", *words, *SERVER, "--from", token, LOG], folder)
-        reasons += [f"from {token}: {reason}" for reason in differs(came, Wanted(0, b"".join(lines[number:])))]
-    return reasons
-
-
-def judge_followed(words: tuple[str, ...], program: Path, folder: Path) -> list[str]:
-    """A run that follows the log while it grows gives at each look what is new, which is what a run over so much of it gives."""
-    content, log = Path(LOG).read_bytes(), folder / "binlog.000001"
-    driver, came, reasons = Driver(program, *words, *SERVER), b"", []
-    for length in [*range(0, len(content), 97), len(content)]:
-        log.write_bytes(content[:length])
-        came += driver.look(log)
-        wanted = run(program, ["read", *words, *SERVER, str(log)], folder)
-        reasons += [f"cut to {length}: {reason}" for reason in differs(wanted, Wanted(0, came))]
-    reasons += differs(Outcome(*driver.ended()), Wanted(0))
-    return reasons + ([] if came.count(b"\n") == len(told_lines("expected.jsonl")) else [f"the lines are {came!r}"])
+def judge_from_first(words: tuple[str, ...], program: Path, folder: Path) -> list[str]:
+    """Behind the token of no change of the first transaction with rows stand all rows."""
+    words = ["read", *words, *SERVER, *ROWS]
+    whole = run(program, [*words, LOG], folder)
+    return differs(run(program, [*words, "--from", f"{FIRST_CHANGE}.0@binlog.000001", LOG], folder), Wanted(0, whole.stdout))
 
 
 def judge_strict(words: tuple[str, ...], program: Path, folder: Path) -> list[str]:
@@ -184,11 +168,12 @@ def judge_units(program: Path, folder: Path) -> list[str]:
 
 
 def judge_alike(words: tuple[str, ...], logs: Path, program: Path, folder: Path) -> list[str]:
-    """A log whose maps have names is read alike by both profiles."""
+    """The rows of a log whose maps have names are read alike by both profiles."""
     wanted = run(program, [*words, *logs_of(logs)], folder)
+    rows = ROWS if words[0] == "read" else ()
     reasons = differs(wanted, Wanted(0, None)) + ([] if wanted.stdout else ["there are no lines"])
     for name in ("strict", "server"):
-        came = run(program, [words[0], "--profile", name, *words[1:], *logs_of(logs)], folder)
+        came = run(program, [words[0], "--profile", name, *rows, *words[1:], *logs_of(logs)], folder)
         reasons += [f"{name}: {reason}" for reason in differs(came, Wanted(0, wanted.stdout))]
     return reasons
 
@@ -206,12 +191,14 @@ def judge_no_history(program: Path, folder: Path) -> list[str]:
 def checks() -> list[Check]:
     """The checks of the profile of servers."""
     styles = (("plain", ()), ("full", ("--full",)))
+    changes = len(told_lines("expected.jsonl"))
     story = ("history", "--schema", "shop", "--table", "customer", "--key", "[1]")
     alike = [("read",), ("read", "--full"), ("transactions",)]
     of_minimal = [
         *[Check(f"columns without names, {name} lines", partial(judge_values, words)) for name, words in styles],
-        *[Check(f"columns without names, {name} lines from each token", partial(judge_going_on, words)) for name, words in styles],
-        *[Check(f"columns without names, {name} lines of a log that grows", partial(judge_followed, words)) for name, words in styles],
+        *[Check(f"columns without names, {name} lines from each token", partial(judge_from_each_token, (*words, *SERVER), LOG)) for name, words in styles],
+        *[Check(f"columns without names, {name} lines from the first rows", partial(judge_from_first, words)) for name, words in styles],
+        *[Check(f"columns without names, {name} lines of a log that grows", partial(judge_followed, (*words, *SERVER, *ROWS), LOG, changes)) for name, words in styles],
         Check("columns without names, the tables at the end", judge_state),
         Check("columns without names, their types", judge_types),
         Check("columns without names, transactions", judge_units),

@@ -96,13 +96,15 @@ class Documents(FolderTest):
         self.assertEqual(self.shown(history), of_one[0])
 
     def test_reading(self):
-        read, lines, last = blocks("docs/USAGE.md", "Reading files")
+        read, lines, last, stated = blocks("docs/USAGE.md", "Reading files")
         shown = self.shown(read)
         self.assertEqual(shown, (TOP / "examples/shop/read.jsonl").read_text(encoding="utf-8"))
         self.assertLessEqual(set(lines.splitlines()), set(shown.splitlines()))
         # Nine rows are left, and the one that was changed last stands last.
         left = self.shown(last).splitlines()
         self.assertEqual((len(left), left[-1]), (9, LAST_ROW))
+        statements = self.shown(f"{read.split(' ', 1)[0]} read --profile server --only-events statement {TOP / 'tests/statement/binlog.000001'}")
+        self.assertIn(stated, statements)
 
     def test_the_story_of_a_row(self):
         """Where it is empty, a hint says so, and the page says how to see what the key has to be."""
