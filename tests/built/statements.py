@@ -58,8 +58,8 @@ def lines_of(program: Path, folder: Path, *words: str) -> list[dict]:
 def judge_statements(words: tuple[str, ...], program: Path, folder: Path) -> list[str]:
     """Each statement that stands by itself has a line, which says what mysqlbinlog prints; a line stands in the order of its place."""
     lines = lines_of(program, folder, *words, *SERVER)
-    times = dict(re.findall(r"^# at (\d+)\n(?:.*\n)*?SET TIMESTAMP=(\d+)", (FOLDER / "mysqlbinlog.txt").read_text(encoding="utf-8"), re.MULTILINE))
-    time = int(next(iter(times.values())))
+    # All of them began in one second.
+    [time] = {int(time) for time in re.findall(r"SET TIMESTAMP=(\d+)", (FOLDER / "mysqlbinlog.txt").read_text(encoding="utf-8"))}
     wanted = [
         {
             "gtid": one["gtid"],

@@ -7,6 +7,6 @@ pub enum Profile {
     /// statement of a LOAD DATA is passed over.
     Strict,
     /// What servers write by default, too: columns without names are numbered, `@1`, `@2` and so on. VECTOR columns are read, and the
-    /// statement of a LOAD DATA ends its transaction as others do.
+    /// statement of a LOAD DATA counts as that of a QUERY event does.
     Server,
 }

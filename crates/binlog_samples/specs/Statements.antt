@@ -51,7 +51,7 @@ StatementsStand =
     PlacedAre (front ++ query_event (codes "TRUNCATE t")) ((Statement, (153, 0)) ∷ [])
     × PlacedAre (truncated ++ one_more 2 (image 1 (codes "a")) xid_event) ((Statement, (153, 0)) ∷ (Insert, (258, 1)) ∷ [])
 
--- COMMIT and ROLLBACK say nothing, nor does BEGIN, nor a text within a transaction by now
+-- COMMIT and ROLLBACK say nothing, nor does BEGIN, nor, so far, a text within a transaction
 abbrev pub SaysNothing : List ℕ → Type 0
 SaysNothing file = changes (alone file) ≡ []
 
