@@ -4,10 +4,13 @@ from __future__ import annotations
 from collections.abc import Iterable, Mapping
 from typing import Any
 
-from binlogfeed.events import ROWS_EVENTS, Event, GtidEvent, RotateEvent, RowsEvent, XidEvent
+from binlogfeed.events import ROWS_EVENTS, Event, GtidEvent, QueryEvent, RotateEvent, RowsEvent, XidEvent
+from binlogfeed.filters import STATEMENT
 
 ROWS = frozenset(ROWS_EVENTS.values())
-EVENTS = ROWS | {GtidEvent, XidEvent, RotateEvent}
+# What tells of transactions of rows.
+BESIDE_ROWS = frozenset({GtidEvent, XidEvent, RotateEvent})
+EVENTS = ROWS | BESIDE_ROWS | {QueryEvent}
 
 CONNECTION = "files are read here, and no server is connected to: give the log files, or the server's folder, as first argument"
 METADATA = "names and types come from the log itself (binlog_row_metadata=FULL); where it has no names, `columns` gives them"
@@ -73,8 +76,12 @@ def words(
     auto_position: str | None,
 ) -> list[str]:
     """The program's words for what is asked for."""
-    # Where no rows are asked for, their transactions are still. Statements, which the program gives by the server's profile, have no event here.
-    kinds = [name for name, kind in ROWS_EVENTS.items() if kind in asked] or list(ROWS_EVENTS)
+    kinds = [name for name, kind in ROWS_EVENTS.items() if kind in asked]
+    if not kinds and asked & BESIDE_ROWS:
+        # No rows are asked for, but their transactions are.
+        kinds = list(ROWS_EVENTS)
+    # The program gives statements, too, where nothing says which lines are wanted.
+    kinds += [STATEMENT] if QueryEvent in asked else []
     return [
         *_list_word("--only-events", kinds),
         *_list_word("--only-tables", only_tables, some=True),

@@ -1,12 +1,11 @@
 """The events that aren't of rows, by the module's name in python-mysql-replication."""
 from __future__ import annotations
 
-from binlogfeed.events import Event, GtidEvent, RotateEvent, XidEvent
+from binlogfeed.events import Event, GtidEvent, QueryEvent, RotateEvent, XidEvent
 
-__all__ = ["Event", "GtidEvent", "RotateEvent", "XidEvent"]
+__all__ = ["Event", "GtidEvent", "QueryEvent", "RotateEvent", "XidEvent"]
 
 NOT_HERE = {
-    "QueryEvent": "statements, such as ALTER TABLE, aren't given; the commit of a transaction is an XidEvent",
     "BinLogEvent": "the class of all events is Event",
     "FormatDescriptionEvent": "a file's own events aren't given; RotateEvent tells which file follows",
     "HeartbeatLogEvent": "no server is connected to",

@@ -8,7 +8,7 @@ from typing import Any, NamedTuple, Optional, TextIO, Union
 
 from binlogfeed.as_json import json_of
 from binlogfeed.debezium import NAME, Names, Record, records_of
-from binlogfeed.lines import Image, Parts
+from binlogfeed.lines import Image, Parts, Said
 from binlogfeed.tokens import are_of_one_transaction, token_parts
 from binlogfeed.values import Column
 
@@ -54,7 +54,7 @@ class Event:
 
     @property
     def number(self) -> int:
-        """The number of the change in its transaction, from 1: that of the last one, where the event has several rows."""
+        """The number of the change in its transaction, from 1: that of the last one of several rows. A statement has 0."""
         return token_parts(self.token).count
 
     def to_json(self) -> str:
@@ -332,31 +332,76 @@ class RotateEvent(Event):
         return [f"Position: {self.position}", f"Next binlog file: {self.next_binlog}"]
 
 
+class QueryEvent(Event):
+    """A statement that stands by itself in the log, such as TRUNCATE TABLE or ALTER TABLE.
+
+    `schema` has the bytes of the session's default schema, as in python-mysql-replication. `query` is a str: bytes that aren't UTF-8
+    are in it as Python's `surrogateescape` has them.
+    """
+
+    __slots__ = ("schema", "query")
+    event_type = 2
+
+    def __init__(self, said: Said) -> None:
+        """The event of a statement's line."""
+        super().__init__(said.timestamp, said.gtid, said.token)
+        self.schema = said.schema
+        self.query = said.text.decode("utf-8", "surrogateescape")
+
+    def _members(self) -> dict[str, Any]:
+        """The schema and the text, too."""
+        told = {"schema": _text_or_bytes(self.schema), "query": _text_or_bytes(self.query.encode("utf-8", "surrogateescape"))}
+        return {**told, **super()._members()}
+
+    def _told(self) -> list[str]:
+        """The schema and the text."""
+        text = self.query.encode("utf-8", "surrogateescape")
+        return [f"Schema: {self.schema.decode('utf-8', 'backslashreplace')}", f"Query: {text.decode('utf-8', 'backslashreplace')}"]
+
+
+def _text_or_bytes(raw: bytes) -> Union[str, bytes]:
+    """The text that bytes are in UTF-8; bytes that are none stay as they are."""
+    try:
+        return raw.decode()
+    except UnicodeDecodeError:
+        return raw
+
+
 # The class of the event of a change, by the kind that its form has.
 ROWS_EVENTS: dict[str, type[RowsEvent]] = {kind.kind: kind for kind in (WriteRowsEvent, UpdateRowsEvent, DeleteRowsEvent)}
 
 
 class Transaction:
-    """The changes of one transaction that passed the filters, in their order: at least one."""
+    """The changes of one transaction that passed the filters, in their order: at least one.
 
-    def __init__(self, events: list[RowsEvent]) -> None:
-        """A transaction of these changes."""
+    A statement by itself, where these are asked for, is one without changes of rows.
+    """
+
+    def __init__(self, events: list[RowsEvent], statement: Optional[QueryEvent] = None) -> None:
+        """A transaction of these changes, or of a statement."""
         self.events = events
+        # The statement that it is; None for a transaction of rows.
+        self.statement = statement
 
     @property
     def gtid(self) -> Optional[str]:
         """The transaction's GTID."""
-        return self.events[0].gtid
+        return self._last.gtid
 
     @property
     def committed(self) -> Optional[int]:
         """When it was committed, in microseconds since 1970; None where the log doesn't say it."""
-        return self.events[0].committed
+        return self._last.committed
 
     @property
     def token(self) -> str:
         """The token of the last change: a reader with `resume=token` goes on behind the transaction."""
-        return self.events[-1].token
+        return self._last.token
+
+    @property
+    def _last(self) -> Event:
+        """The statement, or the last change."""
+        return self.events[-1] if self.statement is None else self.statement
 
     def __iter__(self) -> Iterator[RowsEvent]:
         """The changes."""

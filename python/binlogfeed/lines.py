@@ -8,7 +8,7 @@ from typing import Any, NamedTuple, Optional
 
 from binlogfeed.columns import Fitted, Tables, fitted
 from binlogfeed.faults import ColumnsMismatch, ConversionFailed, ProgramFailed
-from binlogfeed.values import Column, Convert, Reading, Style, is_document, plain, reading_of
+from binlogfeed.values import Column, Convert, Reading, Style, is_document, plain, reading_of, to_bytes
 
 # It takes a line apart somewhat faster.
 loads: Optional[Callable[[bytes], Any]]
@@ -47,6 +47,8 @@ KEY_BYTES, TIMESTAMP_BYTES = KEY.encode(), TIMESTAMP.encode()
 BYTES = b'{"base64":'
 # So many forms are known at once. Tables that are altered again and again have ever new ones.
 MOST_FORMS = 10_000
+# A line of a statement begins so, and one of a row with its images.
+OF_STATEMENT = b'{"gtid":'
 
 
 class Step(NamedTuple):
@@ -127,6 +129,26 @@ class Change:
     def __init__(self, parts: Parts) -> None:
         """The change of these parts."""
         self.form, self.before, self.after, self.timestamp, self.gtid, self.token, self.committed, self.line = parts
+
+
+class Said(NamedTuple):
+    """A statement by itself, as its line has it. The schema and the text are the bytes in the log."""
+
+    schema: bytes
+    text: bytes
+    timestamp: int
+    gtid: Optional[str]
+    token: str
+
+
+def said_by(line: bytes) -> Said:
+    """The statement of a line of the kind `statement`."""
+    try:
+        members = json.loads(line)
+        (one,) = members["statements"]
+        return Said(to_bytes(one["schema"]), to_bytes(one["text"]), one["timestamp"], members["gtid"], members["token"])
+    except (ValueError, LookupError, TypeError, AttributeError) as error:
+        raise not_full() from error
 
 
 def loads_exactly(text: bytes) -> Any:

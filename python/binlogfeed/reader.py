@@ -14,9 +14,9 @@ from typing import Any, Generic, Optional, TypeVar, Union, cast, overload
 from binlogfeed.arguments import asked_events, refuse_others, words
 from binlogfeed.begin import FIRST, NOW
 from binlogfeed.columns import GivenColumns, tables_of
-from binlogfeed.events import ROWS_EVENTS, Event, GtidEvent, RotateEvent, RowsEvent, Transaction, XidEvent
+from binlogfeed.events import ROWS_EVENTS, Event, GtidEvent, QueryEvent, RotateEvent, RowsEvent, Transaction, XidEvent
 from binlogfeed.faults import BinlogfeedError, ColumnsMismatch, FileFault, LogFault, TokenRefused, WordsRefused
-from binlogfeed.lines import Parts, reader_of_lines
+from binlogfeed.lines import OF_STATEMENT, Parts, reader_of_lines, said_by
 from binlogfeed.logs import Log, is_place_of_logs, none_of
 from binlogfeed.logs import beginning as beginning_of
 from binlogfeed.options import is_a_wait
@@ -30,6 +30,8 @@ Path = Union[str, "os.PathLike[str]"]
 Converter = Callable[[Any], Any]
 # What a reader gives.
 Given = TypeVar("Given", bound=Event)
+# A change of a row, as its line has it, or a statement by itself.
+Found = Union[Parts, QueryEvent]
 # A log's first event stands there, so a place there or before it is the log's beginning.
 FIRST_EVENT = 4
 
@@ -252,6 +254,7 @@ class BinLogStreamReader(Generic[Given]):
         """The row events that weren't given yet, grouped by their transactions. One transaction is held in memory.
 
         A transaction is given where all of its events were read. Where the reading ends early inside one, that one isn't.
+        A statement, where QueryEvent is asked for, is a transaction without row events that has it as `statement`.
         """
         for transaction in self._whole():
             if transaction is None:
@@ -273,7 +276,8 @@ class BinLogStreamReader(Generic[Given]):
                 if transaction is not None:
                     due = due if batch else time.monotonic() + seconds
                     batch.append(transaction)
-                    count += sum(len(event.rows) for event in transaction)
+                    # A statement counts as a row.
+                    count += sum(len(event.rows) for event in transaction) or 1
                     if count < rows and time.monotonic() < due:
                         continue
                 if batch:
@@ -318,6 +322,8 @@ class BinLogStreamReader(Generic[Given]):
                     events = []
                 if isinstance(event, RowsEvent):
                     events.append(event)
+                elif isinstance(event, QueryEvent):
+                    yield Transaction([], event)
                 elif event is None:
                     yield None
         except (LogFault, ColumnsMismatch) as error:
@@ -409,9 +415,10 @@ class BinLogStreamReader(Generic[Given]):
                 warnings.warn(f"binlogfeed: no log matches {self._files} yet", stacklevel=6)
             watch.wait(self._interval, self._closing)
 
-    def _changes(self, blocks: Iterator[Optional[bytes]]) -> Iterator[Optional[Parts]]:
+    def _changes(self, blocks: Iterator[Optional[bytes]]) -> Iterator[Optional[Found]]:
         """The changes of lines, but for those outside of the places and times that are asked for."""
-        taken_apart, skip_to, end = self._taken_apart, self._skip_to, self._end
+        taken_apart: Callable[[bytes], Found] = self._found if QueryEvent in self._asked else self._taken_apart
+        skip_to, end = self._skip_to, self._end
         for block in blocks:
             if block is None:
                 yield None
@@ -419,7 +426,7 @@ class BinLogStreamReader(Generic[Given]):
             for line in block.split(b"\n")[:-1]:
                 change = taken_apart(line)
                 if end is not None or skip_to is not None:
-                    timestamp, token = change[3], change[5]
+                    timestamp, token = (change[3], change[5]) if isinstance(change, tuple) else (change.timestamp, change.token)
                     if end is not None and token_parts(token).position >= end:
                         self.is_past_end_log_pos = True
                         return
@@ -427,23 +434,29 @@ class BinLogStreamReader(Generic[Given]):
                         continue
                 yield change
 
-    def _one_by_one(self, changes: Iterator[Optional[Parts]]) -> Iterator[Optional[RowsEvent]]:
+    def _found(self, line: bytes) -> Found:
+        """The change of a line, which may be one of a statement."""
+        return QueryEvent(said_by(line)) if line.startswith(OF_STATEMENT) else self._taken_apart(line)
+
+    def _one_by_one(self, changes: Iterator[Optional[Found]]) -> Iterator[Optional[Event]]:
         """An event for each change."""
         for change in changes:
-            yield None if change is None else ROWS_EVENTS[change[0].kind](change)
+            yield ROWS_EVENTS[change[0].kind](change) if isinstance(change, tuple) else change
 
-    def _joined(self, changes: Iterator[Optional[Parts]]) -> Iterator[Optional[RowsEvent]]:
+    def _joined(self, changes: Iterator[Optional[Found]]) -> Iterator[Optional[Event]]:
         """An event for changes that stand together."""
         event: Optional[RowsEvent] = None
         try:
             for change in changes:
                 if event is not None:
-                    if change is not None and event.takes(change):
+                    if isinstance(change, tuple) and event.takes(change):
                         continue
                     yield event
-                event = None if change is None else ROWS_EVENTS[change[0].kind](change)
-                if event is None:
-                    yield None
+                    event = None
+                if isinstance(change, tuple):
+                    event = ROWS_EVENTS[change[0].kind](change)
+                else:
+                    yield change
         except BinlogfeedError:
             # The changes before it were read.
             if event is not None:
@@ -452,17 +465,20 @@ class BinLogStreamReader(Generic[Given]):
         if event is not None and not self._closed:
             yield event
 
-    def _chosen(self, rows: Iterator[Optional[RowsEvent]]) -> Iterator[Optional[Event]]:
-        """The events of the classes that are asked for, beginnings and ends of transactions and files among them."""
-        last: Optional[RowsEvent] = None
+    def _chosen(self, events: Iterator[Optional[Event]]) -> Iterator[Optional[Event]]:
+        """The events of the classes that are asked for, beginnings and ends of transactions and files of rows among them.
+
+        Nothing comes before a statement: no token is before it but that of what stands before it.
+        """
+        last: Optional[Event] = None
         file: Optional[str] = None
         try:
-            for event in rows:
+            for event in events:
                 if last is not None and (event is None or not are_of_one_transaction(last.token, event.token)):
                     yield from self._if_asked(XidEvent(last.timestamp, last.gtid, last.token, last.committed))
                     last = None
-                if event is None:
-                    yield None
+                if event is None or isinstance(event, QueryEvent):
+                    yield event
                     continue
                 place = beginning(event.token)
                 if token_parts(place).file != file:

@@ -118,6 +118,12 @@ def plain(value: Any) -> Any:
     return value
 
 
+def to_bytes(value: Any) -> bytes:
+    """The bytes of a text that a line has as a string, or in base64 where they aren't UTF-8."""
+    raw: bytes = value.encode() if isinstance(value, str) else plain(value)
+    return raw
+
+
 def _none(_value: Any) -> None:
     """What python-mysql-replication gives for a date that Python has none for."""
     return None

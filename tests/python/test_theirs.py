@@ -16,6 +16,7 @@ from binlogfeed import (
     DeleteRowsEvent,
     GtidEvent,
     LogFault,
+    QueryEvent,
     RotateEvent,
     RowsEvent,
     TokenRefused,
@@ -46,7 +47,7 @@ def reader(files, **options):
 
 
 class Programs(unittest.TestCase):
-    """A search index, an audit trail and a warehouse."""
+    """A search index, an audit trail, a warehouse, and a list of tables."""
 
     def test_search_index(self):
         came = run_theirs("search_index.py", "connection_settings=MYSQL_SETTINGS, server_id=3,", f"[{SHOP_FILES}], program={PROGRAM!r},")
@@ -104,6 +105,13 @@ file binlog.000002
         ):
             came = run_theirs("warehouse.py", "connection_settings=SOURCE, server_id=7,", ours, file, position)
             self.assertEqual(came, wanted)
+
+
+    def test_schema_log(self):
+        came = run_theirs("schema_log.py", "connection_settings=SETTINGS, server_id=5,", f"[{SHOP_FILES}], program={PROGRAM!r},")
+        made = ("DATABASE shop", "TABLE customer", "TABLE product", "TABLE purchase", "TABLE line")
+        wanted = "".join(f"binlog.000001 1795332186 shop CREATE {one}\n" for one in made)
+        self.assertEqual(came, wanted + "{'customer': 3, 'product': 3, 'purchase': 2, 'line': 3}\n")
 
 
 class Events(FolderTest):
@@ -282,8 +290,8 @@ class NotHere(unittest.TestCase):
             BinLogStreamReader()
 
     def test_imports(self):
-        with self.assertRaisesRegex(ImportError, "QueryEvent: statements"):
-            from binlogfeed.event import QueryEvent  # noqa: F401
+        with self.assertRaisesRegex(ImportError, "HeartbeatLogEvent: no server"):
+            from binlogfeed.event import HeartbeatLogEvent  # noqa: F401
         with self.assertRaisesRegex(ImportError, "TableMapEvent: .*columns"):
             from binlogfeed.row_event import TableMapEvent  # noqa: F401
         with self.assertRaises(ImportError):
@@ -291,4 +299,5 @@ class NotHere(unittest.TestCase):
         from binlogfeed import event, row_event
 
         self.assertIs(event.XidEvent, XidEvent)
+        self.assertIs(event.QueryEvent, QueryEvent)
         self.assertIs(row_event.WriteRowsEvent, WriteRowsEvent)

@@ -12,7 +12,7 @@ GOOD = """
 from pathlib import Path
 
 from binlogfeed import JSON_NULL, BinLogStreamReader, ColumnsMismatch, DeleteRowsEvent, Event, GtidEvent, RowsEvent
-from binlogfeed import UpdateRowsEvent, WriteRowsEvent
+from binlogfeed import QueryEvent, UpdateRowsEvent, WriteRowsEvent
 
 
 def names(path: str) -> None:
@@ -38,6 +38,10 @@ def loops(path: str) -> None:
     both: BinLogStreamReader[Event] = BinLogStreamReader(path, only_events=[RowsEvent, GtidEvent])
     for one in both:
         print(one.rows if isinstance(one, RowsEvent) else one.gtid)
+    for said in BinLogStreamReader(path, only_events=[QueryEvent]):
+        print(said.query.upper(), said.schema.decode(), said.gtid)
+    for transaction in both.transactions():
+        print(transaction.statement.query if transaction.statement else [change.table for change in transaction])
     for kept in BinLogStreamReader(path, keep_lines=True):
         print(kept.lines, [record["op"] for record in kept.to_debezium("shop")])
     last = BinLogStreamReader(path).fetchone()
