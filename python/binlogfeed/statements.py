@@ -1,4 +1,4 @@
-"""Statements that logs have as text, and what they do to tables: no line of the program tells of these."""
+"""Statements that logs have as text, also within transactions, of which no line of the program tells; and what they do to tables."""
 from __future__ import annotations
 
 import os
@@ -39,6 +39,7 @@ PAIR = re.compile(rf"{TABLE}\s+TO\s+{TABLE}", re.IGNORECASE)
 NEW_NAME = re.compile(rf"\bRENAME\s+(?:TO\b|AS\b|=)?\s*(?!(?:COLUMN|INDEX|KEY)\b){TABLE}", re.IGNORECASE)
 EXCHANGED = re.compile(rf"\bEXCHANGE\s+PARTITION\s+{NAME}\s+WITH\s+TABLE\b\s*{TABLE}", re.IGNORECASE)
 KEYS_ALONE = re.compile(r"\s*(?:DISABLE|ENABLE)\s+KEYS\s*;?\s*\Z", re.IGNORECASE)
+FIRST_WORD = re.compile(r"\w+")
 OF_SCHEMA = re.compile(rf"DROP\s+(?:DATABASE|SCHEMA)\b(?:\s+IF\s+EXISTS\b)?\s*(?P<schema>{NAME})", re.IGNORECASE)
 # What changes rows, where the server didn't write these.
 OF_ROWS = re.compile(r"(?:INSERT|UPDATE|DELETE|REPLACE|LOAD\s+DATA|WITH)\b", re.IGNORECASE)
@@ -107,7 +108,7 @@ class Statement(NamedTuple):
         """What it does to the rows or columns of these tables; None where that is nothing."""
         if self.text == "BEGIN":
             return None
-        text = NO_WORDS.sub(lambda found: found[1] or " ", self.text).strip()
+        text = without_comments(self.text)
         if found := OF_TABLE.match(text):
             what = found["what"].split()[0].upper()
             tables = self._tables(found["tables"])
@@ -143,6 +144,17 @@ class Statement(NamedTuple):
     def _table(self, first: str, second: str | None) -> tuple[str, str]:
         """A table by its name, or by its schema's and its own, with its schema."""
         return (plain(first), plain(second)) if second else (self.schema, plain(first))
+
+
+def without_comments(text: str) -> str:
+    """A statement's text without comments and texts, so that it begins with its first word."""
+    return NO_WORDS.sub(lambda found: found[1] or " ", text).strip()
+
+
+def first_word(text: str) -> str:
+    """The first word of a statement in capital letters; nothing where it has none."""
+    found = FIRST_WORD.search(without_comments(text[:MOST_READ]))
+    return found[0].upper() if found else ""
 
 
 def effect_on(what: str, tables: Sequence[tuple[str, str]], wanted: Wanted) -> Effect | None:

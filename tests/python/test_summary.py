@@ -152,7 +152,7 @@ def plain(found):
     """What is counted, in one value that can be compared."""
     changes, units = found.changes, found.units
     return (
-        changes.tables(), changes.first, changes.last, changes.times.periods(60),
+        changes.tables(), changes.statements(), changes.first, changes.last, changes.times.periods(60),
         changes.sizes.classes, changes.sizes.largest,
         units.endings, units.sizes.classes, units.sizes.largest, units.without_gtid,
         {source: (numbers.first, numbers.last, numbers.gaps()) for source, numbers in units.gtids.items()},

@@ -1,7 +1,8 @@
 """Counts of changes, from the lines of `read`.
 
-No line is read as JSON here. Its tail has a fixed form, and no text within JSON has a bare quote. So a pattern that
-goes on to the line's end finds the tail and nothing else, whatever names and values a row has.
+No line of a row is read as JSON here. Its tail has a fixed form, and no text within JSON has a bare quote. So a pattern that
+goes on to the line's end finds the tail and nothing else, whatever names and values a row has. Lines of statements, of which
+there are few, are taken out of the others before.
 """
 from __future__ import annotations
 
@@ -11,6 +12,8 @@ from collections import Counter
 from typing import NamedTuple, Optional
 
 from binlogfeed.faults import ProgramFailed
+from binlogfeed.lines import OF_STATEMENT, last_members, said_by
+from binlogfeed.statements import first_word
 from binlogfeed.summary.sizes import Sizes
 from binlogfeed.summary.times import Times
 
@@ -29,6 +32,8 @@ TOKEN = rb'"token":"((\d+)\.\d+@(%s))"\}\n' % TEXT
 LINE = re.compile(
     rb'"gtid":(?:null|"([^"]*)"),"kind":"[a-z]+","schema":"%s","table":"%s","timestamp":(\d+),%s' % (TEXT, TEXT, TOKEN)
 )
+# The lines of statements.
+STATEMENTS = re.compile(rb"^%s[^\n]*\n" % re.escape(OF_STATEMENT), re.MULTILINE)
 
 
 class Change(NamedTuple):
@@ -81,13 +86,22 @@ class Block(NamedTuple):
     names: dict[bytes, int]
     times: dict[int, int]
     stretches: list[Stretch]
+    # How many statements begin with which word.
+    words: dict[str, int]
+    # The token of the last line.
+    token: str
 
 
 def counted_block(lines: bytes, least: int) -> Block:
     """Counts lines. It tells more of transactions that have more changes than `least`."""
     names: Counter[bytes] = Counter()
     times: Counter[int] = Counter()
-    stretches = []
+    words: Counter[str] = Counter()
+    stretches, token = [], last_token(lines)
+    if lines.startswith(OF_STATEMENT) or b"\n" + OF_STATEMENT in lines:
+        texts = (said_by(line).text.decode("utf-8", "replace") for line in STATEMENTS.findall(lines))
+        words.update(map(first_word, texts))
+        lines = STATEMENTS.sub(b"", lines)
     start, end = 0, len(lines)
     while start < end:
         first, last, stop = first_line(lines, start, end), last_line(lines, start, end), end
@@ -101,7 +115,7 @@ def counted_block(lines: bytes, least: int) -> Block:
             times[int(second)] += count
         stretches.append(_stretch(lines, start, stop, first, last, positions, least))
         start = stop
-    return Block(dict(names), dict(times), stretches)
+    return Block(dict(names), dict(times), stretches, dict(words), token)
 
 
 def _stretch(
@@ -130,6 +144,10 @@ class Changes:
         self.times = Times()
         # By the changes in each transaction, with the last of them.
         self.sizes: Sizes[Change] = Sizes()
+        # How many statements by themselves begin with which word.
+        self.words: Counter[str] = Counter()
+        # The token of the last line, be it of a row or of a statement.
+        self.token: Optional[str] = None
         self._names: Counter[bytes] = Counter()
         # The last transaction so far, which may go on: its last line, and its changes.
         self._open: Optional[tuple[Line, int]] = None
@@ -139,6 +157,8 @@ class Changes:
         for names, count in block.names.items():
             self._names[names] += count
         self.times.add(block.times)
+        self.words.update(block.words)
+        self.token = block.token
         for stretch in block.stretches:
             self.first = self.first or stretch.first.change
             self.last = stretch.last.change
@@ -167,6 +187,10 @@ class Changes:
             self.sizes.count({count: 1})
             self.sizes.offer(count, line.change)
             self._open = None
+
+    def statements(self) -> list[tuple[str, int]]:
+        """The first words of statements, with how many there are. That of the most is the first."""
+        return sorted(self.words.items(), key=lambda item: (-item[1], item[0]))
 
     @property
     def total(self) -> int:
@@ -221,6 +245,15 @@ def start_of(lines: bytes, start: int, end: int, number: int) -> int:
     for _ in range(number - 1):
         start = lines.find(b"\n", start, end) + 1
     return start
+
+
+def last_token(lines: bytes) -> str:
+    """The token of the last of these lines."""
+    try:
+        token: str = last_members(lines)["token"]
+    except (ValueError, LookupError) as error:
+        raise not_a_line() from error
+    return token
 
 
 def last_line_at(lines: bytes, position: bytes, start: int, end: int) -> Line:

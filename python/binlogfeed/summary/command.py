@@ -14,7 +14,8 @@ from binlogfeed.summary.reading import logs_of, summed_up
 from binlogfeed.summary.text import EIGHTHS, as_text
 
 HELP = """LOGS are log files, or a server's index file (binlog.index), the folder that has one, or a pattern in quotes
-('/copies/binlog.*'). The filters choose changes; bytes, endings and GTIDs are those of all transactions.
+('/copies/binlog.*'). The filters choose changes; bytes, endings and GTIDs are those of all transactions. Lists of
+tables and schemas leave no statement out.
 
 Exit status: that of `binlogfeed read`. A fault ends the reading, and what stands before it is summed up. 4 also where
 FILE can't be written, 6 where a log is missing between two, and 70 where the program can't be started."""
@@ -24,7 +25,7 @@ USUAL_WIDTH, LEAST_WIDTH = 80, 40
 
 def add_summary(commands: Any) -> None:
     """Gives the command line the command."""
-    about = "says what happened in logs: changes by table and time, transactions by size, gaps in GTIDs"
+    about = "says what happened in logs: changes by table and time, statements, transactions by size, gaps in GTIDs"
     parser = add_command(commands, "summary", about, HELP)
     parser.add_argument("logs", metavar="LOGS", nargs="+", help="the logs, or where they are")
     parser.add_argument("--html", metavar="FILE", type=Path, help="write it as a page with pictures, too")

@@ -17,9 +17,11 @@ from binlogfeed.summary.told import (
     GAPS,
     KINDS,
     MOST_PERIODS,
+    STATEMENTS,
     Large,
     byte_sizes,
     change_sizes,
+    first_words,
     largest_by_bytes,
     largest_by_changes,
     logs_text,
@@ -40,6 +42,7 @@ def as_page(summary: Summary) -> str:
             _overview(summary),
             _times(summary),
             _tables(summary),
+            _statements(summary),
             '<div class="pair">',
             _sizes("Transactions by number of changes", change_sizes(summary)),
             _sizes("Transactions by bytes in the log", byte_sizes(summary)),
@@ -158,6 +161,12 @@ def _tables(summary: Summary) -> str:
 def _kinds_bar(name: str, counts: Sequence[int]) -> Bar:
     """A bar of a table's changes."""
     return Bar(name, [Part(kind, f"{kind}s", count) for kind, count in zip(KINDS, counts)])
+
+
+def _statements(summary: Summary) -> str:
+    """The statements by their first words."""
+    rows = [(_code(word), f"{count:,}") for word, count in first_words(summary)]
+    return _section(STATEMENTS, _table(("First word", "Statements"), rows, (1,))) if rows else ""
 
 
 def _sizes(title: str, sizes: Sequence[tuple[str, int]]) -> str:

@@ -11,7 +11,6 @@ from pathlib import Path
 from typing import Optional
 
 from binlogfeed.faults import BinlogfeedError, FileFault, LogFault, ProgramMissing, WordsRefused, told
-from binlogfeed.filters import rows_alone
 from binlogfeed.logs import check_without_gap, is_log, listed, none_of
 from binlogfeed.program import Run
 from binlogfeed.summary.beside import Beside, Worker
@@ -94,14 +93,15 @@ def logs_of(words: Sequence[str]) -> list[Path]:
 def summed_up(
     logs: Sequence[Path], filters: Sequence[str] = (), program: str = "binlogfeed", profile: str = "server"
 ) -> Summary:
-    """What happened in these logs, as a profile takes them in. Changes are those that pass the filters, transactions and GTIDs are all.
+    """What happened in these logs, as a profile takes them in. Changes and statements are those that pass the filters, transactions
+    and GTIDs are all.
 
     Raises what ended the reading where nothing was read.
     """
-    by, chosen = f"--profile={profile}", rows_alone(filters)
+    by = f"--profile={profile}"
     beside = Beside(lambda: _counted_units(logs, program, by))
     try:
-        changes, fault = _counted_changes(logs, [by, *chosen], program)
+        changes, fault = _counted_changes(logs, [by, *filters], program)
         units, status, line = beside.result()
     finally:
         beside.end()
@@ -110,7 +110,7 @@ def summed_up(
     elif fault is not None and line != fault.line:
         # The other run didn't see it: it looks at no row.
         units, _, _ = _counted_units(logs, program, by, _limit(fault, changes))
-    if fault is not None and not isinstance(fault, LogFault) and not (changes.total or units.endings):
+    if fault is not None and not isinstance(fault, LogFault) and not (changes.token or units.endings):
         raise fault
     size = sum(log.stat().st_size for log in logs if log.exists())
     return Summary(logs, filters, changes, units, size, fault, _begun(logs, units))
@@ -192,9 +192,9 @@ def _limit(fault: BinlogfeedError, changes: Changes) -> Optional[Limit]:
     """What is still counted where a fault ended the reading: what ends before it, or begins with the last change."""
     if isinstance(fault, LogFault):
         return Limit(fault.file, sys.maxsize, fault.position)
-    if changes.last is None:
+    if changes.token is None:
         return None
-    parts = token_parts(changes.last.token)
+    parts = token_parts(changes.token)
     return Limit(parts.file, parts.position + 1, sys.maxsize)
 
 

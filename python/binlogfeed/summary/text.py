@@ -17,9 +17,11 @@ from binlogfeed.summary.told import (
     GAPS,
     KINDS,
     MOST_PERIODS,
+    STATEMENTS,
     Large,
     byte_sizes,
     change_sizes,
+    first_words,
     largest_by_bytes,
     largest_by_changes,
     logs_text,
@@ -43,6 +45,7 @@ def as_text(summary: Summary, width: int) -> str:
         _head(summary, width),
         _changes(summary),
         _tables(summary, width),
+        _statements(summary, width),
         _times(summary, width),
         _sizes("Transactions by number of changes", change_sizes(summary), width),
         _sizes("Transactions by bytes in the log", byte_sizes(summary), width),
@@ -94,6 +97,12 @@ def _tables(summary: Summary, width: int) -> list[str]:
         numbers = [kinds[kind] for kind in KINDS]
         rows.append((readable(f"{table.schema}.{table.name}"), [*numbers, sum(numbers)]))
     return ["Changes by table", *_rows(["Table", "Inserts", "Updates", "Deletes", "All"], rows, width)] if rows else []
+
+
+def _statements(summary: Summary, width: int) -> list[str]:
+    """The statements by their first words."""
+    rows = [(word, [count]) for word, count in first_words(summary)]
+    return [STATEMENTS, *_rows(["First word", "Statements"], rows, width)] if rows else []
 
 
 def _times(summary: Summary, width: int) -> list[str]:

@@ -26,6 +26,9 @@ GAPS = (
     " of a replica, a transaction that was rolled back, and numbers that a group gives its servers in blocks leave"
     " gaps, too."
 )
+STATEMENTS = "Statements outside of transactions, by first word"
+# Stands for the first word of a statement that has none.
+NO_WORD = "-"
 FAULT = "What stands at this place and behind it isn't counted."
 # The text and the page tell times by the same step, which makes so many periods at most.
 MOST_PERIODS = 30
@@ -57,6 +60,11 @@ def logs_text(summary: Summary) -> str:
 def size_text(summary: Summary) -> str:
     """How much that is."""
     return f"{counted(len(summary.logs), 'log')}, {counted(summary.size, 'byte')}"
+
+
+def first_words(summary: Summary) -> list[tuple[str, int]]:
+    """How many statements begin with which word."""
+    return [(readable(word) or NO_WORD, count) for word, count in summary.changes.statements()]
 
 
 def change_sizes(summary: Summary) -> list[tuple[str, int]]:
