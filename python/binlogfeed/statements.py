@@ -1,4 +1,4 @@
-"""Statements that logs have as text, also within transactions, of which no line of the program tells; and what they do to tables."""
+"""Statements that logs have as text, within transactions, too, where no line of the program tells of them; and what they do to tables."""
 from __future__ import annotations
 
 import os
@@ -177,7 +177,11 @@ def plain(name: str) -> str:
 
 
 class Statements:
-    """The statements of logs that grow, each once."""
+    """The statements of logs that grow, each once.
+
+    The program's lines aren't enough: they have none of those within transactions, and a run that begins where a statement does
+    leaves that one out.
+    """
 
     def __init__(self, file: str | None = None, position: int = 0, is_behind: bool = False) -> None:
         """Those from a position of a file on, or else all. Where they are to stand behind the unit at that position, not its own."""

@@ -1,11 +1,11 @@
-"""Statements in logs that no line tells of: they are found once each, and the replica says which it doesn't carry over."""
+"""Statements in logs, within transactions, too: they are found once each, and the replica says which it doesn't carry over."""
 import zlib
 
 from binlogfeed import FileFault
 from binlogfeed.logs import MAGIC
 from binlogfeed.statements import ALTER, DROP, DROP_DATABASE, RENAME, ROWS, TRUNCATE, Effect, Statement, Statements, Wanted
 from replicas import LOGS, SqliteFiles, ended, rows_wanted
-from support import SHOP, FolderTest
+from support import SHOP, TOP, FolderTest
 
 QUERY, FORMAT, GTID = 2, 15, 33
 # A format event as a server of version 8 writes it, without its checksum: the last byte says that all events have one.
@@ -127,3 +127,13 @@ class Told(FolderTest):
         self.assertEqual(files.rows_of(target), rows_wanted("shop"))
         self.assertEqual(ended(files.new_target("shop"), "shop", "--begin", "now", logs=logs), (0, ""))
         self.assertEqual(ended(files.new_target("shop"), "shop", logs=LOGS["shop"]), (0, ""))
+
+    def test_statements_within_transactions(self):
+        """No line has these. The one behind the log's first row is told, at the place where mysqlbinlog prints it."""
+        files = SqliteFiles()
+        self.addCleanup(files.stop)
+        target = files.made("CREATE TABLE t (id INTEGER PRIMARY KEY, v TEXT, r REAL, ts TEXT); CREATE TABLE l (a INTEGER PRIMARY KEY, b TEXT)")
+        text = "INSERT INTO t (v) VALUES ('as a statement') (binlog.000001, position 4895)"
+        line = f"replica: this has no rows in the log and isn't carried over: {text}\n"
+        self.assertEqual(ended(target, "d", logs=f"{TOP}/tests/statement/binlog.0*"), (0, line))
+        self.assertEqual([row["id"] for row in files.asked(target, "SELECT id FROM t")], [9, 11])
