@@ -40,6 +40,15 @@ def filter_words(given: argparse.Namespace) -> list[str]:
     return [f"--{name}={value}" for name, value in chosen if value is not None]
 
 
+def gives_statements(words: Sequence[str]) -> bool:
+    """Whether words for `read` have it give statements."""
+    said = {}
+    for word, following in zip(words, [*words[1:], ""]):
+        name, is_whole, value = word.partition("=")
+        said[name] = value if is_whole else following
+    return STATEMENT in said[EVENTS].split(",") if EVENTS in said else said.get("--profile") == "server"
+
+
 def by_default_rows(words: Sequence[str]) -> list[str]:
     """Words for `read`, by which changes of rows alone are given where the words don't say which."""
     return [*words] if any(word.partition("=")[0] == EVENTS for word in words) else [*words, ROWS]

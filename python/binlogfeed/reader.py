@@ -377,7 +377,8 @@ class BinLogStreamReader(Generic[Given]):
             if not paths:
                 raise WordsRefused("binlogfeed: no file is given")
             logs = paths[0] if is_place else _with_start([pathlib.Path(path) for path in paths], self._start)
-            watch = Watch(logs, [*self._command, "--follow"], self._start, self._begin, lag=self._lag)
+            is_of_change = self._token_alone is not None
+            watch = Watch(logs, [*self._command, "--follow"], self._start, self._begin, lag=self._lag, is_of_change=is_of_change)
             self._run, blocks = watch, self._watched(watch)
         else:
             resume = [] if self._token_alone is None else [f"--from={self._token_alone}"]
@@ -468,7 +469,7 @@ class BinLogStreamReader(Generic[Given]):
     def _chosen(self, events: Iterator[Optional[Event]]) -> Iterator[Optional[Event]]:
         """The events of the classes that are asked for, beginnings and ends of transactions and files of rows among them.
 
-        Nothing comes before a statement: no token is before it but that of what stands before it.
+        A statement comes by itself: an event in front of it would have its token, and who went on behind that one would miss it.
         """
         last: Optional[Event] = None
         file: Optional[str] = None

@@ -10,11 +10,13 @@ from typing import NamedTuple, Optional, Union
 
 from binlogfeed.begin import FIRST, LOG, NOW, check_is_there, place_of, told_beginning
 from binlogfeed.faults import BinlogfeedError, FileFault, LogFault, LogLost, TokenRefused
+from binlogfeed.filters import gives_statements
 from binlogfeed.lag import Lag
 from binlogfeed.lines import last_members
 from binlogfeed.logs import Log, beginning, is_pattern, listed
 from binlogfeed.place import Place
 from binlogfeed.program import LookingRun, Run
+from binlogfeed.settling import settled
 from binlogfeed.tokens import token_parts
 
 # At a rotation or a purge a server takes its index away, and puts another in its place some milliseconds later. For so many
@@ -57,22 +59,27 @@ class Watch:
         begin: str = FIRST,
         kept_in: str = "",
         lag: float = 0.0,
+        is_of_change: bool = False,
     ) -> None:
         """A watch of logs from a place on. The command, `read --follow` with its options, is run with the first look.
 
         Where the place is none, `begin` says where that is (binlogfeed.begin). `kept_in` tells people where the place was kept.
         No line is given earlier than `lag` seconds behind the moment at which the last byte of its transaction was seen.
+        `is_of_change` says that the place's token is that of a change, though the place hasn't the log's beginning.
         """
         self._logs = logs
         self._command = list(command)
         self._begin, self._kept_in = begin, kept_in
         self._is_kept = place.file is not None
         self._place = place
+        # Whether the place may be in front of a statement that is still to be given: nothing was read up to it.
+        self._gives_statements = gives_statements([os.fspath(word) for word in command])
+        self._is_unsettled = self._gives_statements and place.begins is None and not is_of_change
         # Whether the logs' end was looked for, and whether it was said where the watch begins.
         self._skipped = self._is_kept or begin != NOW
         self.begun = False
         self._run: Optional[LookingRun] = None
-        # The run that looks for the logs' end.
+        # The run that looks for the logs' end, or for the last change before the place.
         self._skipping: Optional[Run] = None
         self._closed = False
         self._lag = Lag(lag)
@@ -189,12 +196,27 @@ class Watch:
     def skip(self) -> None:
         """Passes over what is whole in the logs by now: the looks give what comes later alone."""
         for last in self._found(only_last=True):
-            profile = [word for word in self._command if os.fspath(word).startswith("--profile=")]
-            self._skipping = Run([self._command[0], "transactions", *profile, "--", last.path])
-            if self._closed:  # by another thread, which saw no run yet
-                self._skipping.end()
-            end = _last_end(self._skipping.blocks())
+            end = _last_end(self._blocks("transactions", "--", last.path))
             self._place = Place(last.name, last.begins, None if end is None else f"{end}.0@{last.name}")
+            if self._gives_statements:
+                self._settle(last)
+
+    def _settle(self, log: Log) -> None:
+        """Has a statement that begins at the place, which is one of this log, stand behind it."""
+        place = settled(self._place, log.path, self._seen[log.path].mark.size, self._blocks)
+        if not self._closed:
+            self._place, self._is_unsettled = place, False
+
+    def _blocks(self, word: str, *more: str | os.PathLike[str]) -> Generator[bytes, None, None]:
+        """What another run of the program writes, by the same profile."""
+        profile = [one for one in self._command if os.fspath(one).startswith("--profile=")]
+        self._skipping = run = Run([self._command[0], word, *profile, *more])
+        if self._closed:  # by another thread, which saw no run yet
+            run.end()
+        try:
+            yield from run.blocks()
+        finally:
+            run.end()
 
     def _look(self, logs: list[Log], began: float) -> Iterator[bytes]:
         """The lines that are new in these logs, where one of them has changed. The look began at that moment."""
@@ -227,6 +249,8 @@ class Watch:
         """What the run answers to these logs. A new run begins behind the place. Answers whether the look came to its end."""
         paths, told = [log.path for log in logs], [log.path for log in self._told]
         if self._run is None:
+            if self._is_unsettled:
+                self._settle(logs[0])
             resume = [f"--from={self.place.resume}"] if self.place.resume else []
             self._run, told = LookingRun([*self._command, *resume]), []
             if self._closed:  # by another thread, which saw no run yet

@@ -186,9 +186,6 @@ class Going(FolderTest):
                     self.assertEqual(events.place.token, token)
                     kept = events.place.to_text()
                 self.assertEqual(tokens(resume=kept, together=together), every[count:])
-                position = int(token.partition(".")[0])
-                if token.startswith(f"{position}.0@"):
-                    self.assertEqual(tokens(resume_stream=True, log_file=LOG.name, log_pos=position, together=together), every[count:])
 
     def test_tokens_of_others(self) -> None:
         """Behind the token of whatever stands before a statement, it comes."""
