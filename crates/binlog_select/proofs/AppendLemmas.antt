@@ -4,7 +4,9 @@ use Rattle.std.proofs.lemmas.Bool.{ne_eqb}
 use Rattle.std.proofs.lemmas.Bool.Decides.{nat_tests}
 use Rattle.std.proofs.lemmas.List.{append-nil, at_drop_all, at_drop_more}
 use Rattle.binlog_select.specs.declared.interval.Interval.{Interval}
-use Rattle.binlog_select.specs.SetForm.{interval_text, next_text, next_texts, source_text}
+use Rattle.binlog_select.specs.SetForm.{interval_text, next_source, next_text, next_texts, source_text, tag_text}
+use Rattle.binlog_select.specs.Tags.{rank, tag_bytes}
+use Rattle.binlog_select.specs.declared.source.Source.{Source}
 use Rattle.binlog_select.specs.SetText.{colon, comma, hyphen}
 use Rattle.binlog_select.specs.Text.{BeginsWith}
 use Rattle.binlog_select.specs.Token.{token_text, dot, at_sign}
@@ -64,25 +66,53 @@ more_numbers i text one two three four differ first second third fourth =
     (two_pieces text (colon ∷ []) (decimal i.first) one two first second) (two_pieces two (hyphen ∷ []) (decimal i.last) three four third fourth)
     ∙ ap (λ b. text ++ colon ∷ cond b (decimal i.first) (decimal i.first ++ hyphen ∷ decimal i.last)) (sym (ne_eqb i.first i.last differ))
 
--- an interval behind one of the same source, and of another one
-pub next_same : (source : ℕ) (i : Interval) (text here more : List ℕ) → i.source ≡ source → here ≡ text → more ≡ here ++ colon ∷ interval_text i → more ≡ text ++ next_text source i
-next_same source i text here more same is appends =
-    appends ∙ ap (λ t. t ++ colon ∷ interval_text i) is
-    ∙ ap (λ b. text ++ (cond b [] (comma ∷ source_text i.source) ++ colon ∷ interval_text i)) (sym (eqb-same i.source source same))
+-- a source's tag: none, or a colon and its two numbers' bytes
+pub tag_none : (source : Source) → source.high ≡ 0 → tag_text source ≡ []
+tag_none source none = ap (λ b. cond b [] (colon ∷ tag_bytes source.high ++ tag_bytes source.low)) (eqb-same source.high 0 none)
 
-pub next_other : (source : ℕ) (i : Interval) (text one two here more : List ℕ) → (i.source ≡ source → ⊥) → one ≡ text ++ (comma ∷ []) → two ≡ one ++ source_text i.source
-    → here ≡ two → more ≡ here ++ colon ∷ interval_text i → more ≡ text ++ next_text source i
-next_other source i text one two here more differ first second is appends =
-    two_pieces text (comma ∷ source_text i.source) (colon ∷ interval_text i) here more
-    (is ∙ two_pieces text (comma ∷ []) (source_text i.source) one two first second) appends
-    ∙ ap (λ b. text ++ (cond b [] (comma ∷ source_text i.source) ++ colon ∷ interval_text i)) (sym (ne_eqb i.source source differ))
+pub tag_some : (source : Source) → (source.high ≡ 0 → ⊥) → tag_text source ≡ colon ∷ tag_bytes source.high ++ tag_bytes source.low
+tag_some source some = ap (λ b. cond b [] (colon ∷ tag_bytes source.high ++ tag_bytes source.low)) (ne_eqb source.high 0 some)
+
+pub tag_written : (source : Source) (text one two three : List ℕ) → (source.high ≡ 0 → ⊥) → one ≡ text ++ (colon ∷ []) → two ≡ one ++ tag_bytes source.high
+    → three ≡ two ++ tag_bytes source.low → three ≡ text ++ tag_text source
+tag_written source text one two three some first second third =
+    two_pieces text (colon ∷ []) (tag_bytes source.high ++ tag_bytes source.low) one three first (two_pieces one (tag_bytes source.high) (tag_bytes source.low) two three second third)
+    ∙ ap (λ t. text ++ t) (sym (tag_some source some))
+
+-- what names a source behind the same one, one of the same server, and another one
+pub source_same : (source next : Source) → rank next ≡ rank source → next_source source next ≡ []
+source_same source next same =
+    ap (λ b. cond b [] (cond (eqb next.server source.server) [] (comma ∷ source_text next.server) ++ tag_text next)) (eqb-same (rank next) (rank source) same)
+
+pub source_tag : (source next : Source) → (rank next ≡ rank source → ⊥) → next.server ≡ source.server → next_source source next ≡ tag_text next
+source_tag source next differ same =
+    ap (λ b. cond b [] (cond (eqb next.server source.server) [] (comma ∷ source_text next.server) ++ tag_text next)) (ne_eqb (rank next) (rank source) differ)
+    ∙ ap (λ b. cond b [] (comma ∷ source_text next.server) ++ tag_text next) (eqb-same next.server source.server same)
+
+pub source_other : (source next : Source) → (rank next ≡ rank source → ⊥) → (next.server ≡ source.server → ⊥)
+    → next_source source next ≡ (comma ∷ source_text next.server) ++ tag_text next
+source_other source next differ other =
+    ap (λ b. cond b [] (cond (eqb next.server source.server) [] (comma ∷ source_text next.server) ++ tag_text next)) (ne_eqb (rank next) (rank source) differ)
+    ∙ ap (λ b. cond b [] (comma ∷ source_text next.server) ++ tag_text next) (ne_eqb next.server source.server other)
+
+pub other_written : (source next : Source) (text one two here more : List ℕ) → (rank next ≡ rank source → ⊥) → (next.server ≡ source.server → ⊥) → one ≡ text ++ (comma ∷ [])
+    → two ≡ one ++ source_text next.server → here ≡ two → more ≡ here ++ tag_text next → more ≡ text ++ next_source source next
+other_written source next text one two here more differ other first second is appends =
+    two_pieces text (comma ∷ source_text next.server) (tag_text next) here more
+    (is ∙ two_pieces text (comma ∷ []) (source_text next.server) one two first second) appends
+    ∙ ap (λ t. text ++ t) (sym (source_other source next differ other))
+
+pub tag_behind : (source next : Source) (text here more : List ℕ) → (rank next ≡ rank source → ⊥) → next.server ≡ source.server → here ≡ text → more ≡ here ++ tag_text next
+    → more ≡ text ++ next_source source next
+tag_behind source next text here more differ same is appends =
+    appends ∙ ap (λ t. t ++ tag_text next) is ∙ ap (λ t. text ++ t) (sym (source_tag source next differ same))
 
 -- the last interval is appended
-pub next_texts-all : (source : ℕ) (rest : List Interval) (at : ℕ) (text whole : List ℕ) → length rest ≤ at → text ++ next_texts source (drop at rest) ≡ whole → text ≡ whole
+pub next_texts-all : (source : Source) (rest : List Interval) (at : ℕ) (text whole : List ℕ) → length rest ≤ at → text ++ next_texts source (drop at rest) ≡ whole → text ≡ whole
 next_texts-all source rest at text whole past is = sym (append-nil text) ∙ ap (λ t. text ++ t) (sym (at_drop_all (next_texts source) rest at past)) ∙ is
 
 -- one interval more is appended
-pub next_texts-more : (source : ℕ) (rest : List Interval) (at : ℕ) (d : Interval) (text more : List ℕ) → at < length rest → more ≡ text ++ next_text source (get_or rest at d)
+pub next_texts-more : (source : Source) (rest : List Interval) (at : ℕ) (d : Interval) (text more : List ℕ) → at < length rest → more ≡ text ++ next_text source (get_or rest at d)
     → more ++ next_texts (get_or rest at d).source (drop (at + 1) rest) ≡ text ++ next_texts source (drop at rest)
 next_texts-more source rest at d text more below appends =
     let left = next_texts (get_or rest at d).source (drop (at + 1) rest) in

@@ -9,7 +9,7 @@ use Rattle.binlog_select.specs.declared.filter.Filter.{Filter}
 use Rattle.binlog_select.specs.declared.interval.Interval.{Interval}
 use Rattle.binlog_select.specs.declared.kind.ChangeKind.{ChangeKind}
 use Rattle.binlog_select.specs.declared.kind.ChangeKind.TheVariants.{Insert, Update, Delete, Statement}
-use Rattle.binlog_select.specs.Gtid.{HasGtid, source_number}
+use Rattle.binlog_select.specs.Gtid.{HasGtid, source_rank}
 use Rattle.binlog_select.specs.Intervals.{Holds, IsMember}
 use Rattle.binlog_select.specs.Filter.{Passes, PassesTable, same_kind, holds, has_gtid, if_given, if_statement, passes, passes_kind, passes_table}
 
@@ -72,7 +72,7 @@ pub passes_decides : (filter : Filter) (kind : ChangeKind) (schema table : List 
 passes_decides filter kind schema table gtid =
     let a = given_decides filter.only_events (λ kinds. list_any (λ one. same_kind one kind) kinds) (λ kinds. Contains kinds kind) (λ kinds. has_kind kinds kind) in
     let f = given_decides filter.auto_position (λ set. if_given gtid (λ g. not (has_gtid set g.0 g.1))) (λ set. IfSome gtid (λ g. ¬ (HasGtid set g.0 g.1)))
-    (λ set. given_decides gtid (λ g. not (has_gtid set g.0 g.1)) (λ g. ¬ (HasGtid set g.0 g.1)) (λ g. Decides-not (has_gtid set g.0 g.1) (is_member (source_number g.0) g.1 set))) in
+    (λ set. given_decides gtid (λ g. not (has_gtid set g.0 g.1)) (λ g. ¬ (HasGtid set g.0 g.1)) (λ g. Decides-not (has_gtid set g.0 g.1) (is_member (source_rank g.0 []) g.1 set))) in
     let all = Decides-and _ _ a (Decides-and _ _ (kind_decides kind filter.statements (passes_table filter schema table) _ _ (is_test filter.statements) (table_decides filter schema table)) f) in (
       λ t. let p = all.0 t in record { only_events = p.0; of_kind = p.1.0; auto_position = p.1.1 },
       λ p. all.1 (p.only_events, (p.of_kind, p.auto_position)),

@@ -1,13 +1,16 @@
 -- Joined intervals: what stands behind an interval, and where a binary search ends.
-use Rattle.std.proofs.Common.{◌≡◌, ℕ, zero, suc, ◌+◌, ◌<◌, ◌≤◌, Bool, true, false, ◌||◌, ◌&&◌, eqb, ltb, List, [], ◌∷◌, length, get_or, inl, inr, refl, arith}
+use Rattle.std.proofs.Common.{◌≡◌, ℕ, zero, suc, ◌+◌, ◌<◌, ◌≤◌, Bool, true, false, List, [], ◌∷◌, ◌++◌, length, get_or, inl, inr, sym, refl, subst, arith}
+use Rattle.std.specs.List.{All}
 use Rattle.std.specs.List.Sorted.{IsPartitionedBy, IsPartitionPoint}
 use Rattle.std.proofs.lemmas.Bool.Decides.{nat_tests}
+use Rattle.std.proofs.lemmas.List.Elements.{All-push}
 use Rattle.binlog_select.specs.declared.interval.Interval.{Interval}
-use Rattle.binlog_select.specs.Intervals.{Holds, IsMember, IsInterval, StandsApart, IsJoined}
+use Rattle.binlog_select.specs.Tags.{rank}
+use Rattle.binlog_select.specs.Intervals.{Holds, lies_before, IsMember, IsInterval, StandsApart, IsJoined}
 
 -- the interval ends, with a gap, before a number
 abbrev pub EndsBefore : Interval → ℕ → ℕ → Type 0
-EndsBefore i source number = (i.source ≤ source) × (i.source ≡ source → i.last + 1 < number)
+EndsBefore i source number = (rank i.source ≤ source) × (rank i.source ≡ source → i.last + 1 < number)
 
 -- what stands apart from a list stands apart from the rest of it
 pub StandsApart-tail : (x y : Interval) (ys : List Interval) → StandsApart x (y ∷ ys) → IsInterval y → StandsApart y ys → StandsApart x ys
@@ -35,22 +38,22 @@ IsMember-get_or (x ∷ xs) zero d source number below holds = inl holds
 IsMember-get_or (x ∷ xs) (suc k) d source number below holds = inr (IsMember-get_or xs k d source number (omega arith) holds)
 
 -- and before each of its intervals
-pub EndsBefore-each : (x : Interval) (xs : List Interval) → StandsApart x xs → IsJoined xs → (k : ℕ) (d : Interval) → k < length xs → EndsBefore x (get_or xs k d).source (get_or xs k d).first
+pub EndsBefore-each : (x : Interval) (xs : List Interval) → StandsApart x xs → IsJoined xs → (k : ℕ) (d : Interval) → k < length xs → EndsBefore x (rank (get_or xs k d).source) (get_or xs k d).first
 EndsBefore-each x xs apart joined k d below =
     let rising = (IsInterval-each xs joined k d below).rising in
     EndsBefore-member x xs _ _ apart joined (IsMember-get_or xs k d _ _ below (refl, omega arith, rising))
 
 -- the interval has passed when a number comes
 abbrev pub has_passed : ℕ → ℕ → Interval → Bool
-has_passed source number i = ltb i.source source || (eqb i.source source && ltb i.last number)
+has_passed source number i = lies_before i source number
 
-pub passed : (i : Interval) (source number : ℕ) → has_passed source number i ≡ true → (i.source ≤ source) × (i.source ≡ source → i.last < number)
+pub passed : (i : Interval) (source number : ℕ) → has_passed source number i ≡ true → (rank i.source ≤ source) × (rank i.source ≡ source → i.last < number)
 passed i source number is = grind (arith, nat_tests)
 
-pub passes : (i : Interval) (source number : ℕ) → i.source ≤ source → (i.source ≡ source → i.last < number) → has_passed source number i ≡ true
+pub passes : (i : Interval) (source number : ℕ) → rank i.source ≤ source → (rank i.source ≡ source → i.last < number) → has_passed source number i ≡ true
 passes i source number low same = grind (arith, nat_tests)
 
-pub to_come : (i : Interval) (source number : ℕ) → has_passed source number i ≡ false → (source ≤ i.source) × (i.source ≡ source → number ≤ i.last)
+pub to_come : (i : Interval) (source number : ℕ) → has_passed source number i ≡ false → (source ≤ rank i.source) × (rank i.source ≡ source → number ≤ i.last)
 to_come i source number is = grind (arith, nat_tests)
 
 -- each interval before one that has passed has passed
@@ -94,10 +97,14 @@ module _ (xs : List Interval) (at source number : ℕ) (joined : IsJoined xs)
   pub none_past : at ≡ length xs → IsMember xs source number → ⊥
   none_past end member = absurd (omega (arith, (there member).0))
 
-  pub member_there : (d : Interval) → at < length xs → (get_or xs at d).source ≡ source → (get_or xs at d).first ≤ number → IsMember xs source number
+  pub member_there : (d : Interval) → at < length xs → rank (get_or xs at d).source ≡ source → (get_or xs at d).first ≤ number → IsMember xs source number
   member_there d below same low =
       let coming = to_come (get_or xs at d) source number (point.1 at d (omega arith) below) in
       IsMember-get_or xs at d source number below (same, low, omega arith)
 
-  pub there_member : (d : Interval) → IsMember xs source number → ((get_or xs at d).source ≡ source) × ((get_or xs at d).first ≤ number)
+  pub there_member : (d : Interval) → IsMember xs source number → (rank (get_or xs at d).source ≡ source) × ((get_or xs at d).first ≤ number)
   there_member d member = let h = (there member).1 d in (h.0, h.1)
+
+-- those of a list to which one was appended
+pub pushed_at : (new old : List Interval) (i : Interval) (k : ℕ) (d : Interval) → k < length new → new ≡ old ++ i ∷ [] → All IsInterval old → IsInterval i → IsInterval (get_or new k d)
+pushed_at new old i k d within appends valid is = subst (All IsInterval) (sym appends) (All-push IsInterval old i valid is) k d within

@@ -9,19 +9,21 @@ use Rattle.std.proofs.lemmas.Bool.Decides.{nat_tests}
 use Rattle.std.proofs.lemmas.List.Elements.{All-head, All-tail}
 use Rattle.std.proofs.lemmas.List.Sorted.{list_any-IsPermutation}
 use Rattle.binlog_select.specs.declared.interval.Interval.{Interval}
+use Rattle.binlog_select.specs.Tags.{IsSource, rank}
 use Rattle.binlog_select.specs.Intervals.{Holds, IsInterval, StandsApart, IsJoined, IsNotAbove, AreRising, SameNumbers}
 use Rattle.binlog_select.specs.Filter.{holds}
 use Rattle.binlog_select.specs.Joining.{touches, united, merged}
 use Rattle.binlog_select.proofs.FilterLemmas.{is_member}
+use Rattle.binlog_select.proofs.RankLemmas.{by_source}
 
-touching : (i next : Interval) → touches i next ≡ true → (i.source ≡ next.source) × (next.first ≤ i.last + 1)
+touching : (i next : Interval) → touches i next ≡ true → (rank i.source ≡ rank next.source) × (next.first ≤ i.last + 1)
 touching i next is = grind (arith, nat_tests)
 
-apart : (i next : Interval) → touches i next ≡ false → i.source ≡ next.source → i.last + 1 < next.first
+apart : (i next : Interval) → touches i next ≡ false → rank i.source ≡ rank next.source → i.last + 1 < next.first
 apart i next is same = grind (arith, nat_tests)
 
 -- what is merged begins where its first interval does
-StandsApart-merged : (x i : Interval) (rest : List Interval) → x.source ≤ i.source → (x.source ≡ i.source → x.last + 1 < i.first) → StandsApart x (merged i rest)
+StandsApart-merged : (x i : Interval) (rest : List Interval) → rank x.source ≤ rank i.source → (rank x.source ≡ rank i.source → x.last + 1 < i.first) → StandsApart x (merged i rest)
 StandsApart-merged x i [] low gap = (low, gap)
 StandsApart-merged x i (next ∷ rest) low gap =
     elim (touches i next) as (λ b. StandsApart x (cond b (merged (united i next) rest) (i ∷ merged next rest))) [
@@ -37,12 +39,12 @@ IsInterval-united i next is also = record {
   small = let a = is.small in let b = also.small in omega arith;
 }
 
-IsNotAbove-united : (i next : Interval) (rest : List Interval) → i.source ≡ next.source → IsNotAbove i (next ∷ rest) → IsNotAbove next rest → IsNotAbove (united i next) rest
+IsNotAbove-united : (i next : Interval) (rest : List Interval) → rank i.source ≡ rank next.source → IsNotAbove i (next ∷ rest) → IsNotAbove next rest → IsNotAbove (united i next) rest
 IsNotAbove-united i next [] same before after = tt
 IsNotAbove-united i next (x ∷ rest) same before after = (omega arith, λ also. omega arith)
 
 -- two intervals that touch hold what they hold as one
-one_holds : (i next : Interval) (source number : ℕ) → (i.source ≡ next.source) × (next.first ≤ i.last + 1) → i.first ≤ next.first → i.first ≤ i.last → next.first ≤ next.last
+one_holds : (i next : Interval) (source number : ℕ) → (rank i.source ≡ rank next.source) × (next.first ≤ i.last + 1) → i.first ≤ next.first → i.first ≤ i.last → next.first ≤ next.last
     → Holds (united i next) source number → Holds i source number ⊎ Holds next source number
 one_holds i next source number touch low rising also holds =
     elim (cases_lt i.last number) [
@@ -50,7 +52,7 @@ one_holds i next source number touch low rising also holds =
       | inr within ↦ inl (omega arith, omega arith, omega arith)
     ]
 
-holds_one : (i next : Interval) (source number : ℕ) → (i.source ≡ next.source) × (next.first ≤ i.last + 1) → i.first ≤ next.first
+holds_one : (i next : Interval) (source number : ℕ) → (rank i.source ≡ rank next.source) × (next.first ≤ i.last + 1) → i.first ≤ next.first
     → Holds i source number ⊎ Holds next source number → Holds (united i next) source number
 holds_one i next source number touch low (inl holds) = (omega arith, omega arith, omega arith)
 holds_one i next source number touch low (inr holds) = (omega arith, omega arith, omega arith)
@@ -111,17 +113,43 @@ Same-trans xs ys zs a b source number =
 
 -- the order of intervals: by source, first and last number
 abbrev pub by_parts : Interval → Interval → Ordering
-by_parts x y = ordering_then (nat_cmp x.source y.source) (ordering_then (nat_cmp x.first y.first) (nat_cmp x.last y.last))
+by_parts x y = ordering_then (by_source x.source y.source) (ordering_then (nat_cmp x.first y.first) (nat_cmp x.last y.last))
 
-not_below : (x y : Interval) → is_lt (by_parts y x) ≡ false → (x.source ≤ y.source) × (x.source ≡ y.source → x.first ≤ y.first)
-not_below x y is = grind (arith, nat_tests)
+-- one part after another
+by_part : (x y : Interval) → is_lt (by_parts y x) ≡ false → (x.source.server ≤ y.source.server)
+    × (x.source.server ≡ y.source.server → (x.source.high ≤ y.source.high)
+    × (x.source.high ≡ y.source.high → (x.source.low ≤ y.source.low) × (x.source.low ≡ y.source.low → x.first ≤ y.first)))
+by_part x y is = (grind (arith, nat_tests), λ servers. (grind (arith, nat_tests), λ highs. (grind (arith, nat_tests), λ lows. grind (arith, nat_tests))))
 
-pub AreRising-sorted : (xs : List Interval) → IsSorted by_parts xs → AreRising xs
-AreRising-sorted [] sorted = tt
-AreRising-sorted (x ∷ []) sorted = (tt, tt)
-AreRising-sorted (x ∷ y ∷ xs) sorted = (
-  not_below x y (sorted 0 x (omega arith) (omega arith)),
-  AreRising-sorted (y ∷ xs) (λ k d low high.
+not_below : (x y : Interval) → IsSource x.source → IsSource y.source → is_lt (by_parts y x) ≡ false
+    → (rank x.source ≤ rank y.source) × (rank x.source ≡ rank y.source → x.first ≤ y.first)
+unfolding rank
+not_below x y x-is y-is is =
+    let order = by_part x y is in
+    let x-high = x-is.high in
+    let x-low = x-is.low in
+    let y-high = y-is.high in
+    let y-low = y-is.low in
+    elim (cases_lt x.source.server y.source.server) as (λ _. (rank x.source ≤ rank y.source) × (rank x.source ≡ rank y.source → x.first ≤ y.first)) [
+      | inl less ↦ (omega arith, λ same. absurd (omega arith))
+      | inr more ↦
+          let servers : x.source.server ≡ y.source.server = omega (arith, order.0) in
+          let rest = order.1 servers in
+          elim (cases_lt x.source.high y.source.high) as (λ _. (rank x.source ≤ rank y.source) × (rank x.source ≡ rank y.source → x.first ≤ y.first)) [
+            | inl less ↦ (omega arith, λ same. absurd (omega arith))
+            | inr also ↦
+                let highs : x.source.high ≡ y.source.high = omega (arith, rest.0) in
+                let last = rest.1 highs in
+                (omega (arith, last.0), λ same. last.1 (omega arith))
+          ]
+    ]
+
+pub AreRising-sorted : (xs : List Interval) → All IsInterval xs → IsSorted by_parts xs → AreRising xs
+AreRising-sorted [] each sorted = tt
+AreRising-sorted (x ∷ []) each sorted = (tt, tt)
+AreRising-sorted (x ∷ y ∷ xs) each sorted = (
+  not_below x y (each 0 x (omega arith)).source (each 1 x (omega arith)).source (sorted 0 x (omega arith) (omega arith)),
+  AreRising-sorted (y ∷ xs) (All-tail IsInterval x (y ∷ xs) each) (λ k d low high.
       let next : suc k + 1 ≡ suc (k + 1) = omega arith in
       subst (λ m. is_lt (by_parts (get_or (x ∷ y ∷ xs) m d) (get_or (y ∷ xs) k d)) ≡ false) next (sorted (suc k) d (omega arith) (omega arith))),
 )

@@ -1,3 +1,4 @@
+pub mod AlikeLemmas
 pub mod AppendLemmas
 pub mod DecimalLemmas
 pub mod FilterLemmas
@@ -5,9 +6,11 @@ pub mod IntervalLemmas
 pub mod JoiningLemmas
 pub mod NamesLemmas
 pub mod PartsLemmas
+pub mod RankLemmas
 pub mod ReadingLemmas
 pub mod SetFormLemmas
 pub mod SetTextLemmas
 pub mod SourceLemmas
+pub mod TagLemmas
 pub mod TokenLemmas
 pub mod UniqueLemmas

@@ -6,23 +6,23 @@ use Rattle.std.proofs.lemmas.Nat.{be_bytes_8}
 use Rattle.std.proofs.lemmas.Bool.{cases_lt}
 use Rattle.std.proofs.Common.{inl, inr}
 
-abbrev AreBytes : List ℕ → Type 0
+abbrev pub AreBytes : List ℕ → Type 0
 AreBytes xs = (i : ℕ) → get_or xs i 0 < 256
 
-below : (bs : List ℕ) → AreBytes bs → from_be_bytes w64 bs < 2 ^ 64
+pub below : (bs : List ℕ) → AreBytes bs → from_be_bytes w64 bs < 2 ^ 64
 below bs small = omega (arith, small 0, small 1, small 2, small 3, small 4, small 5, small 6, small 7)
 
-halves : (xs : List ℕ) → from_be_bytes w128 xs ≡ from_be_bytes w64 (take 8 xs) * 2 ^ 64 + from_be_bytes w64 (drop 8 xs)
+pub halves : (xs : List ℕ) → from_be_bytes w128 xs ≡ from_be_bytes w64 (take 8 xs) * 2 ^ 64 + from_be_bytes w64 (drop 8 xs)
 halves xs = omega (arith, get_or-take {A = ℕ}, get_or-drop {A = ℕ})
 
-front-bytes : (xs : List ℕ) → AreBytes xs → AreBytes (take 8 xs)
+pub front-bytes : (xs : List ℕ) → AreBytes xs → AreBytes (take 8 xs)
 front-bytes xs small i =
     elim (cases_lt i 8) [
       | inl within ↦ omega (arith, get_or-take 8 xs i 0 within, small i)
       | inr past ↦ omega (arith, get_or_past (take 8 xs) i 0 (omega (arith, length-take 8 xs)))
     ]
 
-back-bytes : (xs : List ℕ) → AreBytes xs → AreBytes (drop 8 xs)
+pub back-bytes : (xs : List ℕ) → AreBytes xs → AreBytes (drop 8 xs)
 back-bytes xs small i = omega (arith, get_or-drop 8 xs i 0, small (8 + i))
 
 same_eight : (bs cs : List ℕ) → length bs ≡ 8 → length cs ≡ 8 → AreBytes bs → AreBytes cs → from_be_bytes w64 bs ≡ from_be_bytes w64 cs → bs ≡ cs

@@ -3,7 +3,9 @@ use Rattle.std.specs.Prelude.{◌≡◌, ℕ, List, [], ◌∷◌, ◌++◌, Opt
 use Rattle.std.specs.Global.{Vec}
 use Rattle.binlog_select.specs.declared.interval.Interval.{Interval}
 use Rattle.binlog_select.specs.Parts.{parts}
-use Rattle.binlog_select.specs.SetText.{IsFirstBad, colon, hyphen, interval_of, intervals_of}
+use Rattle.binlog_select.specs.SetText.{IsFirstBad, IsFirstBadBy, colon, interval_in, intervals_of}
+use Rattle.binlog_select.specs.declared.source.Source.{Source}
+use Rattle.binlog_profile.specs.declared.profile.Profile.{Profile}
 use Rattle.binlog_select.specs.declared.set_fault.SetFault.{SetFault}
 use Rattle.binlog_select.specs.declared.set_fault.SetFault.TheVariants.{BadSet, OutOfMemory}
 
@@ -22,13 +24,17 @@ abbrev pub AppendsRead : ℕ → Option (List Interval) → Vec Interval → Vec
 AppendsRead at read old new result = Appends at read old.items new.items result
 
 -- the interval of a source that a text spells, as a list
-abbrev pub interval_in : ℕ → List ℕ → Option (List Interval)
-interval_in source text = option_map (λ i. i ∷ []) (interval_of source (parts hyphen text))
+abbrev pub one_interval : Source → List ℕ → Option (List Interval)
+one_interval source text = option_map (λ i. i ∷ []) (interval_in source text)
 
 -- and those that texts parted by colons spell
-abbrev pub all_intervals : ℕ → List ℕ → Option (List Interval)
-all_intervals source texts = intervals_of source (parts colon texts)
+abbrev pub spelled : Profile → Source → List ℕ → Option (List Interval)
+spelled profile source texts = intervals_of profile source (parts colon texts)
 
--- a set is refused for the first of its elements that has no reading
+-- a set is refused for the first of its elements that has no reading by a profile
+abbrev pub RefusesFirstBadBy : {A : Type 0} → Profile → List (List ℕ) → Result A SetFault → Type 0
+RefusesFirstBadBy profile texts result = (at : ℕ) → result ≡ Err (BadSet at) → IsFirstBadBy profile texts at
+
+-- and by the strict profile
 abbrev pub RefusesFirstBad : {A : Type 0} → List (List ℕ) → Result A SetFault → Type 0
 RefusesFirstBad texts result = (at : ℕ) → result ≡ Err (BadSet at) → IsFirstBad texts at

@@ -10,5 +10,6 @@ pub mod Parts
 pub mod SetForm
 pub mod SetText
 pub mod Spelling
+pub mod Tags
 pub mod Text
 pub mod Token

@@ -5,6 +5,7 @@ ghost use Rattle.binlog_select.specs.Intervals.{IsInterval, IsJoined, SameNumber
 ghost use Rattle.binlog_select.specs.Joining.{touches, united, merged};
 
 use crate::interval::Interval;
+use crate::tag::is_same;
 use std::alloc::{AllocError, Global};
 
 /// The same numbers as intervals with a gap between any two of a source.
@@ -43,7 +44,7 @@ fn merged(alloc: Global, first: Interval, rest: &[Interval]) -> Result<Vec<Inter
 fn touches(current: Interval, next: Interval) -> bool
     ensures { result ≡ touches current next }
 {
-    current.source == next.source && next.first.saturating_sub(1) <= current.last
+    is_same(current.source, next.source) && next.first.saturating_sub(1) <= current.last
 }
 
 /// The two intervals as one.

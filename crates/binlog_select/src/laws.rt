@@ -2,13 +2,25 @@
 
 ghost use Rattle.std.specs.Prelude.{◌≡◌, ◌<◌, ℕ, List, length, slice_index};
 ghost use Rattle.binlog_select.specs.Gtid.{source_number};
+ghost use Rattle.binlog_select.specs.SetText.{ProfilesReadSets};
 ghost use Rattle.binlog_select.specs.Spelling.{SpellsOneToken};
+ghost use Rattle.binlog_select.specs.Tags.{RanksTellApart};
 
 use uuid::Uuid;
 
 /// A text spells at most one token.
 pub fn one_token()
     ensures { (text : List ℕ) → SpellsOneToken text }
+{}
+
+/// A text that names a set by the strict profile names the same one by the server's.
+pub fn profiles_read_sets()
+    ensures { ProfilesReadSets }
+{}
+
+/// The rank by which a source is kept tells its server, and its tag but for capitals.
+pub fn one_tag()
+    ensures { RanksTellApart }
 {}
 
 /// Two UUIDs with one number are one, so that a set's sources can be kept as numbers.

@@ -14,7 +14,9 @@ mod names;
 mod set_fault;
 mod set_form;
 mod set_text;
+mod source;
 mod split;
+mod tag;
 mod token;
 
 pub use decimal::push_number;
@@ -22,7 +24,7 @@ pub use file_name::FileName;
 pub use filter::Filter;
 pub use gtid_set::{GtidSet, one_set_for_each_text, one_written_form, written_form_names_the_set};
 pub use kind::{ChangeKind, Kinds};
-pub use laws::{one_source, one_token};
+pub use laws::{one_source, one_tag, one_token, profiles_read_sets};
 pub use names::Names;
 pub use set_fault::SetFault;
 pub use token::{Token, TokenFault, TokenRef};

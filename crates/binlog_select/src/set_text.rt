@@ -1,15 +1,19 @@
 //! Reading the text of a GTID set.
 
 ghost use Rattle.std.specs.Prelude.{◌≡◌, Some, Err, All, IfSome, IfOk, reverse};
-ghost use Rattle.binlog_select.specs.Appending.{AppendsRead, RefusesFirstBad, interval_in, all_intervals};
+ghost use Rattle.binlog_select.specs.Appending.{AppendsRead, RefusesFirstBadBy, one_interval, spelled};
 ghost use Rattle.binlog_select.specs.Intervals.{IsInterval};
+ghost use Rattle.binlog_select.specs.Tags.{IsSource};
 ghost use Rattle.binlog_select.specs.Parts.{parts};
-ghost use Rattle.binlog_select.specs.SetText.{comma, hyphen, is_blank, trimmed, without_leading_blanks, source_of, gtid_number, interval_of, intervals_in, elements, reading};
+ghost use Rattle.binlog_select.specs.SetText.{comma, is_blank, trimmed, without_leading_blanks, source_of, gtid_number, interval_in, intervals_in, elements, reading};
 
 use crate::decimal::number;
 use crate::interval::Interval;
 use crate::set_fault::SetFault;
+use crate::source::Source;
 use crate::split::split_once;
+use crate::tag::{named, names_tag, untagged};
+use binlog_profile::Profile;
 use std::alloc::Global;
 use uuid::Uuid;
 use uuid::fmt::Hyphenated;
@@ -83,8 +87,9 @@ fn gtid_number(digits: &[u8]) -> Option<u64>
 }
 
 /// The interval of a source that a text spells: `n` or `n-m`.
-fn interval_of(source: u128, text: &[u8]) -> Option<Interval>
-    ensures read { result ≡ interval_of source (parts hyphen text.now) }
+fn interval_of(source: Source, text: &[u8]) -> Option<Interval>
+    requires { IsSource source }
+    ensures read { result ≡ interval_in source text.now }
     ensures valid { IfSome result IsInterval }
 {
     let Some((first, last)) = split_once(text, b'-') else {
@@ -112,14 +117,16 @@ fn interval_of(source: u128, text: &[u8]) -> Option<Interval>
 }
 
 /// Appends the interval that a text spells.
+#[tactic(auto, using(crate::proofs::IntervalLemmas::pushed_at))]
 fn push_interval(
     intervals: &mut Vec<Interval>,
-    source: u128,
+    source: Source,
     text: &[u8],
     at: usize,
 ) -> Result<(), SetFault>
-    requires { All IsInterval intervals.old.items }
-    ensures read { AppendsRead at (interval_in source text.now) intervals.old intervals.new result }
+    requires valid { All IsInterval intervals.old.items }
+    requires source { IsSource source }
+    ensures read { AppendsRead at (one_interval source text.now) intervals.old intervals.new result }
     ensures valid { All IsInterval intervals.new.items }
 {
     let Some(interval) = interval_of(source, text) else {
@@ -129,66 +136,84 @@ fn push_interval(
     Ok(())
 }
 
-/// Appends the intervals that a text spells, parted by colons.
+/// Appends the intervals of an element's parts, which are parted by colons. A tag names the interval
+/// behind it, and all that follow until the next tag.
 fn push_intervals(
     intervals: &mut Vec<Interval>,
-    source: u128,
-    texts: &[u8],
+    profile: Profile,
+    source: Source,
+    text: &[u8],
     at: usize,
 ) -> Result<(), SetFault>
-    requires { All IsInterval intervals.old.items }
-    ensures read { AppendsRead at (all_intervals source texts.now) intervals.old intervals.new result }
+    requires valid { All IsInterval intervals.old.items }
+    requires source { IsSource source }
+    ensures read { AppendsRead at (spelled profile source text.now) intervals.old intervals.new result }
     ensures valid { All IsInterval intervals.new.items }
 {
-    let mut rest = texts;
-    while let Some((text, more)) = split_once(rest, b':') {
-        push_interval(intervals, source, text, at)?;
-        rest = more;
+    let mut source = source;
+    let mut rest = text;
+    while let Some((part, more)) = split_once(rest, b':') {
+        if names_tag(profile, part) {
+            source = named(source.server, part);
+            let Some((next, behind)) = split_once(more, b':') else {
+                return push_interval(intervals, source, more, at);
+            };
+            push_interval(intervals, source, next, at)?;
+            rest = behind;
+        } else {
+            push_interval(intervals, source, part, at)?;
+            rest = more;
+        }
     }
     push_interval(intervals, source, rest, at)
 }
 
-/// Appends the intervals of an element, a source and its intervals, with or without blanks around it.
-fn push_element(intervals: &mut Vec<Interval>, element: &[u8], at: usize) -> Result<(), SetFault>
+/// Appends the intervals of an element, a server and its intervals, with or without blanks around it.
+fn push_element(
+    intervals: &mut Vec<Interval>,
+    profile: Profile,
+    text: &[u8],
+    at: usize,
+) -> Result<(), SetFault>
     requires { All IsInterval intervals.old.items }
-    ensures read { AppendsRead at (intervals_in element.now) intervals.old intervals.new result }
+    ensures read { AppendsRead at (intervals_in profile text.now) intervals.old intervals.new result }
     ensures valid { All IsInterval intervals.new.items }
 {
-    let Some((source, texts)) = split_once(trimmed(element), b':') else {
+    let Some((server, texts)) = split_once(trimmed(text), b':') else {
         return Err(SetFault::BadSet { at });
     };
-    let Some(source) = source_of(source) else {
+    let Some(server) = source_of(server) else {
         return Err(SetFault::BadSet { at });
     };
-    push_intervals(intervals, source, texts, at)
+    push_intervals(intervals, profile, untagged(server), texts, at)
 }
 
 /// The intervals of a set's text, in its order.
-pub(crate) fn read(alloc: Global, text: &[u8]) -> Result<Vec<Interval>, SetFault>
-    ensures read { IfOk result (λ v. reading (elements text.now) ≡ Some v.items) }
+pub(crate) fn read(alloc: Global, profile: Profile, text: &[u8]) -> Result<Vec<Interval>, SetFault>
+    ensures read { IfOk result (λ v. reading profile (elements text.now) ≡ Some v.items) }
     ensures valid { IfOk result (λ v. All IsInterval v.items) }
-    ensures refused { RefusesFirstBad (elements text.now) result }
+    ensures refused { RefusesFirstBadBy profile (elements text.now) result }
 {
     if trimmed(text).is_empty() {
         return Ok(Vec::new(alloc));
     }
-    read_elements(alloc, text)
+    read_elements(alloc, profile, text)
 }
 
 /// The intervals of elements, which are parted by commas.
-fn read_elements(alloc: Global, text: &[u8]) -> Result<Vec<Interval>, SetFault>
-    ensures read { IfOk result (λ v. reading (parts comma text.now) ≡ Some v.items) }
+fn read_elements(alloc: Global, profile: Profile, text: &[u8]) -> Result<Vec<Interval>, SetFault>
+    ensures read { IfOk result (λ v. reading profile (parts comma text.now) ≡ Some v.items) }
     ensures valid { IfOk result (λ v. All IsInterval v.items) }
-    ensures refused { RefusesFirstBad (parts comma text.now) result }
+    ensures refused { RefusesFirstBadBy profile (parts comma text.now) result }
 {
     let mut intervals = Vec::new(alloc);
     let mut rest = text;
     let mut at = 0;
     while let Some((element, more)) = split_once(rest, b',') {
-        push_element(&mut intervals, element, at)?;
+        push_element(&mut intervals, profile, element, at)?;
         rest = more;
         at += 1;
     }
-    push_element(&mut intervals, rest, at)?;
+    push_element(&mut intervals, profile, rest, at)?;
     Ok(intervals)
 }

@@ -12,7 +12,7 @@ returns-in_err-push_next c = record { ok = IfOk-from_err c.from_residual.result 
 
 pub loop-interval-preserved : goal.loop-interval-preserved
 loop-interval-preserved c =
-    let d : Interval = record { source = 0; first = 0; last = 0 } in (
+    let d : Interval = record { source = record { server = 0; high = 0; low = 0 }; first = 0; last = 0 } in (
       next_texts-more c.loop-interval.source c.args.rest.now c.loop-interval.interval-index d _ _ c.loop-interval-test.true c.in_ok-push_next.ensures.ok ∙ c.loop-interval.invariant.0,
       BeginsWith-more _ _ _ _ c.loop-interval.invariant.1 c.in_ok-push_next.ensures.ok,
     )

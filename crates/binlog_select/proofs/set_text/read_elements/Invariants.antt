@@ -7,7 +7,7 @@ use Rattle.binlog_select.proofs.set_text.read_elements.Given as goal
 abbrev pub invariant-loop-element : goal.invariant-loop-element
 invariant-loop-element l =
     (drop l.at (parts comma l.text) ≡ parts comma l.rest)
-    × (reading (take l.at (parts comma l.text)) ≡ Some l.intervals.items)
+    × (reading l.profile (take l.at (parts comma l.text)) ≡ Some l.intervals.items)
     × All IsInterval l.intervals.items
     × (l.at + length l.rest ≤ length l.text)
 

@@ -1,6 +1,6 @@
 use Rattle.std.proofs.Common.{◌++◌, ◌∙◌, ap, string_bytes}
 use Rattle.uuid.specs.Text.{hyphenated_text, lower}
-use Rattle.binlog_select.proofs.set_form.push_source.Goals as goal
+use Rattle.binlog_select.proofs.set_form.push_server.Goals as goal
 
 pub returns-clause-ok : goal.returns-clause-ok
 returns-clause-ok c =
