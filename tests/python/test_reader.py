@@ -193,6 +193,8 @@ class Choice(FolderTest):
             ({"only_schemas": ["SHOP"]}, lambda line: False),
             ({"ignored_schemas": ["shop"]}, lambda line: False),
             ({"auto_position": f"{SERVER}:1-9"}, lambda line: int(line["gtid"].rpartition(":")[2]) > 9),
+            ({"auto_position": f"{SERVER}:1-9:tag_one:1-30"}, lambda line: int(line["gtid"].rpartition(":")[2]) > 9),
+            ({"auto_position": f"{SERVER}:b:1-30"}, lambda line: True),
             ({"only_tables": ["-x", "line"]}, lambda line: line["table"] == "line"),
         ]
         for options, passes in cases:

@@ -6,8 +6,9 @@ use Rattle.std.specs.FinSet as set
 use Rattle.clap.specs.Words.{Row, Text, first_of, found_of, rows_of}
 use Rattle.clap.specs.declared.parser.matches.ArgMatches.{ArgMatches}
 use Rattle.binlog_select.specs.Parts.{parts}
-use Rattle.binlog_select.specs.SetText.{comma, elements, IsSetText, IsFirstBad}
+use Rattle.binlog_select.specs.SetText.{comma, elements, IsSetTextBy, IsFirstBadBy}
 use Rattle.binlog_select.specs.declared.filter.Filter.{Filter}
+use Rattle.binlog_select.specs.declared.interval.Interval.{Interval}
 use Rattle.binlog_select.specs.declared.kind.ChangeKind.{ChangeKind}
 use Rattle.binlog_select.specs.declared.kind.ChangeKind.TheVariants.{Statement}
 use Rattle.binlog_profile.specs.declared.profile.Profile.{Profile}
@@ -66,20 +67,24 @@ IsGiven Reads (Some text) (Some x) = Reads text x
 IsGiven Reads None (Some x) = ⊥
 IsGiven Reads (Some text) None = ⊥
 
+-- the set that a text names by a profile, where one is given
+abbrev pub IsSetGiven : Profile → Option Text → Option (List Interval) → Type 0
+IsSetGiven profile = IsGiven (IsSetTextBy profile)
+
 abbrev pub event_names : List Row → Option Text
 event_names = first_of (codes "only-events")
 
 abbrev pub set_text : List Row → Option Text
 set_text = first_of (codes "auto-position")
 
--- the filter has what the options name, and gives statements where the profile does
+-- the filter has what the options name, and gives statements where the profile does; a set may have tags by the profile
 pub record IsFilterOf (profile : Profile) (rows : List Row) (filter : Filter) : Type 0 where
   pub only_events : IsGiven (NamesKinds profile) (event_names rows) filter.only_events
   pub only_tables : filter.only_tables ≡ option_map names_in (first_of (codes "only-tables") rows)
   pub ignored_tables : filter.ignored_tables ≡ option_map names_in (first_of (codes "ignored-tables") rows)
   pub only_schemas : filter.only_schemas ≡ option_map names_in (first_of (codes "only-schemas") rows)
   pub ignored_schemas : filter.ignored_schemas ≡ option_map names_in (first_of (codes "ignored-schemas") rows)
-  pub auto_position : IsGiven IsSetText (set_text rows) filter.auto_position
+  pub auto_position : IsSetGiven profile (set_text rows) filter.auto_position
   pub statements : filter.statements ≡ gives profile Statement
 
 -- why event names come to nothing; memory may be wanting for any
@@ -94,15 +99,15 @@ IsEventFault profile given (CommandLine said) = ⊥
 IsEventFault profile given (Help error) = ⊥
 
 -- why a set comes to nothing
-abbrev pub IsSetFault : Option Text → WordsFault → Type 0
-IsSetFault given (Set at) = (text : Text) × (given ≡ Some text) × IsFirstBad (elements text) at
-IsSetFault given OutOfMemory = Unit {0}
-IsSetFault given (EventName word) = ⊥
-IsSetFault given Token = ⊥
-IsSetFault given Key = ⊥
-IsSetFault given ProfileName = ⊥
-IsSetFault given (CommandLine said) = ⊥
-IsSetFault given (Help error) = ⊥
+abbrev pub IsSetFault : Profile → Option Text → WordsFault → Type 0
+IsSetFault profile given (Set at) = (text : Text) × (given ≡ Some text) × IsFirstBadBy profile (elements text) at
+IsSetFault profile given OutOfMemory = Unit {0}
+IsSetFault profile given (EventName word) = ⊥
+IsSetFault profile given Token = ⊥
+IsSetFault profile given Key = ⊥
+IsSetFault profile given ProfileName = ⊥
+IsSetFault profile given (CommandLine said) = ⊥
+IsSetFault profile given (Help error) = ⊥
 
 -- the event names have no fault
 abbrev pub HasKinds : Profile → List Row → Type 0
@@ -112,7 +117,7 @@ HasKinds profile rows = (kinds : Option (List ChangeKind)) × IsGiven (NamesKind
 abbrev pub AnswersOptions : Profile → List Row → Result Filter WordsFault → Type 0
 AnswersOptions profile rows (Ok filter) = IsFilterOf profile rows filter
 AnswersOptions profile rows (Err (EventName word)) = IsEventFault profile (event_names rows) (EventName word)
-AnswersOptions profile rows (Err (Set at)) = HasKinds profile rows × IsSetFault (set_text rows) (Set at)
+AnswersOptions profile rows (Err (Set at)) = HasKinds profile rows × IsSetFault profile (set_text rows) (Set at)
 AnswersOptions profile rows (Err OutOfMemory) = Unit {0}
 AnswersOptions profile rows (Err Token) = ⊥
 AnswersOptions profile rows (Err Key) = ⊥

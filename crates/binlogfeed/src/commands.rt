@@ -120,8 +120,8 @@ that isn't whole at the end of its file, are left out.
 Without options each change has a line. With several, a change has one if all of them let
 it pass. A LIST is parted by commas: shop,stock. Names are compared byte for byte, so blanks
 count, and upper and lower case differ. A SET is a GTID set as MySQL writes it: a source
-and its numbers, and further sources behind commas. Write a value that begins with `-` as
---option=value.
+and its numbers, and further sources behind commas; with --profile server tags may stand
+among the numbers. Write a value that begins with `-` as --option=value.
 
 After a stop, --from TOKEN goes on: with the token of the last line that was kept, the
 lines behind it follow, over the same files or over files that continue them. The token's

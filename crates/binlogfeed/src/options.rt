@@ -1,9 +1,8 @@
 //! What the values of options name.
 ghost use Rattle.std.specs.Prelude.{◌≡◌, Some, IfOk, IfErr, option_map};
 ghost use Rattle.clap.specs.Words.{Text, first_of};
-ghost use Rattle.binlog_select.specs.SetText.{IsSetText};
 ghost use Rattle.binlog_select.specs.declared.kind.ChangeKind.TheVariants.{Statement};
-ghost use Rattle.binlogfeed.specs.Options.{rows_given, words_in, names_in, names_listed, NamesKinds, IsGiven, gives, IsKindOf, IsEventFault, IsFirstBadWord, IsSetFault, AnswersOptions};
+ghost use Rattle.binlogfeed.specs.Options.{rows_given, words_in, names_in, names_listed, NamesKinds, IsGiven, IsSetGiven, gives, IsKindOf, IsEventFault, IsFirstBadWord, IsSetFault, AnswersOptions};
 ghost use Rattle.binlogfeed.specs.Words.{texts};
 
 use crate::words_fault::WordsFault;
@@ -21,7 +20,7 @@ pub(crate) fn filter_given(
     ensures { AnswersOptions profile (rows_given matches.now) result }
 {
     let only_events = kinds_given(alloc, profile, text_given(matches, "only-events"))?;
-    let auto_position = set_given(alloc, text_given(matches, "auto-position"))?;
+    let auto_position = set_given(alloc, profile, text_given(matches, "auto-position"))?;
     let tables = lists_given(alloc, matches, "only-tables", "ignored-tables")?;
     let schemas = lists_given(alloc, matches, "only-schemas", "ignored-schemas")?;
     Ok(Filter {
@@ -156,15 +155,19 @@ fn words_of<'a>(alloc: Global, list: &'a str) -> Result<Vec<&'a str>, AllocError
     list.split(',').collect(alloc)
 }
 
-/// The set that a text names.
-fn set_given(alloc: Global, text: Option<&str>) -> Result<Option<GtidSet>, WordsFault>
-    ensures ok { IfOk result (IsGiven IsSetText (option_map (λ text. text.now) text.entry)) }
-    ensures err { IfErr result (IsSetFault (option_map (λ text. text.now) text.entry)) }
+/// The set that a text names by a profile.
+fn set_given(
+    alloc: Global,
+    profile: Profile,
+    text: Option<&str>,
+) -> Result<Option<GtidSet>, WordsFault>
+    ensures ok { IfOk result (IsSetGiven profile (option_map (λ text. text.now) text.entry)) }
+    ensures err { IfErr result (IsSetFault profile (option_map (λ text. text.now) text.entry)) }
 {
     let Some(text) = text else {
         return Ok(None);
     };
-    match GtidSet::parse(alloc, text) {
+    match GtidSet::parse_by(alloc, profile, text) {
         Ok(set) => Ok(Some(set)),
         Err(SetFault::BadSet { at }) => Err(WordsFault::Set(at)),
         Err(SetFault::OutOfMemory) => Err(WordsFault::OutOfMemory),
