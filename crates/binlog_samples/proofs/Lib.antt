@@ -1,4 +1,5 @@
 pub mod OnBytes
+pub mod OnSets
 pub mod OnWords
 pub mod GrownFiles
 pub mod NextLooks

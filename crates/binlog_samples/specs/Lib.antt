@@ -26,6 +26,7 @@ pub mod Growing
 pub mod GoingOn
 pub mod Runs
 pub mod RunsOn
+pub mod Sets
 pub mod Sources
 pub mod SystemFiles
 pub mod Statuses
