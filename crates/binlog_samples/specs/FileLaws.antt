@@ -4,8 +4,9 @@ use Rattle.std.specs.Prelude.{◌≡◌, ◌<◌, ℕ, List, [], ◌∷◌, ◌+
 use Rattle.binlog_select.specs.declared.token.Token.{Token}
 use Rattle.binlog_feed.specs.Changes.{RowChange}
 use Rattle.binlog_feed.specs.Continues.{has_file, in_files}
-use Rattle.binlog_feed.specs.FeedLaws.{ChangesAreFound, ChangesStandAtTheirPlaces, FeedsResume}
+use Rattle.binlog_feed.specs.FeedLaws.{ChangesAreFound, ChangesStandAtTheirPlaces, ListsResume}
 use Rattle.binlog_feed.specs.Feeds.{feed, end_from}
+use Rattle.binlog_feed.specs.Listings.{changes_listed}
 use Rattle.feed_laws.specs.Apart.{FilesAreApart, UnitsAreApart, changes_read_apart, units_read_apart}
 use Rattle.feed_laws.specs.Order.{PlacesRise}
 use Rattle.binlog_units.specs.Parsing.{LogFile}
@@ -75,7 +76,7 @@ RisesInTwo = PlacesRise → (first second : RowChange) → feed two_files every 
 
 -- a file that has grown gives what stands behind the token of each change that it had
 abbrev pub ResumesGrown : Type 0
-ResumesGrown = FeedsResume
+ResumesGrown = ListsResume changes_listed
     → (before after : List RowChange) (member : RowChange) → feed cut_file every ≡ before ++ member ∷ after → has_file grown_file member.file ≡ true
     → (judge grown_file (token_of member) ≡ Fits)
     × (in_files grown_file (before ++ member ∷ []) ++ rest grown_file every (token_of member) ≡ feed grown_file every)
